@@ -1,0 +1,4 @@
+pub mod Ascends
+pub mod Inject
+pub mod Sound
+pub mod Take

@@ -1,0 +1,171 @@
+-- What a member of `runs` begins with: a rule, by which the tokens end or one token is taken.
+-- Assumes nothing.
+use Prim.Native.Nat.{ℕ, zero, suc, _+_}
+use native.Mathlib.Nat.{zero-add, suc-add, add-suc, add-zero}
+use native.Mathlib.Omega.{arith}
+use mathlib.Core.Path.{_≡_, refl, sym, _∙_, ap, subst, subst₂}
+use mathlib.Core.Logic.{_⊎_, inl, inr}
+use mathlib.Core.Bool.{Bool, true, false, _&&_, false≢true}
+use mathlib.Core.List.{List, [], _∷_, _++_, map, List·Memᴰ, List·Memᴰ·head, List·Memᴰ·tail, List·Memᴰ·not-nil, List·Memᴰ·append-cases, List·Memᴰ·eq-of-singleton, Memᴰ·append-left, Memᴰ·append-right, Memᴰ·map, Memᴰ·of-map, Memᴰ·cast}
+use mathlib.Core.Option.{Option, none, some, Option·none-ne-some, Option·some-injective}
+use borrow.Author.Tests.{eqb-true, eq-eqb}
+use lib.Dec.{eqb}
+use lib.ListN.{getElem?}
+use Rattle.vpg.specs.declared.MarkName.{MarkName}
+use Rattle.vpg.specs.declared.OpenName.{OpenName}
+use Rattle.vpg.specs.declared.CloseName.{CloseName}
+use Rattle.vpg.specs.declared.Rule.{Rule}
+use Rattle.vpg.specs.declared.Token.{Token}
+use Rattle.vpg.specs.Grammar.{Rules}
+use Rattle.vpg.specs.Runs.{Stack, State, only, move, ends, collect, once, follow, runs}
+
+-- ── collect ──
+
+-- e is what rule R of number n + r gives, with that number in front
+pub record Hit (k : Rule → List (List ℕ)) (n : ℕ) (g : Rules) (e : List ℕ) : Type 0 where
+  pub number : ℕ
+  pub rule : Rule
+  pub rest : List ℕ
+  pub is : getElem? g number ≡ some rule
+  pub shape : e ≡ (n + number) ∷ rest
+  pub given : List·Memᴰ rest (k rule)
+
+pub hit : (k : Rule → List (List ℕ)) (n : ℕ) (g : Rules) (e : List ℕ) → List·Memᴰ e (collect k n g) → Hit k n g e
+hit k n [] e m = absurd (List·Memᴰ·not-nil m)
+hit k n (R ∷ g) e m = go (hit k (suc n) g e) (List·Memᴰ·append-cases (map (λ e. n ∷ e) (k R)) m)
+  where
+    go : (List·Memᴰ e (collect k (suc n) g) → Hit k (suc n) g e) → List·Memᴰ e (map (λ e. n ∷ e) (k R)) ⊎ List·Memᴰ e (collect k (suc n) g) → Hit k n (R ∷ g) e
+    go below (inl m) =
+        let h = Memᴰ·of-map (λ (e : List ℕ). n ∷ e) (k R) m in
+        record { number = 0; rule = R; rest = h .0; is = refl; shape = sym (h .2) ∙ rw add-zero; given = h .1 }
+    go below (inr m) =
+        let h = below m in
+        record { number = suc (h .number); rule = h .rule; rest = h .rest; is = h .is; shape = h .shape ∙ rw (suc-add, add-suc); given = h .given }
+
+pub unhit : (k : Rule → List (List ℕ)) (n : ℕ) (g : Rules) (r : ℕ) (R : Rule) (e : List ℕ) → getElem? g r ≡ some R → List·Memᴰ e (k R) → List·Memᴰ ((n + r) ∷ e) (collect k n g)
+unhit k n [] r R e p m = absurd (Option·none-ne-some R p)
+unhit k n (R′ ∷ g) zero R e p m =
+    Memᴰ·append-left (collect k (suc n) g) (Memᴰ·cast (rw add-zero) (Memᴰ·map (λ (e : List ℕ). n ∷ e) (subst (λ (X : Rule). List·Memᴰ e (k X)) (sym (Option·some-injective R′ R p)) m)))
+unhit k n (R′ ∷ g) (suc r) R e p m = Memᴰ·append-right (map (λ e. n ∷ e) (k R′)) (Memᴰ·cast (rw (suc-add, add-suc)) (unhit k (suc n) g r R e p m))
+
+-- ── move ──
+
+pub and-left : (a b : Bool) → (a && b) ≡ true → a ≡ true
+and-left true b p = refl
+and-left false b p = p
+
+pub and-right : (a b : Bool) → (a && b) ≡ true → b ≡ true
+and-right true b p = p
+and-right false b p = absurd (false≢true p)
+
+pub name-mark : {x y : MarkName} → x .0 ≡ y .0 → x ≡ y
+name-mark p = λ i. record { 0 = p i }
+
+pub name-open : {x y : OpenName} → x .0 ≡ y .0 → x ≡ y
+name-open p = λ i. record { 0 = p i }
+
+pub name-close : {x y : CloseName} → x .0 ≡ y .0 → x ≡ y
+name-close p = λ i. record { 0 = p i }
+
+-- `move`, as a relation
+pub data Move : Rule → ℕ → Stack → Token → ℕ → Stack → Type 0 where
+  by-empty : {L M : ℕ} {b : CloseName} {s : Stack} → Move (Rule.Empty L) L ((b, M) ∷ s) (Token.Close b) M s
+  by-mark : {L L₁ : ℕ} {c : MarkName} {s : Stack} → Move (Rule.Mark L c L₁) L s (Token.Mark c) L₁ s
+  by-step : {L L₁ L₂ : ℕ} {a : OpenName} {b : CloseName} {s : Stack} → Move (Rule.Step L a L₁ b L₂) L s (Token.Open a) L₁ ((b, L₂) ∷ s)
+
+-- a test that passed
+only-some : (b : Bool) (x y : State) → only b x ≡ some y → (b ≡ true) × (x ≡ y)
+only-some true x y p = (refl, Option·some-injective x y p)
+only-some false x y p = absurd (Option·none-ne-some y p)
+
+pub moved : (R : Rule) (L : ℕ) (s : Stack) (t : Token) (y : State) → move R L s t ≡ some y → Move R L s t (y .0) (y .1)
+moved (Rule.Empty M) L s (Token.Mark c) y p = absurd (Option·none-ne-some y p)
+moved (Rule.Empty M) L s (Token.Open a) y p = absurd (Option·none-ne-some y p)
+moved (Rule.Empty M) L [] (Token.Close b) y p = absurd (Option·none-ne-some y p)
+moved (Rule.Empty M) L (d ∷ s) (Token.Close b) y p =
+    let h = only-some (eqb M L && eqb (d .0 .0) (b .0)) _ y p in
+    let eL = eqb-true M L (and-left _ _ (h .0)) in
+    let en = eqb-true (d .0 .0) (b .0) (and-right (eqb M L) _ (h .0)) in
+    rw (← (h .1), ← eL, ← name-close en) by-empty
+moved (Rule.Mark M c M₁) L s (Token.Mark c′) y p =
+    let h = only-some (eqb M L && eqb (c .0) (c′ .0)) _ y p in
+    let eL = eqb-true M L (and-left _ _ (h .0)) in
+    let en = eqb-true (c .0) (c′ .0) (and-right (eqb M L) _ (h .0)) in
+    rw (← (h .1), ← eL, ← name-mark en) by-mark
+moved (Rule.Mark M c M₁) L s (Token.Open a) y p = absurd (Option·none-ne-some y p)
+moved (Rule.Mark M c M₁) L s (Token.Close b) y p = absurd (Option·none-ne-some y p)
+moved (Rule.Step M a M₁ b M₂) L s (Token.Mark c) y p = absurd (Option·none-ne-some y p)
+moved (Rule.Step M a M₁ b M₂) L s (Token.Open a′) y p =
+    let h = only-some (eqb M L && eqb (a .0) (a′ .0)) _ y p in
+    let eL = eqb-true M L (and-left _ _ (h .0)) in
+    let en = eqb-true (a .0) (a′ .0) (and-right (eqb M L) _ (h .0)) in
+    rw (← (h .1), ← eL, ← name-open en) by-step
+moved (Rule.Step M a M₁ b M₂) L s (Token.Close b′) y p = absurd (Option·none-ne-some y p)
+
+only-true : (a b : Bool) (x : State) → a ≡ true → b ≡ true → only (a && b) x ≡ some x
+only-true a b x p q = rw (p, q)
+
+pub moves : {R : Rule} {L : ℕ} {s : Stack} {t : Token} {L′ : ℕ} {s′ : Stack} → Move R L s t L′ s′ → move R L s t ≡ some (L′, s′)
+moves (by-empty {L} {b}) = only-true _ _ _ (eq-eqb L L refl) (eq-eqb (b .0) (b .0) refl)
+moves (by-mark {L} {c}) = only-true _ _ _ (eq-eqb L L refl) (eq-eqb (c .0) (c .0) refl)
+moves (by-step {L} {a}) = only-true _ _ _ (eq-eqb L L refl) (eq-eqb (a .0) (a .0) refl)
+
+-- ── runs ──
+
+-- the first step of a run over the token t and then w
+pub record Taken (g : Rules) (L : ℕ) (s : Stack) (t : Token) (w : List Token) (e : List ℕ) : Type 0 where
+  pub number : ℕ
+  pub rule : Rule
+  pub nonterminal : ℕ
+  pub due : Stack
+  pub rest : List ℕ
+  pub is : getElem? g number ≡ some rule
+  pub goes : Move rule L s t nonterminal due
+  pub shape : e ≡ number ∷ rest
+  pub run : List·Memᴰ rest (runs g (nonterminal, due) w)
+
+follow-mem : {e : List ℕ} (o : Option State) (k : State → List (List ℕ)) → List·Memᴰ e (follow o k) → (s : State) × (o ≡ some s) × List·Memᴰ e (k s)
+follow-mem none k m = absurd (List·Memᴰ·not-nil m)
+follow-mem (some s) k m = (s, refl, m)
+
+pub taken : (g : Rules) (L : ℕ) (s : Stack) (t : Token) (w : List Token) (e : List ℕ) → List·Memᴰ e (runs g (L, s) (t ∷ w)) → Taken g L s t w e
+unfolding runs
+taken g L s t w e m =
+    let h = hit (λ R. follow (move R L s t) (λ s′. runs g s′ w)) 0 g e m in
+    let f = follow-mem (move (h .rule) L s t) (λ s′. runs g s′ w) (h .given) in
+    record { number = h .number; rule = h .rule; nonterminal = f .0 .0; due = f .0 .1; rest = h .rest; is = h .is; goes = moved (h .rule) L s t (f .0) (f .1); shape = h .shape ∙ rw zero-add; run = f .2 }
+
+pub take : (g : Rules) (w : List Token) {r : ℕ} {R : Rule} {L : ℕ} {s : Stack} {t : Token} {L′ : ℕ} {s′ : Stack} {e : List ℕ} → getElem? g r ≡ some R → Move R L s t L′ s′ → List·Memᴰ e (runs g (L′, s′) w) → List·Memᴰ (r ∷ e) (runs g (L, s) (t ∷ w))
+unfolding runs
+take g w {r} {R} {L} {s} {t} {e} p v m =
+    Memᴰ·cast (rw zero-add) (unhit (λ R. follow (move R L s t) (λ s′. runs g s′ w)) 0 g r R e p (rw (moves v) m))
+
+-- a run over no token
+pub record Ended (g : Rules) (L : ℕ) (s : Stack) (e : List ℕ) : Type 0 where
+  pub number : ℕ
+  pub is : getElem? g number ≡ some (Rule.Empty L)
+  pub done : s ≡ []
+  pub shape : e ≡ number ∷ []
+
+pub ends-true : (R : Rule) (L : ℕ) (s : Stack) → ends R L s ≡ true → (R ≡ Rule.Empty L) × (s ≡ [])
+ends-true (Rule.Empty M) L [] p = (ap Rule.Empty (eqb-true M L p), refl)
+ends-true (Rule.Empty M) L (d ∷ s) p = absurd (false≢true p)
+ends-true (Rule.Mark M c M₁) L s p = absurd (false≢true p)
+ends-true (Rule.Step M a M₁ b M₂) L s p = absurd (false≢true p)
+
+once-mem : {e : List ℕ} (b : Bool) → List·Memᴰ e (once b) → (b ≡ true) × (e ≡ [])
+once-mem true m = (refl, List·Memᴰ·eq-of-singleton m)
+once-mem false m = absurd (List·Memᴰ·not-nil m)
+
+pub ended : (g : Rules) (L : ℕ) (s : Stack) (e : List ℕ) → List·Memᴰ e (runs g (L, s) []) → Ended g L s e
+unfolding runs
+ended g L s e m =
+    let h = hit (λ R. once (ends R L s)) 0 g e m in
+    let f = once-mem (ends (h .rule) L s) (h .given) in
+    let q = ends-true (h .rule) L s (f .0) in
+    record { number = h .number; is = rw (q .0) at (h .is); done = q .1; shape = h .shape ∙ rw (zero-add, f .1) }
+
+pub end : (g : Rules) {r : ℕ} {L : ℕ} → getElem? g r ≡ some (Rule.Empty L) → List·Memᴰ (r ∷ []) (runs g (L, []) [])
+unfolding runs
+end g {r} {L} p =
+    Memᴰ·cast (rw zero-add) (unhit (λ R. once (ends R L [])) 0 g r (Rule.Empty L) [] p (rw (eq-eqb L L refl) (List·Memᴰ·head refl)))

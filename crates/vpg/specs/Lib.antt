@@ -1,0 +1,6 @@
+pub mod Calls
+pub mod Grammar
+pub mod Listing
+pub mod Order
+pub mod Runs
+pub mod Sets

@@ -1,0 +1,54 @@
+-- The set at a position, doubtful positions and stop marks (document 01, "Readings").
+-- Assumes nothing.
+use Prim.Native.Nat.{ℕ, zero, suc, _+_}
+use mathlib.Core.Path.{_≡_}
+use mathlib.Core.Bool.{Bool, true, false, _||_}
+use mathlib.Core.List.{List, [], _∷_}
+use mathlib.Core.Option.{some}
+use lib.Dec.{eqb, ltb}
+use lib.ListN.{getElem?, length, take}
+use Rattle.vpg.specs.declared.Token.{Token}
+use Rattle.vpg.specs.Grammar.{Grammar, Reading}
+use Rattle.vpg.specs.Runs.{entries}
+
+-- "the rules that stand there in at least one reading": rule number r is in the set at position p
+abbrev pub Kept : Grammar → List Token → ℕ → ℕ → Type 0
+Kept g w p r = (e : List ℕ) × Reading g w e × (getElem? e p ≡ some r)
+
+-- the same as a test over the entries (`kept-is`): r stands at p of e
+abbrev pub standsAt : List ℕ → ℕ → ℕ → Bool
+standsAt [] p r = false
+standsAt (x ∷ e) zero r = eqb x r
+standsAt (x ∷ e) (suc p) r = standsAt e p r
+
+abbrev pub standsIn : List (List ℕ) → ℕ → ℕ → Bool
+standsIn [] p r = false
+standsIn (e ∷ l) p r = standsAt e p r || standsIn l p r
+
+unfoldable pub kept : Grammar → List Token → ℕ → ℕ → Bool
+kept g w p r = standsIn (entries g w) p r
+
+abbrev pub one : Bool → ℕ
+one true = 1
+one false = 0
+
+-- how many of the numbers below n pass a test
+unfoldable pub count : ℕ → (ℕ → Bool) → ℕ
+count zero f = 0
+count (suc n) f = one (f n) + count n f
+
+-- "a position is doubtful when its set holds more than one rule"
+unfoldable pub doubtful : Grammar → List Token → ℕ → Bool
+doubtful g w p = ltb 1 (count (length (g .rules)) (kept g w p))
+
+-- document 01, "Services": how many positions are doubtful, of 0 to n
+unfoldable pub doubtfulCount : Grammar → List Token → ℕ
+doubtfulCount g w = count (suc (length w)) (doubtful g w)
+
+abbrev pub marked : List (List ℕ) → ℕ
+marked [] = 0
+marked (e ∷ l) = 1
+
+-- "1 exactly when the first i tokens alone have a reading, else 0"
+unfoldable pub stopMark : Grammar → List Token → ℕ → ℕ
+stopMark g w i = marked (entries g (take i w))

@@ -1,0 +1,22 @@
+// The symbols and rules of a visibly pushdown grammar. Definitions and theorems about them stand in specs/ and proofs/.
+
+// Names of marks, opens and closes: three separate alphabets (document 01, "Tokens, stages, rules").
+pub struct MarkName(pub u16);
+
+pub struct OpenName(pub u16);
+
+pub struct CloseName(pub u16);
+
+// A rule for the nonterminal that comes first: document 01's forms 0, 1 and 2.
+pub enum Rule {
+    Empty(u16),
+    Mark(u16, MarkName, u16),
+    Step(u16, OpenName, u16, CloseName, u16),
+}
+
+// A terminal: document 01's mark, open and close are the plain, call and return symbols of the field.
+pub enum Token {
+    Mark(MarkName),
+    Open(OpenName),
+    Close(CloseName),
+}
