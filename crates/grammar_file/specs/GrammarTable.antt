@@ -1,0 +1,16 @@
+-- What `read_grammar` hands to the layers above: the counts and the table of a grammar file.
+-- Assumes nothing.
+use Prim.Native.Nat.{ℕ}
+use lib.ListN.{length, replicate}
+use Rattle.grammar_file.specs.declared.GrammarAnswer.{GrammarAnswer}
+use Rattle.grammar_file.specs.declared.GrammarAnswer.the-variants.{Accepted, Refused}
+use Rattle.grammar_file.specs.declared.GrammarRead.{GrammarRead}
+use Rattle.grammar_file.specs.GrammarFile.{GrammarFile, accepted, refused}
+use Rattle.tables.specs.Table.{tableOf}
+
+abbrev pub refusedRead : ℕ → GrammarRead
+refusedRead e = record { answer = Refused e; table = replicate 768 0 }
+
+abbrev pub grammarRead : GrammarFile → GrammarRead
+grammarRead (accepted g) = record { answer = Accepted (g .nonterminals) (g .start) (length (g .rules)); table = tableOf (g .rules) }
+grammarRead (refused e) = refusedRead e

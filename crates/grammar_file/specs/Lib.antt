@@ -1,0 +1,2 @@
+pub mod GrammarFile
+pub mod GrammarTable

@@ -1,0 +1,50 @@
+use borrow.Author.Needs.{needs}
+use borrow.Author.Tests.{eq-eqb, ne-eqb}
+use Rattle.rules.specs.Rule.{stepAt, bodyAt, ruleAt}
+use Rattle.rules.proofs.rule_at.Statement.{statement}
+use Rattle.rules.proofs.rule_at.Tie as tie
+use Rattle.rules.proofs.rule_at.Reads as reads
+use Rattle.rules.proofs.rule_at.Lts as lts
+use Rattle.rules.proofs.body_at.Reads as body-at-reads
+use Rattle.rules.proofs.pair_at.Reads as pair-at-reads
+use Rattle.rules.proofs.pair_refusal.Reads as pair-refusal-reads
+
+pair-at-requires : tie.Need-pair-at-requires
+pair-at-requires c κs = search needs
+
+enum-known-read : tie.Need-enum-known-read
+enum-known-read c = search needs
+
+enum-told : tie.Need-enum-told
+enum-told c = search needs
+
+pair-refusal-requires : tie.Need-pair-refusal-requires
+pair-refusal-requires c κs = search needs
+
+returns : tie.Need-returns
+unfolding ruleAt
+returns c = simp (c .pair-refusal .ensures, ← (c .before .before .before .pair-at .ensures), c .before .enum-told .given .1)
+
+body-at-requires : tie.Need-body-at-requires
+body-at-requires c κs = search needs
+
+returns-2 : tie.Need-returns-2
+unfolding ruleAt
+returns-2 c = simp (← (c .before .before .before .before .pair-at .ensures), c .before .before .read .given .1, eq-eqb _ _ (c .if1 .taken))
+
+returns-3 : tie.Need-returns-3
+unfolding ruleAt
+returns-3 c = simp (c .body-at .ensures, ← (c .before .before .before .before .before .pair-at .ensures), c .before .before .before .read .given .1, ne-eqb _ _ (c .before .if1 .left))
+
+pub rule-at-spec : {M : Type 1} → statement M
+rule-at-spec =
+    tie.close
+    (tie.spec
+    pair-at-requires
+    enum-known-read
+    enum-told
+    pair-refusal-requires
+    returns
+    body-at-requires
+    returns-2
+    returns-3)

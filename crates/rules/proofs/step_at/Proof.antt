@@ -1,0 +1,34 @@
+use borrow.Author.Needs.{needs}
+use borrow.Author.Tests.{eq-eqb, ne-eqb}
+use Rattle.rules.specs.Rule.{stepAt, bodyAt, ruleAt}
+use Rattle.rules.proofs.step_at.Statement.{statement}
+use Rattle.rules.proofs.step_at.Tie as tie
+use Rattle.rules.proofs.step_at.Reads as reads
+use Rattle.rules.proofs.step_at.Lts as lts
+use Rattle.rules.proofs.pair_at.Reads as pair-at-reads
+use Rattle.rules.proofs.pair_refusal.Reads as pair-refusal-reads
+
+pair-at-requires : tie.Need-pair-at-requires
+pair-at-requires c κs = search needs
+
+enum-known-read : tie.Need-enum-known-read
+enum-known-read c = search needs
+
+enum-told : tie.Need-enum-told
+enum-told c = search needs
+
+pair-refusal-requires : tie.Need-pair-refusal-requires
+pair-refusal-requires c κs = search needs
+
+returns : tie.Need-returns
+unfolding stepAt
+returns c = simp (c .pair-refusal .ensures, ← (c .before .before .before .pair-at .ensures), c .before .enum-told .given .1)
+
+returns-2 : tie.Need-returns-2
+unfolding stepAt
+returns-2 c = simp (← (c .before .before .before .pair-at .ensures), c .before .read .given .1)
+
+pub step-at-spec : {M : Type 1} → statement M
+step-at-spec =
+    tie.close
+    (tie.spec pair-at-requires enum-known-read enum-told pair-refusal-requires returns returns-2)

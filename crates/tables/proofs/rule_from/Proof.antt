@@ -1,0 +1,17 @@
+use borrow.Author.Tests.{eq-eqb, ne-eqb}
+use Rattle.tables.proofs.rule_from.Statement.{statement}
+use Rattle.tables.proofs.rule_from.Tie as tie
+use Rattle.tables.proofs.rule_from.Reads as reads
+use Rattle.tables.proofs.rule_from.Lts as lts
+
+returns : tie.Need-returns
+returns c = simp (eq-eqb _ _ (c .if1 .taken))
+
+returns-2 : tie.Need-returns-2
+returns-2 c = simp (ne-eqb _ _ (c .before .before .if1 .left), eq-eqb _ _ (c .if2 .taken))
+
+returns-3 : tie.Need-returns-3
+returns-3 c = simp (ne-eqb _ _ (c .before .before .if1 .left), ne-eqb _ _ (c .if2 .left))
+
+pub rule-from-spec : {M : Type 1} → statement M
+rule-from-spec = tie.close (tie.spec returns returns-2 returns-3)

@@ -1,0 +1,82 @@
+use Prim.Native.Nat.{_≤_}
+use mathlib.Core.Path.{_≡_, refl, sym, _∙_}
+use borrow.Author.Needs.{needs}
+use native.Mathlib.Omega.{arith}
+use Rattle.tables.specs.Table.{earlier, rulesIn}
+use Rattle.tables.proofs.Tables.{earlier-at, or-true, or-false}
+use Rattle.tables.proofs.seen.Statement.{statement}
+use Rattle.tables.proofs.seen.Tie as tie
+use Rattle.tables.proofs.seen.Reads as reads
+use Rattle.tables.proofs.seen.Lts as lts
+use Rattle.tables.proofs.rule_of.Reads as rule-of-reads
+use Rattle.tables.proofs.same_rule.Reads as same-rule-reads
+
+abbrev Inv-loop : tie.InvT-loop
+Inv-loop table n rule j₀ j = (j ≤ n) × (earlier rule (rulesIn table n) ≡ earlier rule (rulesIn table j))
+
+abbrev μ-loop : tie.MeasureT-loop
+μ-loop table n rule j₀ j = j
+
+loop-holds : tie.Need-loop-holds Inv-loop μ-loop
+loop-holds c = search needs
+
+sub-j : tie.Need-sub-j Inv-loop μ-loop
+sub-j c = search needs
+
+rule-of-requires : tie.Need-rule-of-requires Inv-loop μ-loop
+rule-of-requires c κs = search needs
+
+same-rule-requires : tie.Need-same-rule-requires Inv-loop μ-loop
+same-rule-requires c κs = search needs
+
+returns : tie.Need-returns Inv-loop μ-loop
+returns c =
+    let l = c .before .before .before .before in
+    let a = l .before .args in
+    rw (
+      l .loop .inv .1,
+      earlier-at (a .rule) (a .table .now) (l .loop .j) (c .before .before .before .loop-test .taken),
+      ← (c .before .before .rule-of .ensures),
+      ← (c .before .same-rule .ensures),
+      c .if1 .taken,
+      or-true,
+    )
+
+loop-less : tie.Need-loop-less Inv-loop μ-loop
+loop-less c = search needs
+
+loop-again : tie.Need-loop-again Inv-loop μ-loop
+loop-again c =
+    let l = c .before .before .before .before in
+    let a = l .before .args in (
+      omega arith,
+      rw (
+        l .loop .inv .1,
+        earlier-at (a .rule) (a .table .now) (l .loop .j) (c .before .before .before .loop-test .taken),
+        ← (c .before .before .rule-of .ensures),
+        ← (c .before .same-rule .ensures),
+        c .if1 .left,
+        or-false,
+      ),
+    )
+
+returns-2 : tie.Need-returns-2 Inv-loop μ-loop
+unfolding earlier rulesIn
+returns-2 c =
+    let e : c .before .loop .j ≡ 0 = omega arith in
+    rw (c .before .loop .inv .1, e)
+
+pub seen-spec : {M : Type 1} → statement M
+seen-spec =
+    tie.close
+    (tie.spec
+    Inv-loop
+    μ-loop
+    loop-holds
+    sub-j
+    rule-of-requires
+    same-rule-requires
+    returns
+    loop-less
+    loop-again
+    returns-2)

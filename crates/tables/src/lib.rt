@@ -1,0 +1,100 @@
+// Rules as a table of numbers, six to a rule, in file order: what the layers above work on.
+use vpg::CloseName;
+use vpg::MarkName;
+use vpg::OpenName;
+use vpg::Rule;
+ghost use mathlib.Core.Path.{_≡_};
+ghost use mathlib.Core.Bool.{_&&_};
+ghost use Prim.Native.Nat.{_≤_, _<_};
+ghost use Rattle.tables.specs.Table.{sixOf, ruleFrom, ruleIn, rulesIn, putSix, sameRule, earlier};
+
+// A rule as six numbers: the form, the fields in file order, and zeros.
+pub struct Six(pub u16, pub u16, pub u16, pub u16, pub u16, pub u16);
+
+pub fn six_of(rule: Rule) -> Six
+    ensures { λ r. ⌜ r ≡ sixOf rule ⌝ }
+{
+    match rule {
+        Rule::Empty(l) => Six(0, l, 0, 0, 0, 0),
+        Rule::Mark(l, c, l1) => Six(1, l, c.0, l1, 0, 0),
+        Rule::Step(l, a, l1, b, l2) => Six(2, l, a.0, l1, b.0, l2),
+    }
+}
+
+fn rule_from(v: Six) -> Rule
+    ensures { λ r. ⌜ r ≡ ruleFrom v ⌝ }
+{
+    if v.0 == 0 {
+        return Rule::Empty(v.1);
+    }
+    if v.0 == 1 {
+        return Rule::Mark(v.1, MarkName(v.2), v.3);
+    }
+    Rule::Step(v.1, OpenName(v.2), v.3, CloseName(v.4), v.5)
+}
+
+// The rule of number k.
+pub fn rule_of(table: &[u16; 768], k: usize) -> Rule
+    requires { ⌜ k < 128 ⌝ }
+    ensures { λ r. ⌜ r ≡ ruleIn (now (table .entry)) k ⌝ }
+{
+    let b = k * 6;
+    rule_from(Six(
+        table[b],
+        table[b + 1],
+        table[b + 2],
+        table[b + 3],
+        table[b + 4],
+        table[b + 5],
+    ))
+}
+
+// Writes the rule of number k.
+pub fn put(table: &mut [u16; 768], k: usize, v: Six)
+    requires { ⌜ k < 128 ⌝ }
+    ensures { λ _. ⌜ now (table .exit) ≡ putSix (now (table .entry)) k v ⌝ }
+{
+    let b = k * 6;
+    table[b] = v.0;
+    table[b + 1] = v.1;
+    table[b + 2] = v.2;
+    table[b + 3] = v.3;
+    table[b + 4] = v.4;
+    table[b + 5] = v.5;
+}
+
+fn both(a: bool, b: bool) -> bool
+    ensures { λ r. ⌜ r ≡ a && b ⌝ }
+{
+    a && b
+}
+
+// Equal in form and in all fields (refusal 8).
+fn same_rule(r: Rule, x: Rule) -> bool
+    ensures { λ b. ⌜ b ≡ sameRule r x ⌝ }
+{
+    let a = six_of(r);
+    let b = six_of(x);
+    both(
+        a.0 == b.0,
+        both(
+            a.1 == b.1,
+            both(a.2 == b.2, both(a.3 == b.3, both(a.4 == b.4, a.5 == b.5))),
+        ),
+    )
+}
+
+// Whether the rule is one of the first n.
+pub fn seen(table: &[u16; 768], n: usize, rule: Rule) -> bool
+    requires { ⌜ n ≤ 128 ⌝ }
+    ensures { λ r. ⌜ r ≡ earlier rule (rulesIn (now (table .entry)) n) ⌝ }
+{
+    let mut j = n;
+    while 0 < j {
+        j -= 1;
+        if same_rule(rule, rule_of(table, j)) {
+            return true;
+        }
+    }
+    false
+}
