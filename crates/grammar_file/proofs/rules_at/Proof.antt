@@ -1,91 +1,131 @@
+use borrow.Author.Needs.{needs}
+use Prim.Native.Nat.{_+_, _*_, _≤_, _-_}
+use mathlib.Core.Path.{_≡_, refl, sym, ap, _∙_}
+use mathlib.Core.List.{[]}
+use borrow.Author.Tests.{le-ltb, lt-ltb}
+use native.Mathlib.Omega.{arith}
+use native.Mathlib.Nat.{sub-zero}
+use lib.ListN.{length}
+use Rattle.numbers.specs.Number.{bytes}
+use Rattle.tables.specs.Table.{rulesIn, tableOf, fill, putSix, sixOf}
+use Rattle.tables.proofs.Tables.{length-put, length-rules, rules-put, table-next}
+use Rattle.grammar_file.specs.GrammarFile.{rulesFrom}
+use Rattle.grammar_file.proofs.Turns.{turn-refused, turn-seen, turn-next}
 use Rattle.grammar_file.proofs.rules_at.Statement.{statement}
 use Rattle.grammar_file.proofs.rules_at.Tie as tie
-use Rattle.grammar_file.proofs.rules_at.Reads as reads
-use Rattle.grammar_file.proofs.rules_at.Lts as lts
-use Rattle.grammar_file.proofs.refused.Reads as refused-reads
-use Rattle.rules.proofs.rule_at.Reads as rule-at-reads
-use Rattle.rules.proofs.rule_refusal.Reads as rule-refusal-reads
-use Rattle.tables.proofs.put.Reads as put-reads
-use Rattle.tables.proofs.seen.Reads as seen-reads
-use Rattle.tables.proofs.six_of.Reads as six-of-reads
 
 abbrev Inv-loop : tie.InvT-loop
-Inv-loop s from nonterminals start due n table₀ at₀ k₀ table at k = ?
+Inv-loop s from nonterminals start due n table₀ at₀ k₀ table at k =
+    (k ≤ due)
+    × (length table ≡ 768)
+    × (table ≡ tableOf (rulesIn table k))
+    × (rulesFrom (bytes s) nonterminals start (due - k) at (rulesIn table k) ≡ rulesFrom (bytes s) nonterminals start due from [])
 
 abbrev μ-loop : tie.MeasureT-loop
-μ-loop s from nonterminals start due n table₀ at₀ k₀ table at k = ?
+μ-loop s from nonterminals start due n table₀ at₀ k₀ table at k = due - k
 
--- src/lib.rt:45:5
 loop-holds : tie.Need-loop-holds Inv-loop μ-loop
-loop-holds c = ?
+unfolding tableOf fill rulesIn
+loop-holds c = (omega arith, refl, refl, rw sub-zero)
 
--- src/lib.rt:46:13
 rule-at-requires : tie.Need-rule-at-requires Inv-loop μ-loop
-rule-at-requires c κs = ?
+rule-at-requires c κs = search needs
 
--- src/lib.rt:47:28
 enum-known-read : tie.Need-enum-known-read Inv-loop μ-loop
-enum-known-read c = ?
+enum-known-read c = search needs
 
--- src/lib.rt:48:28
 enum-told : tie.Need-enum-told Inv-loop μ-loop
-enum-told c = ?
+enum-told c = search needs
 
--- src/lib.rt:48:28
 rule-refusal-requires : tie.Need-rule-refusal-requires Inv-loop μ-loop
-rule-refusal-requires c κs = ?
+rule-refusal-requires c κs = search needs
 
--- src/lib.rt:48:13
 refused-requires : tie.Need-refused-requires Inv-loop μ-loop
-refused-requires c κs = ?
+refused-requires c κs = search needs
 
--- src/lib.rt:48:13
 returns : tie.Need-returns Inv-loop μ-loop
-returns c = ?
+returns c =
+    let d = c .before .before .before .before in
+    let l = d .before .before in
+    let a = l .before .before .args in
+    rw (
+      c .refused .ensures,
+      c .before .rule-refusal .ensures,
+      c .before .before .enum-told .given .1,
+      ← (l .loop .inv .3),
+      turn-refused (bytes (a .s .now)) _ (a .start) (a .due) _ _ (rulesIn (l .loop .table) (l .loop .k)) (d .before .loop-test .taken) _
+          (sym (d .rule-at .ensures) ∙ c .before .before .enum-told .given .1),
+    )
 
--- src/lib.rt:50:12
 seen-requires : tie.Need-seen-requires Inv-loop μ-loop
-seen-requires c κs = ?
+seen-requires c κs = search needs
 
--- src/lib.rt:51:13
 refused-requires-2 : tie.Need-refused-requires-2 Inv-loop μ-loop
-refused-requires-2 c κs = ?
+refused-requires-2 c κs = search needs
 
--- src/lib.rt:51:13
 returns-2 : tie.Need-returns-2 Inv-loop μ-loop
-returns-2 c = ?
+returns-2 c =
+    let q = c .before .before in
+    let p = q .before .before in
+    let d = p .before .before .before in
+    let l = d .before .before in
+    let a = l .before .before .args in
+    rw (
+      c .refused2 .ensures,
+      ← (l .loop .inv .3),
+      turn-seen (bytes (a .s .now)) _ (a .start) (a .due) _ _ (rulesIn (l .loop .table) (l .loop .k)) (d .before .loop-test .taken) _ _
+          (sym (d .rule-at .ensures) ∙ p .before .read .given .1) (sym (q .seen .ensures) ∙ c .before .if1 .taken),
+    )
 
--- src/lib.rt:53:36
 six-of-requires : tie.Need-six-of-requires Inv-loop μ-loop
-six-of-requires c κs = ?
+six-of-requires c κs = search needs
 
--- src/lib.rt:53:9
 put-requires : tie.Need-put-requires Inv-loop μ-loop
-put-requires c κs = ?
+put-requires c κs = search needs
 
--- src/lib.rt:55:9
 add-k : tie.Need-add-k Inv-loop μ-loop
-add-k c = ?
+add-k c = search needs
 
--- src/lib.rt:45:5
 loop-less : tie.Need-loop-less Inv-loop μ-loop
-loop-less c = ?
+loop-less c = search needs
 
--- src/lib.rt:45:5
 loop-again : tie.Need-loop-again Inv-loop μ-loop
-loop-again c = ?
+loop-again c =
+    let q = c .before .before .before .before in
+    let p = q .before .before in
+    let d = p .before .before .before in
+    let l = d .before .before in
+    let a = l .before .before .args in
+    let t = l .loop .table in
+    let k = l .loop .k in
+    let r = p .before .read .given .0 .0 in
+    let room : k * 6 + 6 ≤ length t = omega arith in
+    let e : c .put .last .0 ≡ putSix t k (sixOf r) = rw (c .before .six-of .ensures) at (c .put .ensures) in (
+      omega arith,
+      ap length e ∙ (length-put t k (sixOf r) ∙ l .loop .inv .1),
+      table-next t (c .put .last .0) k r room (l .loop .inv .2) e,
+      rw (e, rules-put t k r room)
+          (sym (turn-next (bytes (a .s .now)) _ (a .start) (a .due) k _ (rulesIn t k) (d .before .loop-test .taken) r _ (sym (d .rule-at .ensures) ∙ p .before .read .given .1)
+          (sym (q .seen .ensures) ∙ c .before .before .before .if1 .left)) ∙ l .loop .inv .3),
+    )
 
--- src/lib.rt:58:9
 refused-requires-3 : tie.Need-refused-requires-3 Inv-loop μ-loop
-refused-requires-3 c κs = ?
+refused-requires-3 c κs = search needs
 
--- src/lib.rt:58:9
 returns-3 : tie.Need-returns-3 Inv-loop μ-loop
-returns-3 c = ?
+unfolding rulesFrom
+returns-3 c =
+    let l = c .before .before .before in
+    let none : l .before .before .args .due - l .loop .k ≡ 0 = omega arith in
+    rw (c .refused3 .ensures, ← (l .loop .inv .3), none, lt-ltb _ _ (c .before .if2 .taken))
 
--- src/lib.rt:37:1
 returns-4 : tie.Need-returns-4 Inv-loop μ-loop
-returns-4 c = ?
+unfolding rulesFrom
+returns-4 c =
+    let l = c .before .before in
+    let none : l .before .before .args .due - l .loop .k ≡ 0 = omega arith in
+    let all : l .loop .k ≡ l .before .before .args .due = omega arith in
+    rw (← (l .loop .inv .3), none, le-ltb _ _ (c .if2 .left), length-rules, ← (l .loop .inv .2), all)
 
 pub rules-at-spec : {M : Type 1} → statement M
 rules-at-spec =
