@@ -1,0 +1,85 @@
+-- What a caller learns of a token that was read, and one turn of the loop over the tokens, of which k of n are read.
+-- Assumes nothing.
+use Prim.Native.Nat.{ℕ, suc, _+_, _-_, _<_, _≤_}
+use mathlib.Core.Path.{_≡_, refl, sym, _∙_}
+use mathlib.Core.Bool.{Bool, true, false, _&&_, _||_}
+use mathlib.Core.List.{List, [], _∷_, _++_}
+use native.Mathlib.Nat.{mod-lt}
+use native.Mathlib.Omega.{arith}
+use lib.Dec.{eqb, leb, lit<}
+use borrow.Author.Tests.{leb-false, eqb-false, eqb-true, eq-eqb}
+use Rattle.numbers.specs.declared.NumberRead.{NumberRead}
+use Rattle.numbers.specs.declared.NumberRead.the-variants.{Number, Refused as NumberRefused}
+use Rattle.numbers.specs.Number.{pick, Source}
+use Rattle.history_file.specs.declared.TokenRead.{TokenRead}
+use Rattle.history_file.specs.declared.TokenRead.the-variants.{Token as TokenIs, Refused as TokenRefused}
+use Rattle.history_file.specs.HistoryFile.{kind, tokenJudged, judged, tokenAt, depthAfter, refused, tokensFrom}
+
+-- the number at a place is the token t, which may stand where so many steps are open
+pub record Judged (r : NumberRead) (depth t next : ℕ) : Type 0 where
+  pub read : r ≡ Number t next
+  pub small : t < 256
+  pub kinds : kind t < 3
+  pub closes : kind t ≡ 2 → 0 < depth
+  pub opens : kind t ≡ 1 → depth < 128
+
+passes : (b : Bool) (e : ℕ) (x : TokenRead) {t next : ℕ} → pick b (TokenRefused e) x ≡ TokenIs t next → (b ≡ false) × (x ≡ TokenIs t next)
+passes true e x h = absurd (let z : _≡_ {A = ℕ} 0 1 = cc in omega arith)
+passes false e x h = (refl, h)
+
+neither : (a b : Bool) → (a || b) ≡ false → (a ≡ false) × (b ≡ false)
+neither true b h = absurd (let z : _≡_ {A = ℕ} 0 1 = cc in omega arith)
+neither false b h = (refl, h)
+
+not-both : (a b : Bool) → (a && b) ≡ false → a ≡ true → b ≡ false
+not-both true b h p = h
+not-both false b h p = absurd (let z : _≡_ {A = ℕ} 0 1 = cc in omega arith)
+
+four : 0 < 4
+four = lit< tt
+
+pub judged-read : (r : NumberRead) (depth t next : ℕ) → judged r depth ≡ TokenIs t next → Judged r depth t next
+unfolding tokenJudged
+judged-read (NumberRefused e) depth t next h = absurd (let z : _≡_ {A = ℕ} 0 1 = cc in omega arith)
+judged-read (Number u at) depth t next h =
+    let p = passes (leb 256 u || eqb (kind u) 3) 11 _ h in
+    let q = passes (eqb (kind u) 2 && eqb depth 0) 12 _ (p .1) in
+    let s = passes (eqb (kind u) 1 && leb 128 depth) 14 _ (q .1) in
+    let n = neither (leb 256 u) (eqb (kind u) 3) (p .0) in
+    let ne = eqb-false (kind u) 3 (n .1) in
+    let z : u ≡ t = cc in
+    rw (← z)
+    (record {
+      read = cc;
+      small = leb-false 256 u (n .0);
+      kinds = omega (arith, mod-lt u four);
+      closes = λ k. let d = eqb-false depth 0 (not-both (eqb (kind u) 2) _ (q .0) (eq-eqb _ _ k)) in omega arith;
+      opens = λ k. leb-false 128 depth (not-both (eqb (kind u) 1) _ (s .0) (eq-eqb _ _ k));
+    })
+
+pub token-read : (number : ℕ → NumberRead) (at depth t next : ℕ) → tokenAt number at depth ≡ TokenIs t next → Judged (number at) depth t next
+unfolding tokenAt
+token-read number at depth t next h = judged-read (number at) depth t next h
+
+-- never more than 128 steps are open
+pub depth-most : (r : NumberRead) (depth t next : ℕ) → Judged r depth t next → depth ≤ 128 → depthAfter t depth ≤ 128
+unfolding depthAfter
+depth-most r depth t next j h = go (eqb (kind t) 1) refl (eqb (kind t) 2)
+  where
+    go : (b : Bool) → eqb (kind t) 1 ≡ b → (d : Bool) → pick b (depth + 1) (pick d (depth - 1) depth) ≤ 128
+    go true p d = let l = j .opens (eqb-true _ _ p) in omega arith
+    go false p true = omega arith
+    go false p false = h
+
+module _ (x : Source) (n k at depth : ℕ) (ts : List ℕ) (more : k < n) where
+  one-due : n - k ≡ suc (n - (k + 1))
+  one-due = omega arith
+
+  pub turn-refused : (e : ℕ) → tokenAt (x .number) at depth ≡ TokenRefused e → tokensFrom x (n - k) at depth ts ≡ refused e
+  unfolding tokensFrom
+  turn-refused e h = rw (one-due, h)
+
+  pub turn-next : (t next : ℕ) → tokenAt (x .number) at depth ≡ TokenIs t next →
+      tokensFrom x (n - k) at depth ts ≡ tokensFrom x (n - (k + 1)) next (depthAfter t depth) (ts ++ (t ∷ []))
+  unfolding tokensFrom
+  turn-next t next h = rw (one-due, h)

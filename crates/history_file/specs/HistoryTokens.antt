@@ -1,0 +1,20 @@
+-- What `read_history` hands to the layers above: the count and the token numbers of a history file.
+-- Assumes nothing.
+use Prim.Native.Nat.{ℕ, _-_}
+use mathlib.Core.List.{List, _++_}
+use lib.ListN.{length, replicate}
+use Rattle.history_file.specs.declared.HistoryAnswer.{HistoryAnswer}
+use Rattle.history_file.specs.declared.HistoryAnswer.the-variants.{Accepted, Refused}
+use Rattle.history_file.specs.declared.HistoryRead.{HistoryRead}
+use Rattle.history_file.specs.HistoryFile.{HistoryFile, accepted, refused}
+
+-- at most 1,024 token numbers, with zeros behind them
+abbrev pub padded : List ℕ → List ℕ
+padded ts = ts ++ replicate (1024 - length ts) 0
+
+abbrev pub refusedRead : ℕ → HistoryRead
+refusedRead e = record { answer = Refused e; tokens = replicate 1024 0 }
+
+abbrev pub historyRead : HistoryFile → HistoryRead
+historyRead (accepted ts) = record { answer = Accepted (length ts); tokens = padded ts }
+historyRead (refused e) = refusedRead e

@@ -1,0 +1,2 @@
+pub mod HistoryFile
+pub mod HistoryTokens

@@ -1,0 +1,146 @@
+// Reads a history file: the token numbers, or the number of the first fault in file order.
+use numbers::FieldRead;
+use numbers::NumberRead;
+ghost use mathlib.Core.Path.{_≡_};
+ghost use mathlib.Core.List.{[]};
+ghost use Prim.Native.Nat.{_≤_};
+ghost use Rattle.numbers.specs.Number.{numberAt, bytes};
+ghost use Rattle.history_file.specs.HistoryFile.{refusalOfToken, tokenJudged, tokenAt, depthAfter, tokensFrom, historyOf};
+ghost use Rattle.history_file.specs.HistoryTokens.{refusedRead, historyRead};
+
+// At most this many tokens (refusal 10), and this many steps open together (refusal 14).
+const TOKENS: u32 = 1024;
+
+const OPEN_STEPS: u32 = 128;
+
+// Token numbers are below this (refusal 11).
+const TOKEN_NUMBERS: u32 = 256;
+
+// A token number and the place after it, or document 01's number of the refusal.
+pub enum TokenRead {
+    Token(u32, usize),
+    Refused(u8),
+}
+
+// How many tokens there are, or the refusal.
+pub enum HistoryAnswer {
+    Accepted(u16),
+    Refused(u8),
+}
+
+// The answer, and the token numbers with zeros behind them; a refused file has zeros alone.
+pub struct HistoryRead {
+    pub answer: HistoryAnswer,
+    pub tokens: [u32; 1024],
+}
+
+// A token number that was read, with so many steps open before it.
+fn token_judged(t: u32, next: usize, depth: u32) -> TokenRead
+    ensures { λ r. ⌜ r ≡ tokenJudged t next depth ⌝ }
+{
+    if TOKEN_NUMBERS <= t {
+        return TokenRead::Refused(11);
+    }
+    let kind = t % 4;
+    if kind == 3 {
+        return TokenRead::Refused(11);
+    }
+    if kind == 2 {
+        if depth == 0 {
+            return TokenRead::Refused(12);
+        }
+        return TokenRead::Token(t, next);
+    }
+    if kind == 1 {
+        if OPEN_STEPS <= depth {
+            return TokenRead::Refused(14);
+        }
+        return TokenRead::Token(t, next);
+    }
+    TokenRead::Token(t, next)
+}
+
+fn token_at(s: &[u8], at: usize, depth: u32) -> TokenRead
+    ensures { λ r. ⌜ r ≡ tokenAt (numberAt (now (s .entry))) at depth ⌝ }
+{
+    let read = numbers::number_at(s, at);
+    let NumberRead::Number(t, next) = read else {
+        return TokenRead::Refused(numbers::number_refusal(read));
+    };
+    token_judged(t, next, depth)
+}
+
+fn token_refusal(r: TokenRead) -> u8
+    ensures { λ e. ⌜ e ≡ refusalOfToken r ⌝ }
+{
+    match r {
+        TokenRead::Token(_, _) => 0,
+        TokenRead::Refused(e) => e,
+    }
+}
+
+// How many steps are open after a token.
+fn depth_after(t: u32, depth: u32) -> u32
+    requires { ⌜ depth ≤ 128 ⌝ }
+    ensures { λ r. ⌜ r ≡ depthAfter t depth ⌝ }
+{
+    let kind = t % 4;
+    if kind == 1 {
+        return depth + 1;
+    }
+    if kind == 2 {
+        if depth == 0 {
+            return 0;
+        }
+        return depth - 1;
+    }
+    depth
+}
+
+fn refused(e: u8) -> HistoryRead
+    ensures { λ r. ⌜ r ≡ refusedRead e ⌝ }
+{
+    let answer = HistoryAnswer::Refused(e);
+    let tokens = [0u32; 1024];
+    HistoryRead { answer, tokens }
+}
+
+// The tokens that are due, from a place to the end.
+fn tokens_at(s: &[u8], from: usize, due: u16) -> HistoryRead
+    requires { ⌜ due ≤ 1024 ⌝ }
+    ensures { λ r. ⌜ r ≡ historyRead (tokensFrom (bytes (now (s .entry))) due from 0 []) ⌝ }
+{
+    let n = due as usize;
+    let mut tokens = [0u32; 1024];
+    let mut at = from;
+    let mut depth: u32 = 0;
+    let mut k: usize = 0;
+    while k < n {
+        let read = token_at(s, at, depth);
+        let TokenRead::Token(t, next) = read else {
+            return refused(token_refusal(read));
+        };
+        tokens[k] = t;
+        depth = depth_after(t, depth);
+        at = next;
+        k += 1;
+    }
+    if 0 < depth {
+        return refused(13);
+    }
+    if at < s.len() {
+        return refused(9);
+    }
+    let answer = HistoryAnswer::Accepted(due);
+    HistoryRead { answer, tokens }
+}
+
+pub fn read_history(s: &[u8]) -> HistoryRead
+    ensures { λ r. ⌜ r ≡ historyRead (historyOf (now (s .entry))) ⌝ }
+{
+    let count = numbers::field_at(s, 0, TOKENS + 1, 10);
+    let FieldRead::Field(due, at) = count else {
+        return refused(numbers::field_refusal(count));
+    };
+    tokens_at(s, at, due)
+}
