@@ -1,4 +1,6 @@
 pub mod Ascends
+pub mod Entries
 pub mod Inject
+pub mod Order
 pub mod Sound
 pub mod Take

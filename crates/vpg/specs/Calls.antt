@@ -1,6 +1,6 @@
 -- One call of first reading or next reading on the buffer alone (document 01, "Services"): what it answers and what it leaves.
 -- Assumes nothing.
-use Prim.Native.Nat.{ℕ, zero, suc}
+use Prim.Native.Nat.{ℕ}
 use mathlib.Core.List.{List, [], _∷_, _++_}
 use mathlib.Core.Option.{none, some}
 use lib.ListN.{take, drop}
