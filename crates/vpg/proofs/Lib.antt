@@ -2,5 +2,6 @@ pub mod Ascends
 pub mod Entries
 pub mod Inject
 pub mod Order
+pub mod Positions
 pub mod Sound
 pub mod Take

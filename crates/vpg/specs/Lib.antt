@@ -2,5 +2,6 @@ pub mod Calls
 pub mod Grammar
 pub mod Listing
 pub mod Order
+pub mod Positions
 pub mod Runs
 pub mod Sets
