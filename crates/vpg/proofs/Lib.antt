@@ -1,7 +1,9 @@
 pub mod Ascends
+pub mod Basics
 pub mod Entries
 pub mod Inject
 pub mod Order
 pub mod Positions
+pub mod Sets
 pub mod Sound
 pub mod Take

@@ -1,14 +1,12 @@
 -- The order of readings is a strict total order, and an ascending list is known by its members.
 -- Assumes nothing.
-use Prim.Native.Nat.{ℕ}
+use Prim.Native.Nat.{ℕ, _<_}
 use native.Mathlib.Omega.{arith}
 use mathlib.Core.Path.{_≡_, refl, sym, _∙_, ap₂}
 use mathlib.Core.Logic.{_⊎_, inl, inr, _↔_}
-use mathlib.Core.Bool.{Bool, true, false}
 use mathlib.Core.List.{List, [], _∷_, List·Memᴰ, List·Memᴰ·head, List·Memᴰ·tail, List·Memᴰ·not-nil, List·Memᴰ·cases-cons, Memᴰ·cast}
-use borrow.Author.Tests.{ltb-true, ltb-false}
-use lib.Dec.{ltb}
 use Rattle.vpg.specs.Order.{Before, Ascending}
+use Rattle.vpg.proofs.Basics.{trichotomy}
 
 pub before-irreflexive : (e : List ℕ) → Before e e → ⊥
 before-irreflexive [] h = h
@@ -33,14 +31,14 @@ pub before-total : (e f : List ℕ) → (e ≡ f) ⊎ (Before e f ⊎ Before f e
 before-total [] [] = inl refl
 before-total [] (y ∷ f) = inr (inl tt)
 before-total (x ∷ e) [] = inr (inr tt)
-before-total (x ∷ e) (y ∷ f) = go (ltb x y) refl (ltb y x) refl (before-total e f)
+before-total (x ∷ e) (y ∷ f) = go (trichotomy x y) (before-total e f)
   where
-    go : (a : Bool) → ltb x y ≡ a → (b : Bool) → ltb y x ≡ b → (e ≡ f) ⊎ (Before e f ⊎ Before f e) → (x ∷ e ≡ y ∷ f) ⊎ (Before (x ∷ e) (y ∷ f) ⊎ Before (y ∷ f) (x ∷ e))
-    go true p b q h = inr (inl (inl (ltb-true x y p)))
-    go false p true q h = inr (inr (inl (ltb-true y x q)))
-    go false p false q (inl h) = inl (ap₂ _∷_ (omega (arith, ltb-false)) h)
-    go false p false q (inr (inl h)) = inr (inl (inr (omega (arith, ltb-false), h)))
-    go false p false q (inr (inr h)) = inr (inr (inr (omega (arith, ltb-false), h)))
+    go : (x ≡ y) ⊎ ((x < y) ⊎ (y < x)) → (e ≡ f) ⊎ (Before e f ⊎ Before f e) → (x ∷ e ≡ y ∷ f) ⊎ (Before (x ∷ e) (y ∷ f) ⊎ Before (y ∷ f) (x ∷ e))
+    go (inr (inl p)) h = inr (inl (inl p))
+    go (inr (inr p)) h = inr (inr (inl p))
+    go (inl p) (inl h) = inl (ap₂ _∷_ p h)
+    go (inl p) (inr (inl h)) = inr (inl (inr (p, h)))
+    go (inl p) (inr (inr h)) = inr (inr (inr (sym p, h)))
 
 -- no entry stands again behind itself
 pub not-again : (e : List ℕ) (l : List (List ℕ)) → Ascending (e ∷ l) → List·Memᴰ e l → ⊥

@@ -4,10 +4,10 @@ use Prim.Native.Nat.{ℕ, zero, suc, _+_}
 use native.Mathlib.Nat.{zero-add, suc-add}
 use native.Mathlib.Omega.{arith}
 use mathlib.Core.Path.{_≡_, refl, _∙_}
-use mathlib.Core.Logic.{_⊎_, inl, inr, ⊎-elim}
+use mathlib.Core.Logic.{_⊎_, inl, inr}
 use mathlib.Core.List.{List, [], _∷_, _++_, append-assoc}
 use mathlib.Core.Option.{some, Option·none-ne-some, Option·some-injective}
-use lib.ListN.{length, drop, getElem?, length-append}
+use lib.ListN.{length, getElem?, length-append}
 use Rattle.vpg.specs.declared.MarkName.{MarkName}
 use Rattle.vpg.specs.declared.OpenName.{OpenName}
 use Rattle.vpg.specs.declared.CloseName.{CloseName}
@@ -15,29 +15,8 @@ use Rattle.vpg.specs.declared.Rule.{Rule}
 use Rattle.vpg.specs.declared.Token.{Token}
 use Rattle.vpg.specs.Grammar.{Rules, Tree, code, Derives, by-empty, by-mark, by-step}
 use Rattle.vpg.specs.Positions.{final, MarkAt, StepAt}
+use Rattle.vpg.proofs.Basics.{at-left, at-right, at-cases, drop-left}
 use Rattle.vpg.proofs.Entries.{code-length}
-
--- ── positions of `++` ──
-
-module _ {A : Type 0} where
-  at-left : {x : A} (s t : List A) (p : ℕ) → getElem? s p ≡ some x → getElem? (s ++ t) p ≡ some x
-  at-left {x} [] t p h = absurd (Option·none-ne-some x h)
-  at-left (y ∷ s) t zero h = h
-  at-left (y ∷ s) t (suc p) h = at-left s t p h
-
-  at-right : (s t : List A) (p : ℕ) → getElem? (s ++ t) (length s + p) ≡ getElem? t p
-  at-right [] t p = rw zero-add
-  at-right (y ∷ s) t p = rw suc-add (at-right s t p)
-
-  at-cases : (x : A) (s t : List A) (p : ℕ) → getElem? (s ++ t) p ≡ some x → (getElem? s p ≡ some x) ⊎ ((k : ℕ) × (p ≡ length s + k) × (getElem? t k ≡ some x))
-  at-cases x [] t p h = inr (p, omega arith, h)
-  at-cases x (y ∷ s) t zero h = inl h
-  at-cases x (y ∷ s) t (suc p) h = ⊎-elim inl (λ c. inr (c .0, omega arith, c .2)) (at-cases x s t p h)
-
-  drop-left : {x : A} {r : List A} (s t : List A) (p : ℕ) → drop p s ≡ x ∷ r → drop p (s ++ t) ≡ x ∷ (r ++ t)
-  drop-left s t zero h = rw h
-  drop-left [] t (suc p) h = absurd (let z : _≡_ {A = ℕ} 0 1 = cc in omega arith)
-  drop-left (y ∷ s) t (suc p) h = drop-left s t p h
 
 -- ── what stands at a position, moved into a longer list ──
 

@@ -17,6 +17,7 @@ use Rattle.vpg.specs.declared.Rule.{Rule}
 use Rattle.vpg.specs.declared.Token.{Token}
 use Rattle.vpg.specs.Grammar.{Rules}
 use Rattle.vpg.specs.Runs.{Stack, State, only, move, ends, collect, once, follow, runs}
+use Rattle.vpg.proofs.Basics.{and-left, and-right}
 
 -- ── collect ──
 
@@ -48,14 +49,6 @@ unhit k n (R′ ∷ g) zero R e p m =
 unhit k n (R′ ∷ g) (suc r) R e p m = Memᴰ·append-right (map (λ e. n ∷ e) (k R′)) (Memᴰ·cast (rw (suc-add, add-suc)) (unhit k (suc n) g r R e p m))
 
 -- ── move ──
-
-pub and-left : (a b : Bool) → (a && b) ≡ true → a ≡ true
-and-left true b p = refl
-and-left false b p = p
-
-pub and-right : (a b : Bool) → (a && b) ≡ true → b ≡ true
-and-right true b p = p
-and-right false b p = absurd (false≢true p)
 
 pub name-mark : {x y : MarkName} → x .0 ≡ y .0 → x ≡ y
 name-mark p = λ i. record { 0 = p i }
