@@ -1,7 +1,10 @@
 pub mod Ascends
 pub mod Basics
+pub mod Calls
 pub mod Entries
+pub mod Find
 pub mod Inject
+pub mod Listing
 pub mod Order
 pub mod Positions
 pub mod Sets
