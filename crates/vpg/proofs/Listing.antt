@@ -1,22 +1,22 @@
 -- A list of calls on a buffer goes as the listing model does (document 01, "The plain listing").
 -- Assumes nothing.
-use Prim.Native.Nat.{ℕ, zero, suc, _+_, _<_}
+use Prim.Native.Nat.{ℕ, zero, suc, _+_, _<_, _≤_}
 use native.Mathlib.Nat.{not-suc-le-zero}
 use native.Mathlib.Omega.{arith}
 use mathlib.Core.Path.{_≡_, refl, sym, _∙_, ap}
 use mathlib.Core.Bool.{Bool, true, false}
-use mathlib.Core.List.{List, [], _∷_, _++_, map, List·Memᴰ}
+use mathlib.Core.List.{List, [], _∷_, _++_, map, List·Memᴰ, List·Memᴰ·head, List·Memᴰ·tail}
 use mathlib.Core.Option.{none, some}
 use borrow.Author.Tests.{ltb-true, ltb-false, lt-ltb, le-ltb}
 use lib.Dec.{ltb}
 use lib.ListN.{getD, take, drop, length, take-append-drop, drop-of-length-le, replicate}
-use lib.Seq.{drop-cons, take-at, drop-at}
+use lib.Seq.{drop-cons, take-at, drop-at, length-front, length-take-le}
 use Rattle.vpg.specs.declared.Token.{Token}
 use Rattle.vpg.specs.Grammar.{Grammar}
 use Rattle.vpg.specs.Order.{Ascending}
 use Rattle.vpg.specs.Runs.{entries}
 use Rattle.vpg.specs.Listing.{Call, first, next, Answer, written, no-further, Subject, due, over, Shown, find, entry, start, modelFirst, onward, model, shows, trace}
-use Rattle.vpg.specs.Calls.{firstOn, successor, callOn, overEntries}
+use Rattle.vpg.specs.Calls.{firstOn, successor, nextOn, callOn, overEntries}
 use Rattle.vpg.proofs.Ascends.{entries-ascending}
 use Rattle.vpg.proofs.Entries.{entry-length}
 use Rattle.vpg.proofs.Find.{at-mem, find-at, find-found}
@@ -87,6 +87,36 @@ start-agrees (over l n) buf = go (find (take n buf) l) refl
     go (some k) p =
         let h = find-found (take n buf) l k p in
         rw (h .number) (rw (← (h .is)) (take-append-drop n buf), h .below)
+
+-- ── the buffer's length ──
+
+drop-mem : (k : ℕ) (l : List (List ℕ)) {e : List ℕ} → List·Memᴰ e (drop k l) → List·Memᴰ e l
+drop-mem zero l m = m
+drop-mem (suc k) [] m = m
+drop-mem (suc k) (f ∷ l) m = List·Memᴰ·tail (drop-mem k l m)
+
+module _ (n : ℕ) (buf : List ℕ) (fits : n ≤ length buf) where
+  write-length : (e : List ℕ) → length e ≡ n → length (e ++ drop n buf) ≡ length buf
+  write-length e p = length-front buf e n (p ∙ sym (length-take-le n buf fits))
+
+  first-length : (l : List (List ℕ)) → ((e : List ℕ) → List·Memᴰ e l → length e ≡ n) → length (firstOn l n buf .1) ≡ length buf
+  first-length [] p = refl
+  first-length (e ∷ l) p = write-length e (p e (List·Memᴰ·head refl))
+
+  successor-length : (l : List (List ℕ)) → ((e : List ℕ) → List·Memᴰ e l → length e ≡ n) → length (successor l n buf .1) ≡ length buf
+  successor-length [] p = refl
+  successor-length (e ∷ l) p = write-length e (p e (List·Memᴰ·head refl))
+
+  next-length : (s : Shown) (l : List (List ℕ)) → ((e : List ℕ) → List·Memᴰ e l → length e ≡ n) → length (nextOn s l n buf .1) ≡ length buf
+  next-length none l p = refl
+  next-length (some k) l p = successor-length (drop k l) (λ e m. p e (drop-mem k l m))
+
+  -- a call leaves the buffer as long as it was, so the test for 15 goes the same way at each call of a list
+  pub call-length : (l : List (List ℕ)) → Proper (over l n) → (c : Call) → length (callOn (over l n) c buf .1) ≡ length buf
+  call-length l p first = first-length l (p .1)
+  call-length l p next = next-length (find (take n buf) l) l (p .1)
+
+-- ── the listing ──
 
 module _ (x : Subject) (p : Proper x) (buf : List ℕ) where
   traces : (cs : List Call) (s : Shown) → Occurs x buf s → trace (callOn x) cs (shows x buf s) ≡ map (seen x buf) (trace (model x) cs s)
