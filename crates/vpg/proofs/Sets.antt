@@ -3,18 +3,19 @@
 use Prim.Native.Nat.{ℕ, zero, suc, _+_, _≤_, _<_}
 use native.Mathlib.Nat.{le-of-suc-le-suc, eq-or-lt-of-le}
 use native.Mathlib.Omega.{arith}
-use mathlib.Core.Path.{_≡_, refl, ap}
+use mathlib.Core.Path.{_≡_, refl, sym, _∙_, ap}
 use mathlib.Core.Logic.{_⊎_, ⊎-elim, _↔_, _≢_}
 use mathlib.Core.Bool.{Bool, true, false, false≢true, or-true}
-use mathlib.Core.List.{List, [], _∷_, List·Memᴰ, List·Memᴰ·head, List·Memᴰ·tail, List·Memᴰ·not-nil, List·Memᴰ·cases-cons}
+use mathlib.Core.List.{List, [], _∷_, List·Memᴰ, List·Memᴰ·head, List·Memᴰ·tail, List·Memᴰ·not-nil, List·Memᴰ·cases-cons, List·Memᴰ·eq-of-singleton}
 use mathlib.Core.Option.{some, Option·none-ne-some, Option·some-injective}
 use borrow.Author.Tests.{eqb-true, eq-eqb, ltb-true, lt-ltb}
 use lib.ListN.{length, take, getElem?}
 use Rattle.vpg.specs.declared.Token.{Token}
 use Rattle.vpg.specs.Grammar.{Rules, Grammar, Tree, code, Derives, by-empty, by-mark, by-step, Reading}
+use Rattle.vpg.specs.Counted.{Distinct, Counted}
 use Rattle.vpg.specs.Runs.{entries}
-use Rattle.vpg.specs.Sets.{Kept, standsAt, standsIn, kept, one, count, doubtful, marked, stopMark}
-use Rattle.vpg.proofs.Basics.{or-cases, trichotomy, at-cases, at-below}
+use Rattle.vpg.specs.Sets.{Kept, standsAt, standsIn, kept, one, count, doubtful, doubtfulCount, marked, stopMark}
+use Rattle.vpg.proofs.Basics.{or-cases, at-cases, at-below}
 use Rattle.vpg.proofs.Entries.{reading-length}
 use Rattle.vpg.proofs.Sound.{entries-readings}
 
@@ -64,51 +65,76 @@ kept-below g w p r (e, h, s) = (code-below (g .rules) (h .1) p r (rw (h .2) s), 
 
 -- ── doubtful positions ──
 
-count-pos : (n : ℕ) (f : ℕ → Bool) → 0 < count n f → (i : ℕ) × (i < n) × (f i ≡ true)
+-- `count` counts
+counted : (n : ℕ) (f : ℕ → Bool) → Counted (λ i. (i < n) × (f i ≡ true)) (count n f)
 unfolding count
-count-pos zero f h = absurd (omega arith)
-count-pos (suc n) f h = go (f n) refl h (λ k. count-pos n f k)
+counted zero f = record { numbers = []; distinct = tt; members = λ i. (λ m. absurd (List·Memᴰ·not-nil m), λ h. absurd (omega arith)); size = refl }
+counted (suc n) f = go (f n) refl (counted n f)
   where
-    go : (b : Bool) → f n ≡ b → 0 < one b + count n f → (0 < count n f → (i : ℕ) × (i < n) × (f i ≡ true)) → (i : ℕ) × (i < suc n) × (f i ≡ true)
-    go true q h below = (n, omega arith, q)
-    go false q h below =
-        let k = below (omega arith) in
-        (k .0, omega arith, k .2)
+    go : (b : Bool) → f n ≡ b → Counted (λ i. (i < n) × (f i ≡ true)) (count n f) → Counted (λ i. (i < suc n) × (f i ≡ true)) (one b + count n f)
+    go true q c =
+        record {
+          numbers = n ∷ c .numbers;
+          distinct = (λ m. omega (arith, c .members n .0 m .0), c .distinct);
+          members = λ i. (
+            λ m. ⊎-elim (λ e. (omega arith, rw e q)) (λ m′. let h = c .members i .0 m′ in (omega arith, h .1)) (List·Memᴰ·cases-cons m),
+            λ h. ⊎-elim (λ e. List·Memᴰ·head e) (λ l. List·Memᴰ·tail (c .members i .1 (l, h .1))) (eq-or-lt-of-le (le-of-suc-le-suc (h .0))),
+          );
+          size = omega (arith, c .size);
+        }
+    go false q c =
+        record {
+          numbers = c .numbers;
+          distinct = c .distinct;
+          members = λ i. (
+            λ m. let h = c .members i .0 m in (omega arith, h .1),
+            λ h. ⊎-elim (λ e. absurd (false≢true (sym q ∙ rw e at (h .1)))) (λ l. c .members i .1 (l, h .1)) (eq-or-lt-of-le (le-of-suc-le-suc (h .0))),
+          );
+          size = omega (arith, c .size);
+        }
 
-pos-count : (n : ℕ) (f : ℕ → Bool) (i : ℕ) → i < n → f i ≡ true → 0 < count n f
-unfolding count
-pos-count zero f i l h = absurd (omega arith)
-pos-count (suc n) f i l h = ⊎-elim (λ q. rw (rw q at h) (omega arith)) (λ q. omega (arith, pos-count n f i q h)) (eq-or-lt-of-le (le-of-suc-le-suc l))
+two-of : (l : List ℕ) → Distinct l → 1 < length l → (a : ℕ) × (b : ℕ) × (a ≢ b) × List·Memᴰ a l × List·Memᴰ b l
+two-of [] d h = absurd (omega arith)
+two-of (a ∷ []) d h = absurd (omega arith)
+two-of (a ∷ b ∷ l) d h = (a, b, λ e. d .0 (List·Memᴰ·head e), List·Memᴰ·head refl, List·Memᴰ·tail (List·Memᴰ·head refl))
 
-count-two : (n : ℕ) (f : ℕ → Bool) → 1 < count n f → (i : ℕ) × (j : ℕ) × (i < j) × (f i ≡ true) × (f j ≡ true)
-unfolding count
-count-two zero f h = absurd (omega arith)
-count-two (suc n) f h = go (f n) refl h (λ k. count-two n f k)
-  where
-    go : (b : Bool) → f n ≡ b → 1 < one b + count n f → (1 < count n f → (i : ℕ) × (j : ℕ) × (i < j) × (f i ≡ true) × (f j ≡ true)) → (i : ℕ) × (j : ℕ) × (i < j) × (f i ≡ true) × (f j ≡ true)
-    go true q h below =
-        let k = count-pos n f (omega arith) in
-        (k .0, n, k .1, k .2, q)
-    go false q h below = below (omega arith)
-
-two-count : (n : ℕ) (f : ℕ → Bool) (i j : ℕ) → i < j → j < n → f i ≡ true → f j ≡ true → 1 < count n f
-unfolding count
-two-count zero f i j l l′ h h′ = absurd (omega arith)
-two-count (suc n) f i j l l′ h h′ =
-    ⊎-elim (λ q. rw (rw q at h′) (omega (arith, pos-count n f i (omega arith) h))) (λ q. omega (arith, two-count n f i j l q h h′)) (eq-or-lt-of-le (le-of-suc-le-suc l′))
+of-two : (l : List ℕ) (a b : ℕ) → a ≢ b → List·Memᴰ a l → List·Memᴰ b l → 1 < length l
+of-two [] a b d m m′ = absurd (List·Memᴰ·not-nil m)
+of-two (x ∷ []) a b d m m′ = absurd (d (List·Memᴰ·eq-of-singleton m ∙ sym (List·Memᴰ·eq-of-singleton m′)))
+of-two (x ∷ y ∷ l) a b d m m′ = omega arith
 
 -- "its set holds more than one rule"
 pub doubtful-is : (g : Grammar) (w : List Token) (p : ℕ) → (doubtful g w p ≡ true) ↔ ((r : ℕ) × (r′ : ℕ) × (r ≢ r′) × Kept g w p r × Kept g w p r′)
 unfolding doubtful
 doubtful-is g w p = (
   λ h.
-      let k = count-two (length (g .rules)) (kept g w p) (ltb-true 1 (count (length (g .rules)) (kept g w p)) h) in
-      (k .0, k .1, λ q. omega arith, kept-is g w p (k .0) .0 (k .3), kept-is g w p (k .1) .0 (k .4)),
-  λ h. lt-ltb 1 (count (length (g .rules)) (kept g w p)) (⊎-elim (λ q. absurd (h .2 q)) (⊎-elim (λ q. two q (h .3) (h .4)) (λ q. two q (h .4) (h .3))) (trichotomy (h .0) (h .1))),
+      let t = two-of (c .numbers) (c .distinct) (omega (arith, ltb-true, c .size)) in
+      (t .0, t .1, t .2, kept-is g w p (t .0) .0 (c .members (t .0) .0 (t .3) .1), kept-is g w p (t .1) .0 (c .members (t .1) .0 (t .4) .1)),
+  λ h. lt-ltb 1 (count (length (g .rules)) (kept g w p)) (omega (arith, c .size, of-two (c .numbers) (h .0) (h .1) (h .2) (member (h .3)) (member (h .4)))),
 )
   where
-    two : {r r′ : ℕ} → r < r′ → Kept g w p r → Kept g w p r′ → 1 < count (length (g .rules)) (kept g w p)
-    two {r} {r′} l k k′ = two-count (length (g .rules)) (kept g w p) r r′ l (kept-below g w p r′ k′ .0) (kept-is g w p r .1 k) (kept-is g w p r′ .1 k′)
+    c : Counted (λ r. (r < length (g .rules)) × (kept g w p r ≡ true)) (count (length (g .rules)) (kept g w p))
+    c = counted (length (g .rules)) (kept g w p)
+
+    member : {r : ℕ} → Kept g w p r → List·Memᴰ r (c .numbers)
+    member {r} k = c .members r .1 (kept-below g w p r k .0, kept-is g w p r .1 k)
+
+-- "how many positions are doubtful"
+pub doubtful-count-is : (g : Grammar) (w : List Token) → Counted (λ p. doubtful g w p ≡ true) (doubtfulCount g w)
+unfolding doubtfulCount
+doubtful-count-is g w =
+    let c = counted (suc (length w)) (doubtful g w) in
+    record {
+      numbers = c .numbers;
+      distinct = c .distinct;
+      members = λ p. (λ m. c .members p .0 m .1, λ h. c .members p .1 (within p h, h));
+      size = c .size;
+    }
+  where
+    within : (p : ℕ) → doubtful g w p ≡ true → p < suc (length w)
+    within p h =
+        let k = doubtful-is g w p .0 h in
+        omega (arith, kept-below g w p (k .0) (k .3) .1)
 
 -- ── stop marks ──
 

@@ -1,4 +1,5 @@
 pub mod Calls
+pub mod Counted
 pub mod Extremes
 pub mod Grammar
 pub mod Listing
