@@ -32,8 +32,8 @@ record Placed (e : List ℕ) (l : List (List ℕ)) : Type 0 where
   number : ℕ
   is : find e l ≡ some number
   ascends : Ascending (drop number l)
-  after : (f : List ℕ) → In (drop number l) f → In l f × Before e f
-  behind : (f : List ℕ) → In l f → Before e f → In (drop number l) f
+  rest-later : (f : List ℕ) → In (drop number l) f → In l f × Before e f
+  later-rest : (f : List ℕ) → In l f → Before e f → In (drop number l) f
 
 placed : (e : List ℕ) (l : List (List ℕ)) → Ascending l → List·Memᴰ e l → Placed e l
 placed e [] p m = absurd (List·Memᴰ·not-nil m)
@@ -46,8 +46,8 @@ placed e (d ∷ l) p m = go (placed e l (p .1)) (List·Memᴰ·cases-cons m)
           number = 1;
           is = rw (same-refl d);
           ascends = p .1;
-          after = λ f n. (List·Memᴰ·tail n, p .0 f n);
-          behind = λ f n b. ⊎-elim (λ r. absurd (before-irreflexive d (rw r at b))) (λ n′. n′) (List·Memᴰ·cases-cons n);
+          rest-later = λ f n. (List·Memᴰ·tail n, p .0 f n);
+          later-rest = λ f n b. ⊎-elim (λ r. absurd (before-irreflexive d (rw r at b))) (λ n′. n′) (List·Memᴰ·cases-cons n);
         })
     go rest (inr n) =
         let h = rest n in
@@ -55,8 +55,8 @@ placed e (d ∷ l) p m = go (placed e l (p .1)) (List·Memᴰ·cases-cons m)
           number = suc (h .number);
           is = rw (same-ne e d (λ q. before-irreflexive d (rw q at (p .0 e n))), h .is);
           ascends = h .ascends;
-          after = λ f x. (List·Memᴰ·tail (h .after f x .0), h .after f x .1);
-          behind = λ f x b. ⊎-elim (λ r. absurd (before-asymmetric e d (rw r at b) (p .0 e n))) (λ x′. h .behind f x′ b) (List·Memᴰ·cases-cons x);
+          rest-later = λ f x. (List·Memᴰ·tail (h .rest-later f x .0), h .rest-later f x .1);
+          later-rest = λ f x b. ⊎-elim (λ r. absurd (before-asymmetric e d (rw r at b) (p .0 e n))) (λ x′. h .later-rest f x′ b) (List·Memᴰ·cases-cons x);
         }
 
 successor-written : (d : List (List ℕ)) (n : ℕ) (buf e : List ℕ) → Ascending d → Least (In d) e → successor d n buf ≡ (written, e ++ drop n buf)
@@ -83,9 +83,9 @@ pub next-written : (l : List (List ℕ)) (n : ℕ) (buf e : List ℕ) → Ascend
 next-written l n buf e p m h =
     let q = placed (take n buf) l p m in
     rw (q .is)
-    (successor-written (drop (q .number) l) n buf e (q .ascends) (record { holds = q .behind e (h .holds .0) (h .holds .1); least = λ f x. h .least f (q .after f x) }))
+    (successor-written (drop (q .number) l) n buf e (q .ascends) (record { holds = q .later-rest e (h .holds .0) (h .holds .1); least = λ f x. h .least f (q .rest-later f x) }))
 
 pub next-no-further : (l : List (List ℕ)) (n : ℕ) (buf : List ℕ) → Ascending l → In l (take n buf) → Last (In l) (take n buf) → callOn (over l n) next buf ≡ (no-further, buf)
 next-no-further l n buf p m h =
     let q = placed (take n buf) l p m in
-    rw (q .is) (successor-none (drop (q .number) l) n buf (λ f x. let a = q .after f x in h f (a .0) (a .1)))
+    rw (q .is) (successor-none (drop (q .number) l) n buf (λ f x. let a = q .rest-later f x in h f (a .0) (a .1)))

@@ -9,4 +9,5 @@ pub mod Order
 pub mod Positions
 pub mod Sets
 pub mod Sound
+pub mod Steps
 pub mod Take

@@ -27,23 +27,23 @@ data At (g : Rules) (w : List Token) (e : List ℕ) : ℕ → Token → Type 0 w
   at-close : {p : ℕ} {a : OpenName} {q : ℕ} {b : CloseName} → StepAt g w e p a q b → At g w e q (Token.Close b)
 
 module _ {g : Rules} where
-  step-behind : {w : List Token} {e : List ℕ} {p : ℕ} {a : OpenName} {q : ℕ} {b : CloseName} (y : Token) (n : ℕ) → StepAt g w e p a q b → StepAt g (y ∷ w) (n ∷ e) (suc p) a (suc q) b
-  step-behind y n h =
+  step-shift : {w : List Token} {e : List ℕ} {p : ℕ} {a : OpenName} {q : ℕ} {b : CloseName} (y : Token) (n : ℕ) → StepAt g w e p a q b → StepAt g (y ∷ w) (n ∷ e) (suc p) a (suc q) b
+  step-shift y n h =
       record { number = h .number; nonterminal = h .nonterminal; within = h .within; after = h .after; inside = h .inside; tree = h .tree; rest = h .rest; stands = h .stands; is = h .is; derives = h .derives; tokens = h .tokens; close = omega arith; ends = h .ends }
 
-  behind : {w : List Token} {e : List ℕ} {p : ℕ} {x : Token} (y : Token) (n : ℕ) → At g w e p x → At g (y ∷ w) (n ∷ e) (suc p) x
-  behind y n (at-mark h) = at-mark (record { number = h .number; nonterminal = h .nonterminal; after = h .after; stands = h .stands; is = h .is })
-  behind y n (at-open h) = at-open (step-behind y n h)
-  behind y n (at-close h) = at-close (step-behind y n h)
+  shift : {w : List Token} {e : List ℕ} {p : ℕ} {x : Token} (y : Token) (n : ℕ) → At g w e p x → At g (y ∷ w) (n ∷ e) (suc p) x
+  shift y n (at-mark h) = at-mark (record { number = h .number; nonterminal = h .nonterminal; after = h .after; stands = h .stands; is = h .is })
+  shift y n (at-open h) = at-open (step-shift y n h)
+  shift y n (at-close h) = at-close (step-shift y n h)
 
-  behind-all : {w : List Token} {e : List ℕ} {p : ℕ} {x : Token} (v : List Token) (f : List ℕ) → length v ≡ length f → At g w e p x → At g (v ++ w) (f ++ e) (length v + p) x
-  behind-all [] [] l h = rw zero-add h
-  behind-all [] (n ∷ f) l h = absurd (omega arith)
-  behind-all (y ∷ v) [] l h = absurd (omega arith)
-  behind-all (y ∷ v) (n ∷ f) l h = rw suc-add (behind y n (behind-all v f (omega arith) h))
+  shift-all : {w : List Token} {e : List ℕ} {p : ℕ} {x : Token} (v : List Token) (f : List ℕ) → length v ≡ length f → At g w e p x → At g (v ++ w) (f ++ e) (length v + p) x
+  shift-all [] [] l h = rw zero-add h
+  shift-all [] (n ∷ f) l h = absurd (omega arith)
+  shift-all (y ∷ v) [] l h = absurd (omega arith)
+  shift-all (y ∷ v) (n ∷ f) l h = rw suc-add (shift y n (shift-all v f (omega arith) h))
 
-  step-front : {w : List Token} {e : List ℕ} {p : ℕ} {a : OpenName} {q : ℕ} {b : CloseName} (v : List Token) (f : List ℕ) → StepAt g w e p a q b → StepAt g (w ++ v) (e ++ f) p a q b
-  step-front {w} {e} {p} {q} v f h =
+  step-extend : {w : List Token} {e : List ℕ} {p : ℕ} {a : OpenName} {q : ℕ} {b : CloseName} (v : List Token) (f : List ℕ) → StepAt g w e p a q b → StepAt g (w ++ v) (e ++ f) p a q b
+  step-extend {w} {e} {p} {q} v f h =
       record {
         number = h .number;
         nonterminal = h .nonterminal;
@@ -60,10 +60,10 @@ module _ {g : Rules} where
         ends = at-left e f q (h .ends);
       }
 
-  front : {w : List Token} {e : List ℕ} {p : ℕ} {x : Token} (v : List Token) (f : List ℕ) → At g w e p x → At g (w ++ v) (e ++ f) p x
-  front {e} {p} v f (at-mark h) = at-mark (record { number = h .number; nonterminal = h .nonterminal; after = h .after; stands = at-left e f p (h .stands); is = h .is })
-  front v f (at-open h) = at-open (step-front v f h)
-  front v f (at-close h) = at-close (step-front v f h)
+  extend : {w : List Token} {e : List ℕ} {p : ℕ} {x : Token} (v : List Token) (f : List ℕ) → At g w e p x → At g (w ++ v) (e ++ f) p x
+  extend {e} {p} v f (at-mark h) = at-mark (record { number = h .number; nonterminal = h .nonterminal; after = h .after; stands = at-left e f p (h .stands); is = h .is })
+  extend v f (at-open h) = at-open (step-extend v f h)
+  extend v f (at-close h) = at-close (step-extend v f h)
 
   -- ── the theorems ──
 
@@ -91,19 +91,19 @@ module _ {g : Rules} where
   positions (by-empty q) p x h = absurd (Option·none-ne-some x h)
   positions (by-mark {r} {L} {c} {L₁} q d) zero x h =
       rw (← (Option·some-injective (Token.Mark c) x h)) (at-mark (record { number = r; nonterminal = L; after = L₁; stands = refl; is = q }))
-  positions (by-mark {r} {c} q d) (suc p) x h = behind (Token.Mark c) r (positions d p x h)
+  positions (by-mark {r} {c} q d) (suc p) x h = shift (Token.Mark c) r (positions d p x h)
   positions (by-step {a} {w} {u} q d d′) zero x h =
       rw (← (Option·some-injective (Token.Open a) x h)) (at-open (step-here w (code u) q d))
   positions (by-step {r} {a} {b} {v} {w} {t} {u} q d d′) (suc p) x h = go (at-cases x v (Token.Close b ∷ w) p h) (λ h. positions d p x h) (λ k h. positions d′ k x h)
     where
       go : (getElem? v p ≡ some x) ⊎ ((k : ℕ) × (p ≡ length v + k) × (getElem? (Token.Close b ∷ w) k ≡ some x)) → (getElem? v p ≡ some x → At g v (code t) p x) → ((k : ℕ) → getElem? w k ≡ some x → At g w (code u) k x) → At g (Token.Open a ∷ (v ++ (Token.Close b ∷ w))) (r ∷ (code t ++ code u)) (suc p) x
-      go (inl h) in-inside in-rest = behind (Token.Open a) r (front (Token.Close b ∷ w) (code u) (in-inside h))
+      go (inl h) in-inside in-rest = shift (Token.Open a) r (extend (Token.Close b ∷ w) (code u) (in-inside h))
       go (inr (zero, e, h)) in-inside in-rest =
           let z : p ≡ length v = omega arith in
           rw (z, ← (Option·some-injective (Token.Close b) x h)) (at-close (step-here w (code u) q d))
       go (inr (suc k, e, h)) in-inside in-rest =
           let z : p ≡ length (v ++ (Token.Close b ∷ [])) + k = simp length-append (omega arith) in
-          rw z (behind (Token.Open a) r (rw append-assoc at (behind-all (v ++ (Token.Close b ∷ [])) (code t) (simp (length-append, code-length d) (omega arith)) (in-rest k h))))
+          rw z (shift (Token.Open a) r (rw append-assoc at (shift-all (v ++ (Token.Close b ∷ [])) (code t) (simp (length-append, code-length d) (omega arith)) (in-rest k h))))
 
   mark-of : {w : List Token} {e : List ℕ} {p : ℕ} {c : MarkName} → At g w e p (Token.Mark c) → MarkAt g e p c
   mark-of (at-mark h) = h

@@ -7,3 +7,4 @@ pub mod Order
 pub mod Positions
 pub mod Runs
 pub mod Sets
+pub mod Steps
