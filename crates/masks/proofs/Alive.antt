@@ -16,8 +16,10 @@ use Rattle.vpg.specs.declared.Rule.{Rule}
 use Rattle.vpg.specs.declared.Token.{Token}
 use Rattle.vpg.specs.Grammar.{Rules}
 use Rattle.vpg.specs.Runs.{Stack, runs}
-use Rattle.vpg.proofs.Take.{Move, by-empty, by-mark, by-step, taken, take, ended, end, and-left, and-right, name-mark, name-open, name-close}
-use Rattle.masks.specs.Masks.{Nonterminals, Outer, Masks, left, any, behind, applies, finishes, lefts, outer, over, masks, Match, Fits}
+use Rattle.vpg.specs.Steps.{left}
+use Rattle.vpg.proofs.Basics.{and-left, and-right}
+use Rattle.vpg.proofs.Take.{Move, by-empty, by-mark, by-step, taken, take, ended, end, name-mark, name-open, name-close}
+use Rattle.masks.specs.Masks.{Nonterminals, Outer, Masks, any, behind, applies, finishes, lefts, outer, over, masks, Match, Fits}
 
 -- ── any ──
 
@@ -45,18 +47,17 @@ some-any p (R′ ∷ g) (suc r) R e q = rw (some-any p g r R e q) (or-true (p R�
 pub both : {a b : Bool} → a ≡ true → b ≡ true → (a && b) ≡ true
 both p q = rw (p, q)
 
--- a rule for L that passes
-pub record Left (p : Rule → Bool) (g : Rules) (L : ℕ) : Type 0 where
-  pub number : ℕ
+-- rule number r is for L and passes
+pub record Passes (p : Rule → Bool) (g : Rules) (L r : ℕ) : Type 0 where
   pub rule : Rule
-  pub is : getElem? g number ≡ some rule
+  pub is : getElem? g r ≡ some rule
   pub from : left rule ≡ L
   pub passes : p rule ≡ true
 
-pub lefts-some : (p : Rule → Bool) (g : Rules) (L : ℕ) → lefts p g L ≡ true → Left p g L
+pub lefts-some : (p : Rule → Bool) (g : Rules) (L : ℕ) → lefts p g L ≡ true → (r : ℕ) × Passes p g L r
 lefts-some p g L q =
     let h = any-some (λ R. eqb (left R) L && p R) g q in
-    record { number = h .number; rule = h .rule; is = h .is; from = eqb-true _ _ (and-left _ _ (h .passes)); passes = and-right (eqb (left (h .rule)) L) _ (h .passes) }
+    (h .number, record { rule = h .rule; is = h .is; from = eqb-true _ _ (and-left _ _ (h .passes)); passes = and-right (eqb (left (h .rule)) L) _ (h .passes) })
 
 pub some-lefts : (p : Rule → Bool) (g : Rules) (L r : ℕ) (R : Rule) → getElem? g r ≡ some R → left R ≡ L → p R ≡ true → lefts p g L ≡ true
 some-lefts p g L r R i e q = some-any (λ R. eqb (left R) L && p R) g r R i (both (eq-eqb _ _ e) q)
@@ -132,6 +133,10 @@ finishes-empty (Rule.Empty M) q = refl
 finishes-empty (Rule.Mark M c M₁) q = absurd (false≢true q)
 finishes-empty (Rule.Step M a M₁ b M₂) q = absurd (false≢true q)
 
+-- a rule for L that can stand at the end is the empty rule of L
+pub ends-empty : (g : Rules) (L r : ℕ) → Passes finishes g L r → getElem? g r ≡ some (Rule.Empty L)
+ends-empty g L r h = rw (finishes-empty (h .rule) (h .passes), h .from) at (h .is)
+
 -- ── all tokens ──
 
 pub run-fits : (g : Rules) (w : List Token) (L : ℕ) (s : Stack) (e : List ℕ) → List·Memᴰ e (runs g (L, s) w) → Fits L s (masks g w)
@@ -148,13 +153,13 @@ pub fits-run : (g : Rules) (w : List Token) (L : ℕ) (s : Stack) → Fits L s (
 unfolding masks
 fits-run g [] L [] f =
     let h = lefts-some finishes g L (f .0) in
-    (h .number ∷ [], end g (rw (finishes-empty (h .rule) (h .passes), h .from) at (h .is)))
+    (h .0 ∷ [], end g (ends-empty g L (h .0) (h .1)))
 fits-run g [] L (d ∷ s) f = absurd (f .1)
 fits-run g (t ∷ w) L s f =
     let h = lefts-some (applies (masks g w) t) g L (f .0) in
-    let k = applies-goes (masks g w) t (h .rule) s (f .1) (h .passes) in
+    let k = applies-goes (masks g w) t (h .1 .rule) s (f .1) (h .1 .passes) in
     let r = fits-run g w (k .nonterminal) (k .due) (k .fits) in
-    (h .number ∷ r .0, rw (h .from) at (take g w (h .is) (k .goes) (r .1)))
+    (h .0 ∷ r .0, rw (h .1 .from) at (take g w (h .1 .is) (k .goes) (r .1)))
 
 member : (l : List (List ℕ)) → ¬ (l ≡ []) → (e : List ℕ) × List·Memᴰ e l
 member [] h = absurd (h refl)

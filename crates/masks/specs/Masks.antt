@@ -10,6 +10,7 @@ use Rattle.vpg.specs.declared.Rule.{Rule}
 use Rattle.vpg.specs.declared.Token.{Token}
 use Rattle.vpg.specs.Grammar.{Rules}
 use Rattle.vpg.specs.Runs.{Stack}
+use Rattle.vpg.specs.Steps.{left}
 
 -- a set of nonterminals
 abbrev pub Nonterminals : Type 0
@@ -22,12 +23,6 @@ Outer = List (CloseName × Nonterminals)
 -- the nonterminals that derive the rest of the current level, and those of the outer ones
 abbrev pub Masks : Type 0
 Masks = Nonterminals × Outer
-
--- the nonterminal that a rule is for
-abbrev pub left : Rule → ℕ
-left (Rule.Empty M) = M
-left (Rule.Mark M c M₁) = M
-left (Rule.Step M a M₁ b M₂) = M
 
 abbrev pub any : (Rule → Bool) → Rules → Bool
 any p [] = false
