@@ -52,3 +52,12 @@ marked (e ∷ l) = 1
 -- "1 exactly when the first i tokens alone have a reading, else 0"
 unfoldable pub stopMark : Grammar → List Token → ℕ → ℕ
 stopMark g w i = marked (entries g (take i w))
+
+-- f 0, f 1 and so on, n of them
+abbrev pub listed : {A : Type 0} → ℕ → (ℕ → A) → List A
+listed zero f = []
+listed (suc n) f = f 0 ∷ listed n (λ i. f (suc i))
+
+-- document 01, "Services": the marks of the positions 0 to n, in order
+unfoldable pub stopMarks : Grammar → List Token → List ℕ
+stopMarks g w = listed (suc (length w)) (stopMark g w)
