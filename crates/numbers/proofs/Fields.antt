@@ -1,12 +1,11 @@
--- What a caller learns of a number that was read within its range.
+-- What a caller learns of a number that was read within its range, and that a number within its range is read.
 -- Assumes nothing.
 use Prim.Native.Nat.{ℕ, _+_, _<_, _≤_}
 use mathlib.Core.Path.{_≡_, refl}
-use mathlib.Core.Logic.{_≢_}
 use mathlib.Core.Bool.{Bool, true, false}
 use native.Mathlib.Omega.{arith}
 use lib.Dec.{ltb, eqb}
-use borrow.Author.Tests.{ltb-true, eqb-false}
+use borrow.Author.Tests.{ltb-true, lt-ltb, eqb-false, ne-eqb}
 use Rattle.numbers.specs.declared.NumberRead.{NumberRead}
 use Rattle.numbers.specs.declared.NumberRead.the-variants.{Number, Refused as NumberRefused}
 use Rattle.numbers.specs.declared.FieldRead.{FieldRead}
@@ -30,6 +29,10 @@ pub field-read : (number : ℕ → NumberRead) (at limit e n p : ℕ) → fieldA
 unfolding fieldAt
 field-read number at limit e n p h = limited-read (number at) limit e n p h
 
+pub field-reads : (number : ℕ → NumberRead) (at limit e n p : ℕ) → number at ≡ Number n p → n < limit → fieldAt number at limit e ≡ Field n p
+unfolding fieldAt
+field-reads number at limit e n p r h = rw (r, lt-ltb n limit h)
+
 pub record Counted (r : NumberRead) (most n p : ℕ) : Type 0 where
   pub read : r ≡ Number n p
   pub least : 0 < n
@@ -52,3 +55,7 @@ count-read number at most e n p h =
 
 pub count-most : (number : ℕ → NumberRead) (at most e n p : ℕ) → countAt number at most e ≡ Field n p → n ≤ most
 count-most number at most e n p h = count-read number at most e n p h .most-of
+
+pub count-reads : (number : ℕ → NumberRead) (at most e n p : ℕ) → number at ≡ Number n p → 0 < n → n ≤ most → countAt number at most e ≡ Field n p
+unfolding countAt
+count-reads number at most e n p r l h = rw (field-reads number at (most + 1) e n p r (omega arith), ne-eqb n 0 (omega arith))
