@@ -1,13 +1,13 @@
 -- What a caller learns of a token that was read, and one turn of the loop over the tokens, of which k of n are read.
 -- Assumes nothing.
 use Prim.Native.Nat.{ℕ, suc, _+_, _-_, _<_, _≤_}
-use mathlib.Core.Path.{_≡_, refl, sym, _∙_}
+use mathlib.Core.Path.{_≡_, refl}
 use mathlib.Core.Bool.{Bool, true, false, _&&_, _||_}
 use mathlib.Core.List.{List, [], _∷_, _++_}
 use native.Mathlib.Nat.{mod-lt}
 use native.Mathlib.Omega.{arith}
 use lib.Dec.{eqb, leb, lit<}
-use borrow.Author.Tests.{leb-false, eqb-false, eqb-true, eq-eqb}
+use borrow.Author.Tests.{leb-false, lt-leb, eqb-false, eqb-true, eq-eqb, ne-eqb}
 use Rattle.numbers.specs.declared.NumberRead.{NumberRead}
 use Rattle.numbers.specs.declared.NumberRead.the-variants.{Number, Refused as NumberRefused}
 use Rattle.numbers.specs.Number.{pick, Source}
@@ -60,6 +60,21 @@ judged-read (Number u at) depth t next h =
 pub token-read : (number : ℕ → NumberRead) (at depth t next : ℕ) → tokenAt number at depth ≡ TokenIs t next → Judged (number at) depth t next
 unfolding tokenAt
 token-read number at depth t next h = judged-read (number at) depth t next h
+
+pub token-reads : (number : ℕ → NumberRead) (at depth t next : ℕ) → Judged (number at) depth t next → tokenAt number at depth ≡ TokenIs t next
+unfolding tokenAt tokenJudged
+token-reads number at depth t next j =
+    rw (
+      j .read,
+      lt-leb 256 t (j .small),
+      ne-eqb (kind t) 3 (omega (arith, j .kinds)),
+      neither-holds (eqb (kind t) 2) (eqb depth 0) (λ k. let l = j .closes (eqb-true _ _ k) in ne-eqb depth 0 (omega arith)),
+      neither-holds (eqb (kind t) 1) (leb 128 depth) (λ k. lt-leb 128 depth (j .opens (eqb-true _ _ k))),
+    )
+  where
+    neither-holds : (a b : Bool) → (a ≡ true → b ≡ false) → (a && b) ≡ false
+    neither-holds true b h = h refl
+    neither-holds false b h = refl
 
 -- never more than 128 steps are open
 pub depth-most : (r : NumberRead) (depth t next : ℕ) → Judged r depth t next → depth ≤ 128 → depthAfter t depth ≤ 128
