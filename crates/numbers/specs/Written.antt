@@ -3,7 +3,7 @@
 use Prim.Native.Nat.{ℕ, _+_, _<_, _/_, _%_}
 use mathlib.Core.Path.{_≡_}
 use mathlib.Core.Bool.{false}
-use mathlib.Core.List.{List, [], _∷_, _++_, List·Memᴰ}
+use mathlib.Core.List.{List, [], _∷_, _++_}
 use lib.Dec.{ltb}
 use Rattle.numbers.specs.declared.NumberRead.{NumberRead}
 use Rattle.numbers.specs.declared.NumberRead.the-variants.{Number}
@@ -11,7 +11,8 @@ use Rattle.numbers.specs.Number.{pick, Source}
 
 -- all numbers of the list are below the limit
 abbrev pub Below : ℕ → List ℕ → Type 0
-Below limit ns = (n : ℕ) → List·Memᴰ n ns → n < limit
+Below limit [] = Unit {0}
+Below limit (n ∷ ns) = (n < limit) × Below limit ns
 
 -- "groups of seven bits, lowest group first. Each byte but the last has its top bit (128) set. Shortest form only, two bytes at most":
 -- the bytes of a number below 128 × 128
