@@ -183,8 +183,8 @@ module _ (x : Source) (g : Grammar) where
       (rules-reads x n 0 (g .rules) (s .0) (h .0) [] (s .2) (h .2) (w .fits) (w .distinct)
       ∙ ap (λ z. accepted (record { nonterminals = n; start = z; rules = g .rules })) (sym zero-start))
 
-  pub accepted-is : (grammarFrom x ≡ accepted g) ↔ (Holds x (numbersOf g) × (g .start ≡ 0) × Wellformed g)
-  accepted-is = (said-read, said-reads)
+  pub grammar-is : (grammarFrom x ≡ accepted g) ↔ (Holds x (numbersOf g) × (g .start ≡ 0) × Wellformed g)
+  grammar-is = (said-read, said-reads)
 
-  pub accepted-wellformed : grammarFrom x ≡ accepted g → Wellformed g
-  accepted-wellformed h = said-read h .2
+  pub grammar-wellformed : grammarFrom x ≡ accepted g → Wellformed g
+  grammar-wellformed h = said-read h .2

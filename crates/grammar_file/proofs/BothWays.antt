@@ -13,7 +13,7 @@ use Rattle.vpg.specs.declared.Rule.{Rule}
 use Rattle.vpg.specs.Grammar.{Grammar}
 use Rattle.grammar_file.specs.GrammarFile.{accepted, grammarOf}
 use Rattle.grammar_file.specs.Wellformed.{Wellformed, rulesNumbers, numbersOf}
-use Rattle.grammar_file.proofs.Accepted.{accepted-is}
+use Rattle.grammar_file.proofs.Accepted.{grammar-is}
 
 -- every number of a well-formed grammar has two bytes at most
 rule-small : (n : ℕ) (r : Rule) → n ≤ 32 → Fits n r → Below 16384 (ruleNumbers r)
@@ -33,7 +33,7 @@ pub grammar-both-ways : (s : List ℕ) → Below 256 s → (g : Grammar)
     → (grammarOf s ≡ accepted g) ↔ ((s ≡ written (numbersOf g)) × (g .start ≡ 0) × Wellformed g)
 grammar-both-ways s b g = (
   λ h.
-      let a = accepted-is (bytes s) g .0 h in
+      let a = grammar-is (bytes s) g .0 h in
       (holds-is s b (numbersOf g) (numbers-small g (a .2)) .0 (a .0), a .1, a .2),
-  λ (e, z, w). accepted-is (bytes s) g .1 (holds-is s b (numbersOf g) (numbers-small g w) .1 e, z, w),
+  λ (e, z, w). grammar-is (bytes s) g .1 (holds-is s b (numbersOf g) (numbers-small g w) .1 e, z, w),
 )

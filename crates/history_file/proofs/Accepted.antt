@@ -125,8 +125,8 @@ module _ (x : Source) (ts : List ℕ) where
       rw (field-reads (x .number) 0 1025 10 (length ts) (f .0) (f .1) (omega (arith, w .few)))
       (tokens-reads x ts (f .0) (h .0) 0 [] (f .2) (h .2) (w .tokens) (w .nested))
 
-  pub accepted-is : (historyFrom x ≡ accepted ts) ↔ (Holds x (length ts ∷ ts) × Wellformed ts)
-  accepted-is = (said-read, said-reads)
+  pub history-is : (historyFrom x ≡ accepted ts) ↔ (Holds x (length ts ∷ ts) × Wellformed ts)
+  history-is = (said-read, said-reads)
 
-  pub accepted-wellformed : historyFrom x ≡ accepted ts → Wellformed ts
-  accepted-wellformed h = said-read h .1
+  pub history-wellformed : historyFrom x ≡ accepted ts → Wellformed ts
+  history-wellformed h = said-read h .1

@@ -11,7 +11,7 @@ use Rattle.numbers.specs.Written.{Below, written}
 use Rattle.numbers.proofs.Written.{holds-is}
 use Rattle.history_file.specs.HistoryFile.{accepted, historyOf}
 use Rattle.history_file.specs.Wellformed.{TokenNumber, Wellformed}
-use Rattle.history_file.proofs.Accepted.{accepted-is}
+use Rattle.history_file.proofs.Accepted.{history-is}
 
 -- every number of well-formed tokens has two bytes at most
 tokens-small : (ts : List ℕ) → ((t : ℕ) → List·Memᴰ t ts → TokenNumber t) → Below 16384 ts
@@ -26,7 +26,7 @@ numbers-small ts w = (omega arith, tokens-small ts (w .tokens))
 pub history-both-ways : (s : List ℕ) → Below 256 s → (ts : List ℕ) → (historyOf s ≡ accepted ts) ↔ ((s ≡ written (length ts ∷ ts)) × Wellformed ts)
 history-both-ways s b ts = (
   λ h.
-      let a = accepted-is (bytes s) ts .0 h in
+      let a = history-is (bytes s) ts .0 h in
       (holds-is s b (length ts ∷ ts) (numbers-small ts (a .1)) .0 (a .0), a .1),
-  λ (e, w). accepted-is (bytes s) ts .1 (holds-is s b (length ts ∷ ts) (numbers-small ts w) .1 e, w),
+  λ (e, w). history-is (bytes s) ts .1 (holds-is s b (length ts ∷ ts) (numbers-small ts w) .1 e, w),
 )
