@@ -2,7 +2,7 @@
 -- Assumes nothing.
 use Prim.Native.Nat.{ℕ, zero, suc}
 use mathlib.Core.Path.{_≡_, refl, sym, ap, _∙_}
-use mathlib.Core.Logic.{_↔_, _⊎_, inl, inr}
+use mathlib.Core.Logic.{_↔_, _≢_, _⊎_, inl, inr}
 use mathlib.Core.Bool.{Bool, true, false, false≢true}
 use mathlib.Core.List.{List, [], _∷_, _++_, append-nil, append-assoc, List·Memᴰ, List·Memᴰ·head, List·Memᴰ·tail, List·Memᴰ·not-nil, List·Memᴰ·cases-cons, List·Memᴰ·append-cases, List·Memᴰ·eq-of-singleton, Memᴰ·append-right}
 use mathlib.Core.Option.{some, Option·none-ne-some, Option·some-injective}
@@ -10,10 +10,11 @@ use native.Mathlib.Omega.{arith}
 use lib.ListN.{length, getElem?}
 use Rattle.numbers.specs.declared.FieldRead.{FieldRead}
 use Rattle.numbers.specs.declared.FieldRead.the-variants.{Field, Refused as FieldRefused}
-use Rattle.numbers.specs.Number.{pick, Source}
+use Rattle.numbers.specs.Number.{Source}
 use Rattle.numbers.specs.Field.{countAt}
 use Rattle.numbers.specs.Written.{NumbersAt, none, one, Holds}
 use Rattle.numbers.proofs.Fields.{Counted, count-read, count-reads}
+use Rattle.numbers.proofs.Picks.{picked-second}
 use Rattle.numbers.proofs.Standing.{none-left, one-left, join, part}
 use Rattle.rules.specs.declared.RuleRead.{RuleRead}
 use Rattle.rules.specs.declared.RuleRead.the-variants.{Read, Refused as RuleRefused}
@@ -59,6 +60,22 @@ member (x ∷ rs) (suc i) h = List·Memᴰ·tail (member rs i h)
 pub rule-fits : {g : Grammar} → Wellformed g → (i : ℕ) {r : Rule} → getElem? (g .rules) i ≡ some r → Fits (g .nonterminals) r
 rule-fits {g} w i {r} h = w .fits r (member (g .rules) i h)
 
+-- ── what was read, of an accepted file ──
+
+apart : {e : ℕ} {g : Grammar} → refused e ≢ accepted g
+apart h = let z : _≡_ {A = ℕ} 0 1 = cc in omega arith
+
+after-rule : (f : RuleRead) (rest : Rule → ℕ → GrammarFile) {g : Grammar} → afterRule f rest ≡ accepted g → (r : Rule) × (p : ℕ) × (f ≡ Read r p) × (rest r p ≡ accepted g)
+after-rule (Read r p) rest h = (r, p, refl, h)
+after-rule (RuleRefused e) rest h = absurd (apart h)
+
+after-count : (f : FieldRead) (rest : ℕ → ℕ → GrammarFile) {g : Grammar} → afterCount f rest ≡ accepted g → (n p : ℕ) × (f ≡ Field n p) × (rest n p ≡ accepted g)
+after-count (Field n p) rest h = (n, p, refl, h)
+after-count (FieldRefused e) rest h = absurd (apart h)
+
+same-grammar : {g k : Grammar} → accepted k ≡ accepted g → g ≡ k
+same-grammar h = cc
+
 -- ── the rules of a file ──
 
 module _ (x : Source) (nonterminals start : ℕ) where
@@ -72,17 +89,6 @@ module _ (x : Source) (nonterminals start : ℕ) where
     last : x .more end ≡ false
     fits : (r : Rule) → List·Memᴰ r rest → Fits nonterminals r
     distinct : Distinct rules → Distinct (rules ++ rest)
-
-  after-rule : (f : RuleRead) (rest : Rule → ℕ → GrammarFile) {g : Grammar} → afterRule f rest ≡ accepted g → (r : Rule) × (p : ℕ) × (f ≡ Read r p) × (rest r p ≡ accepted g)
-  after-rule (Read r p) rest h = (r, p, refl, h)
-  after-rule (RuleRefused e) rest h = absurd (let z : _≡_ {A = ℕ} 0 1 = cc in omega arith)
-
-  passes : (b : Bool) (e : ℕ) (f : GrammarFile) {g : Grammar} → pick b (refused e) f ≡ accepted g → (b ≡ false) × (f ≡ accepted g)
-  passes true e f h = absurd (let z : _≡_ {A = ℕ} 0 1 = cc in omega arith)
-  passes false e f h = (refl, h)
-
-  same-grammar : {g k : Grammar} → accepted k ≡ accepted g → g ≡ k
-  same-grammar h = cc
 
   -- one rule before those
   one-rule : {g : Grammar} {due at p : ℕ} {rules : List Rule} (r : Rule) → NumbersAt (x .number) at (ruleNumbers r) p → Fits nonterminals r
@@ -105,7 +111,7 @@ module _ (x : Source) (nonterminals start : ℕ) where
   rules-read : (g : Grammar) (due at : ℕ) (rules : List Rule) → rulesFrom x nonterminals start due at rules ≡ accepted g → RulesAre g due at rules
   unfolding rulesFrom
   rules-read g zero at rules h =
-      let p = passes (x .more at) 9 _ h in
+      let p = picked-second (x .more at) _ _ apart h in
       record {
         rest = [];
         is = rw append-nil (same-grammar (p .1));
@@ -119,7 +125,7 @@ module _ (x : Source) (nonterminals start : ℕ) where
   rules-read g (suc due) at rules h =
       let f = after-rule (ruleAt (x .number) at nonterminals) _ h in
       let i = rule-is (x .number) nonterminals at (f .0) (f .1) .0 (f .2) in
-      let p = passes (earlier (f .0) rules) 8 _ (f .3) in
+      let p = picked-second (earlier (f .0) rules) _ _ apart (f .3) in
       one-rule (f .0) (i .0) (i .1) (p .0) (rules-read g due (f .1) (rules ++ (f .0 ∷ [])) (p .1))
 
   rules-reads : (rest : List Rule) (at end : ℕ) (rules : List Rule) → NumbersAt (x .number) at (rulesNumbers rest) end → x .more end ≡ false
@@ -134,10 +140,6 @@ module _ (x : Source) (nonterminals start : ℕ) where
       (rules-reads rest (s .0) end (rules ++ (r ∷ [])) (s .2) l (λ q m. f q (List·Memᴰ·tail m)) (rw append-assoc d))
 
 -- ── the file ──
-
-after-count : (f : FieldRead) (rest : ℕ → ℕ → GrammarFile) {g : Grammar} → afterCount f rest ≡ accepted g → (n p : ℕ) × (f ≡ Field n p) × (rest n p ≡ accepted g)
-after-count (Field n p) rest h = (n, p, refl, h)
-after-count (FieldRefused e) rest h = absurd (let z : _≡_ {A = ℕ} 0 1 = cc in omega arith)
 
 module _ (x : Source) (g : Grammar) where
   abbrev Said : Type 0

@@ -2,8 +2,8 @@
 -- Assumes nothing.
 use Prim.Native.Nat.{ℕ, zero, suc}
 use mathlib.Core.Path.{_≡_, refl, ap, _∙_}
-use mathlib.Core.Logic.{_↔_, _⊎_, inl, inr}
-use mathlib.Core.Bool.{Bool, true, false}
+use mathlib.Core.Logic.{_↔_, _≢_, _⊎_, inl, inr}
+use mathlib.Core.Bool.{false}
 use mathlib.Core.List.{List, [], _∷_, _++_, append-nil, append-assoc, List·Memᴰ, List·Memᴰ·head, List·Memᴰ·tail, List·Memᴰ·not-nil, List·Memᴰ·cases-cons}
 use native.Mathlib.Omega.{arith}
 use lib.ListN.{length}
@@ -11,10 +11,11 @@ use lib.Dec.{ltb}
 use borrow.Author.Tests.{ltb-false}
 use Rattle.numbers.specs.declared.FieldRead.{FieldRead}
 use Rattle.numbers.specs.declared.FieldRead.the-variants.{Field, Refused as FieldRefused}
-use Rattle.numbers.specs.Number.{pick, Source}
+use Rattle.numbers.specs.Number.{Source}
 use Rattle.numbers.specs.Field.{fieldAt}
 use Rattle.numbers.specs.Written.{NumbersAt, none, one, Holds}
 use Rattle.numbers.proofs.Fields.{Limited, field-read, field-reads}
+use Rattle.numbers.proofs.Picks.{picked-second}
 use Rattle.numbers.proofs.Standing.{none-left, one-left}
 use Rattle.history_file.specs.declared.TokenRead.{TokenRead}
 use Rattle.history_file.specs.declared.TokenRead.the-variants.{Token as TokenIs, Refused as TokenRefused}
@@ -22,17 +23,16 @@ use Rattle.history_file.specs.HistoryFile.{HistoryFile, accepted, refuse
 use Rattle.history_file.specs.Wellformed.{TokenNumber, Nested, Wellformed}
 use Rattle.history_file.proofs.Tokens.{Judged, token-read, token-reads}
 
+apart : {e : ℕ} {ts : List ℕ} → refused e ≢ accepted ts
+apart h = let z : _≡_ {A = ℕ} 0 1 = cc in omega arith
+
 after-token : (f : TokenRead) (rest : ℕ → ℕ → HistoryFile) {ts : List ℕ} → afterToken f rest ≡ accepted ts → (t p : ℕ) × (f ≡ TokenIs t p) × (rest t p ≡ accepted ts)
 after-token (TokenIs t p) rest h = (t, p, refl, h)
-after-token (TokenRefused e) rest h = absurd (let z : _≡_ {A = ℕ} 0 1 = cc in omega arith)
+after-token (TokenRefused e) rest h = absurd (apart h)
 
 after-count : (f : FieldRead) (rest : ℕ → ℕ → HistoryFile) {ts : List ℕ} → afterCount f rest ≡ accepted ts → (n p : ℕ) × (f ≡ Field n p) × (rest n p ≡ accepted ts)
 after-count (Field n p) rest h = (n, p, refl, h)
-after-count (FieldRefused e) rest h = absurd (let z : _≡_ {A = ℕ} 0 1 = cc in omega arith)
-
-passes : (b : Bool) (e : ℕ) (f : HistoryFile) {ts : List ℕ} → pick b (refused e) f ≡ accepted ts → (b ≡ false) × (f ≡ accepted ts)
-passes true e f h = absurd (let z : _≡_ {A = ℕ} 0 1 = cc in omega arith)
-passes false e f h = (refl, h)
+after-count (FieldRefused e) rest h = absurd (apart h)
 
 same-tokens : {ts us : List ℕ} → accepted us ≡ accepted ts → ts ≡ us
 same-tokens h = cc
@@ -70,8 +70,8 @@ module _ (x : Source) where
   tokens-read : (ts : List ℕ) (due at depth : ℕ) (before : List ℕ) → tokensFrom x due at depth before ≡ accepted ts → TokensAre ts due at depth before
   unfolding tokensFrom
   tokens-read ts zero at depth before h =
-      let o = passes (ltb 0 depth) 13 _ h in
-      let p = passes (x .more at) 9 _ (o .1) in
+      let o = picked-second (ltb 0 depth) _ _ apart h in
+      let p = picked-second (x .more at) _ _ apart (o .1) in
       let closed = ltb-false 0 depth (o .0) in
       record {
         rest = [];

@@ -11,10 +11,10 @@ use lib.Dec.{ltb, eqb}
 use lib.ListN.{length, getD, drop, length-append, length-drop, drop-of-length-le}
 use lib.Seq.{drop-cons, drop-drop, drop-append-seam}
 use borrow.Author.Tests.{ltb-true, ltb-false, lt-ltb, le-ltb, eqb-false, ne-eqb}
-use Rattle.numbers.specs.declared.NumberRead.{NumberRead}
 use Rattle.numbers.specs.declared.NumberRead.the-variants.{Number, Refused}
 use Rattle.numbers.specs.Number.{pick, twoBytes, numberAt, bytes}
 use Rattle.numbers.specs.Written.{Below, shortest, written, NumbersAt, none, one, Holds}
+use Rattle.numbers.proofs.Picks.{picked-first, picked-second}
 
 below-at : (limit : ℕ) (ns : List ℕ) (i : ℕ) → Below limit ns → i < length ns → getD ns i 0 < limit
 below-at limit [] i b h = absurd (omega arith)
@@ -62,13 +62,8 @@ shortest-some n = go (ltb n 128)
     go true = omega arith
     go false = omega arith
 
-passes : (b : Bool) (f : NumberRead) (e : ℕ) {n next : ℕ} → pick b f (Refused e) ≡ Number n next → (b ≡ true) × (f ≡ Number n next)
-passes true f e h = (refl, h)
-passes false f e h = absurd (let z : _≡_ {A = ℕ} 0 1 = cc in omega arith)
-
-fails : (b : Bool) (f : NumberRead) (e : ℕ) {n next : ℕ} → pick b (Refused e) f ≡ Number n next → (b ≡ false) × (f ≡ Number n next)
-fails true f e h = absurd (let z : _≡_ {A = ℕ} 0 1 = cc in omega arith)
-fails false f e h = (refl, h)
+apart : {e n next : ℕ} → Refused e ≢ Number n next
+apart h = let z : _≡_ {A = ℕ} 0 1 = cc in omega arith
 
 module _ (s : List ℕ) (at : ℕ) where
   stands-one : at < length s → getD s at 0 < 128 → Stands s at (getD s at 0) (at + 1)
@@ -86,7 +81,7 @@ module _ (s : List ℕ) (at : ℕ) where
   number-read : Below 256 s → (n next : ℕ) → numberAt s at ≡ Number n next → Stands s at n next
   unfolding numberAt
   number-read b n next h =
-      let p = passes (ltb at (length s)) _ 1 h in
+      let p = picked-first (ltb at (length s)) _ _ apart h in
       go (ltb (getD s at 0) 128) (ltb-true at (length s) (p .0)) refl (p .1)
     where
       go : (t : Bool) → at < length s → ltb (getD s at 0) 128 ≡ t
@@ -96,9 +91,9 @@ module _ (s : List ℕ) (at : ℕ) where
           let ep : at + 1 ≡ next = cc in
           rw (← en, ← ep) (stands-one l (ltb-true _ _ e))
       go false l e r =
-          let q = passes (ltb (at + 1) (length s)) _ 1 r in
-          let f = fails (eqb (getD s (at + 1) 0) 0) _ 2 (q .1) in
-          let p = passes (ltb (getD s (at + 1) 0) 128) _ 2 (f .1) in
+          let q = picked-first (ltb (at + 1) (length s)) _ _ apart r in
+          let f = picked-second (eqb (getD s (at + 1) 0) 0) _ _ apart (q .1) in
+          let p = picked-first (ltb (getD s (at + 1) 0) 128) _ _ apart (f .1) in
           let en : getD s at 0 - 128 + getD s (at + 1) 0 * 128 ≡ n = cc in
           let ep : at + 1 + 1 ≡ next = cc in
           rw (← en, ← ep)
