@@ -1,4 +1,5 @@
 pub mod Accepted
 pub mod Answers
 pub mod BothWays
+pub mod Ready
 pub mod Turns

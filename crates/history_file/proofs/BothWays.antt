@@ -7,23 +7,23 @@ use mathlib.Core.List.{List, [], _∷_, List·Memᴰ, List·Memᴰ·head, List·
 use native.Mathlib.Omega.{arith}
 use lib.ListN.{length}
 use Rattle.numbers.specs.Number.{bytes}
-use Rattle.numbers.specs.Written.{Below, written}
+use Rattle.numbers.specs.Written.{AllBelow, written}
 use Rattle.numbers.proofs.Written.{holds-is}
 use Rattle.history_file.specs.HistoryFile.{accepted, historyOf}
 use Rattle.history_file.specs.Wellformed.{TokenNumber, Wellformed}
 use Rattle.history_file.proofs.Accepted.{history-is}
 
 -- every number of well-formed tokens has two bytes at most
-tokens-small : (ts : List ℕ) → ((t : ℕ) → List·Memᴰ t ts → TokenNumber t) → Below 16384 ts
+tokens-small : (ts : List ℕ) → ((t : ℕ) → List·Memᴰ t ts → TokenNumber t) → AllBelow 16384 ts
 tokens-small [] h = tt
 tokens-small (t ∷ ts) h =
     let k = h t (List·Memᴰ·head refl) in
     (omega arith, tokens-small ts (λ u m. h u (List·Memᴰ·tail m)))
 
-numbers-small : (ts : List ℕ) → Wellformed ts → Below 16384 (length ts ∷ ts)
+numbers-small : (ts : List ℕ) → Wellformed ts → AllBelow 16384 (length ts ∷ ts)
 numbers-small ts w = (omega arith, tokens-small ts (w .tokens))
 
-pub history-both-ways : (s : List ℕ) → Below 256 s → (ts : List ℕ) → (historyOf s ≡ accepted ts) ↔ ((s ≡ written (length ts ∷ ts)) × Wellformed ts)
+pub history-both-ways : (s : List ℕ) → AllBelow 256 s → (ts : List ℕ) → (historyOf s ≡ accepted ts) ↔ ((s ≡ written (length ts ∷ ts)) × Wellformed ts)
 history-both-ways s b ts = (
   λ h.
       let a = history-is (bytes s) ts .0 h in

@@ -13,15 +13,15 @@ use lib.Seq.{drop-cons, drop-drop, drop-append-seam}
 use borrow.Author.Tests.{ltb-true, ltb-false, lt-ltb, le-ltb, eqb-false, ne-eqb}
 use Rattle.numbers.specs.declared.NumberRead.the-variants.{Number, Refused}
 use Rattle.numbers.specs.Number.{pick, twoBytes, numberAt, bytes}
-use Rattle.numbers.specs.Written.{Below, shortest, written, NumbersAt, none, one, Holds}
+use Rattle.numbers.specs.Written.{AllBelow, shortest, written, NumbersAt, none, one, Holds}
 use Rattle.numbers.proofs.Picks.{picked-first, picked-second}
 
-below-at : (limit : ℕ) (ns : List ℕ) (i : ℕ) → Below limit ns → i < length ns → getD ns i 0 < limit
+below-at : (limit : ℕ) (ns : List ℕ) (i : ℕ) → AllBelow limit ns → i < length ns → getD ns i 0 < limit
 below-at limit [] i b h = absurd (omega arith)
 below-at limit (n ∷ ns) zero b h = b .0
 below-at limit (n ∷ ns) (suc i) b h = below-at limit ns i (b .1) (omega arith)
 
-pub below-append : (limit : ℕ) (ns ms : List ℕ) → Below limit ns → Below limit ms → Below limit (ns ++ ms)
+pub below-append : (limit : ℕ) (ns ms : List ℕ) → AllBelow limit ns → AllBelow limit ms → AllBelow limit (ns ++ ms)
 below-append limit [] ms b c = c
 below-append limit (n ∷ ns) ms b c = (b .0, below-append limit ns ms (b .1) c)
 
@@ -78,7 +78,7 @@ module _ (s : List ℕ) (at : ℕ) where
       let w : shortest n ≡ getD s at 0 ∷ getD s (at + 1) 0 ∷ [] = two-bytes n (omega arith) ∙ rw (low-is, high-is) in
       record { small = omega arith; next-is = rw w (omega arith); here = rw (w, drop-at s at (omega arith), drop-at s (at + 1) l) }
 
-  number-read : Below 256 s → (n next : ℕ) → numberAt s at ≡ Number n next → Stands s at n next
+  number-read : AllBelow 256 s → (n next : ℕ) → numberAt s at ≡ Number n next → Stands s at n next
   unfolding numberAt
   number-read b n next h =
       let p = picked-first (ltb at (length s)) _ _ apart h in
@@ -129,7 +129,7 @@ module _ (s : List ℕ) (at : ℕ) where
             e,
           )
 
-  pub number-is : Below 256 s → (n next : ℕ) → (numberAt s at ≡ Number n next) ↔ Stands s at n next
+  pub number-is : AllBelow 256 s → (n next : ℕ) → (numberAt s at ≡ Number n next) ↔ Stands s at n next
   number-is b n next = (number-read b n next, number-reads n next)
 
   pub next-most : (n next : ℕ) → Stands s at n next → next ≤ length s
@@ -151,12 +151,12 @@ number-written p n q h =
     number-reads s (length p) n _ i ∙ ap (Number n) (i .next-is)
 
 module _ (s : List ℕ) where
-  pub numbers-read : Below 256 s → {at next : ℕ} {ns : List ℕ} → NumbersAt (numberAt s) at ns next → drop at s ≡ written ns ++ drop next s
+  pub numbers-read : AllBelow 256 s → {at next : ℕ} {ns : List ℕ} → NumbersAt (numberAt s) at ns next → drop at s ≡ written ns ++ drop next s
   unfolding written
   numbers-read b none = refl
   numbers-read b (one {at} {n} {p} e rest) = number-read s at b n p e .here ∙ rw (numbers-read b rest, append-assoc)
 
-  pub numbers-reads : (ns : List ℕ) (at : ℕ) (rest : List ℕ) → Below 16384 ns → drop at s ≡ written ns ++ rest
+  pub numbers-reads : (ns : List ℕ) (at : ℕ) (rest : List ℕ) → AllBelow 16384 ns → drop at s ≡ written ns ++ rest
       → (next : ℕ) × NumbersAt (numberAt s) at ns next × (drop next s ≡ rest)
   unfolding written
   numbers-reads [] at rest h e = (at, none, e)
@@ -166,7 +166,7 @@ module _ (s : List ℕ) where
       (r .0, one (number-reads s at n (f .0) (f .1)) (r .1), r .2)
 
   -- a file of bytes holds these numbers, and nothing follows them, exactly where it is their writing
-  pub holds-is : Below 256 s → (ns : List ℕ) → Below 16384 ns → Holds (bytes s) ns ↔ (s ≡ written ns)
+  pub holds-is : AllBelow 256 s → (ns : List ℕ) → AllBelow 16384 ns → Holds (bytes s) ns ↔ (s ≡ written ns)
   holds-is b ns small = (
     λ (next, i, done). numbers-read b i ∙ rw (drop-of-length-le s (ltb-false next (length s) done), append-nil),
     λ e.

@@ -10,9 +10,9 @@ use Rattle.numbers.specs.declared.NumberRead.the-variants.{Number}
 use Rattle.numbers.specs.Number.{pick, Source}
 
 -- all numbers of the list are below the limit
-abbrev pub Below : ℕ → List ℕ → Type 0
-Below limit [] = Unit {0}
-Below limit (n ∷ ns) = (n < limit) × Below limit ns
+abbrev pub AllBelow : ℕ → List ℕ → Type 0
+AllBelow limit [] = Unit {0}
+AllBelow limit (n ∷ ns) = (n < limit) × AllBelow limit ns
 
 -- "groups of seven bits, lowest group first. Each byte but the last has its top bit (128) set. Shortest form only, two bytes at most":
 -- the bytes of a number below 128 × 128
