@@ -26,7 +26,10 @@ pub fn grammar_check(grammar: &[u8]) -> GrammarCheck
     let read = grammar_file::read_grammar(grammar);
     let answer = read.answer;
     match answer {
-        GrammarAnswer::Accepted(nonterminals, _, rules) => GrammarCheck::Accepted(nonterminals, rules),
+        GrammarAnswer::Accepted(nonterminals, _, rules) => GrammarCheck::Accepted(
+            nonterminals,
+            rules,
+        ),
         GrammarAnswer::Refused(e) => GrammarCheck::Refused(e),
     }
 }

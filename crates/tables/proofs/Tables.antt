@@ -153,4 +153,3 @@ fill-at (r ∷ rs) t k (suc j) d room h =
 pub table-rule : (rs : List Rule) (k : ℕ) (d : Rule) → length rs ≤ 128 → k < length rs → ruleIn (tableOf rs) k ≡ getD rs k d
 unfolding tableOf
 table-rule rs k d few h = rw (zero-add k) at (fill-at rs (replicate 768 0) 0 k d (omega arith) h)
-
