@@ -1,8 +1,8 @@
 -- What `read_history` hands to the layers above: the count and the token numbers of a history file.
 -- Assumes nothing.
-use Prim.Native.Nat.{ℕ, _-_}
+use Prim.Native.Nat.{ℕ, _-_, _<_, _≤_}
 use mathlib.Core.List.{List, _++_}
-use lib.ListN.{length, replicate}
+use lib.ListN.{length, replicate, getD}
 use Rattle.history_file.specs.declared.HistoryAnswer.{HistoryAnswer}
 use Rattle.history_file.specs.declared.HistoryAnswer.the-variants.{Accepted, Refused}
 use Rattle.history_file.specs.declared.HistoryRead.{HistoryRead}
@@ -18,3 +18,8 @@ refusedRead e = record { answer = Refused e; tokens = replicate 1024 0 }
 abbrev pub historyRead : HistoryFile → HistoryRead
 historyRead (accepted ts) = record { answer = Accepted (length ts); tokens = padded ts }
 historyRead (refused e) = refusedRead e
+
+-- what the layers above may take for granted of token numbers: at most 1,024, and each name has 16 bits
+pub record Tokens (ts : List ℕ) : Type 0 where
+  pub few : length ts ≤ 1024
+  pub small : (i : ℕ) → i < length ts → getD ts i 0 < 262144

@@ -1,11 +1,15 @@
 // Reads a history file: the token numbers, or the number of the first fault in file order.
 use numbers::FieldRead;
 use numbers::NumberRead;
+use vpg::CloseName;
+use vpg::MarkName;
+use vpg::OpenName;
+use vpg::Token;
 ghost use mathlib.Core.Path.{_≡_};
 ghost use mathlib.Core.List.{[]};
-ghost use Prim.Native.Nat.{_≤_};
+ghost use Prim.Native.Nat.{_≤_, _<_};
 ghost use Rattle.numbers.specs.Number.{numberAt, bytes};
-ghost use Rattle.history_file.specs.HistoryFile.{refusalOfToken, tokenJudged, tokenAt, depthAfter, tokensFrom, historyOf};
+ghost use Rattle.history_file.specs.HistoryFile.{tokenOf, refusalOfToken, tokenJudged, tokenAt, depthAfter, tokensFrom, historyOf};
 ghost use Rattle.history_file.specs.HistoryTokens.{refusedRead, historyRead};
 
 // At most this many tokens (refusal 10), and this many steps open together (refusal 14).
@@ -20,6 +24,22 @@ const TOKEN_NUMBERS: u32 = 256;
 pub enum TokenRead {
     Token(u32, usize),
     Refused(u8),
+}
+
+// The token of a number.
+pub fn token_of(t: u32) -> Token
+    requires { ⌜ t < 262144 ⌝ }
+    ensures { λ r. ⌜ r ≡ tokenOf t ⌝ }
+{
+    let name = (t / 4) as u16;
+    let kind = t % 4;
+    if kind == 0 {
+        return Token::Mark(MarkName(name));
+    }
+    if kind == 1 {
+        return Token::Open(OpenName(name));
+    }
+    Token::Close(CloseName(name))
 }
 
 // How many tokens there are, or the refusal.

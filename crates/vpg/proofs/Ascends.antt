@@ -1,8 +1,8 @@
 -- `entries` stand in strictly ascending order, so none of them stands twice.
 -- Assumes nothing.
-use Prim.Native.Nat.{ℕ, zero, suc, _+_, _<_}
+use Prim.Native.Nat.{ℕ, suc, _+_}
 use native.Mathlib.Omega.{arith}
-use mathlib.Core.Path.{_≡_, refl, sym, _∙_, ap, subst}
+use mathlib.Core.Path.{refl}
 use mathlib.Core.Logic.{_⊎_, inl, inr, ⊎-elim}
 use mathlib.Core.Bool.{Bool, true, false}
 use mathlib.Core.List.{List, [], _∷_, _++_, map, List·Memᴰ, List·Memᴰ·head, List·Memᴰ·tail, List·Memᴰ·not-nil, List·Memᴰ·append-cases, Memᴰ·of-map}
@@ -12,7 +12,7 @@ use Rattle.vpg.specs.declared.Token.{Token}
 use Rattle.vpg.specs.Grammar.{Rules, Grammar}
 use Rattle.vpg.specs.Order.{Before, Ascending}
 use Rattle.vpg.specs.Runs.{State, move, ends, collect, once, follow, runs, entries}
-use Rattle.vpg.proofs.Take.{Hit, hit}
+use Rattle.vpg.proofs.Take.{hit}
 
 asc-append : (l l′ : List (List ℕ)) → Ascending l → Ascending l′ → ((x : List ℕ) → List·Memᴰ x l → (y : List ℕ) → List·Memᴰ y l′ → Before x y) → Ascending (l ++ l′)
 asc-append [] l′ p q h = q
@@ -52,8 +52,3 @@ asc-runs g (t ∷ w) s =
 
 pub entries-ascending : (g : Grammar) (w : List Token) → Ascending (entries g w)
 entries-ascending g w = asc-runs (g .rules) w (g .start, [])
-
-pub before-irreflexive : (e : List ℕ) → Before e e → ⊥
-before-irreflexive [] h = h
-before-irreflexive (x ∷ e) (inl h) = omega arith
-before-irreflexive (x ∷ e) (inr h) = before-irreflexive e (h .1)

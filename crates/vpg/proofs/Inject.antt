@@ -2,13 +2,10 @@
 -- Assumes nothing.
 use Prim.Native.Nat.{ℕ}
 use native.Mathlib.Omega.{arith}
-use mathlib.Core.Path.{_≡_, refl, sym, _∙_, ap}
-use mathlib.Core.List.{List, [], _∷_, _++_, append-assoc, append-nil}
-use mathlib.Core.Option.{some}
-use lib.ListN.{getElem?}
-use Rattle.vpg.specs.declared.Rule.{Rule}
+use mathlib.Core.Path.{_≡_}
+use mathlib.Core.List.{List, [], _++_, append-assoc}
 use Rattle.vpg.specs.declared.Token.{Token}
-use Rattle.vpg.specs.Grammar.{Rules, Tree, leaf, mark, step, code, Derives, by-empty, by-mark, by-step}
+use Rattle.vpg.specs.Grammar.{Rules, Tree, code, Derives, by-empty, by-mark, by-step}
 
 record Same (L L′ : ℕ) (v v′ : List Token) (t t′ : Tree) (f f′ : List ℕ) : Type 0 where
   nonterminals : L ≡ L′

@@ -1,4 +1,13 @@
 pub mod Ascends
+pub mod Basics
+pub mod Calls
+pub mod Entries
+pub mod Find
 pub mod Inject
+pub mod Listing
+pub mod Order
+pub mod Positions
+pub mod Sets
 pub mod Sound
+pub mod Steps
 pub mod Take

@@ -1,17 +1,16 @@
 -- `entries` has the readings and nothing else.
 -- Assumes nothing.
 use Prim.Native.Nat.{ℕ}
-use mathlib.Core.Path.{_≡_, refl, sym, _∙_, ap, subst}
+use mathlib.Core.Path.{_≡_, refl}
 use mathlib.Core.Logic.{_↔_}
-use mathlib.Core.List.{List, [], _∷_, _++_, append-assoc, append-nil, List·Memᴰ, Memᴰ·cast}
+use mathlib.Core.List.{List, [], _∷_, _++_, append-assoc, append-nil, List·Memᴰ}
 use mathlib.Core.Option.{some}
 use lib.ListN.{getElem?}
-use Rattle.vpg.specs.declared.CloseName.{CloseName}
 use Rattle.vpg.specs.declared.Rule.{Rule}
 use Rattle.vpg.specs.declared.Token.{Token}
 use Rattle.vpg.specs.Grammar.{Rules, Grammar, Tree, leaf, mark, step, code, Derives, by-empty, by-mark, by-step, Reading}
-use Rattle.vpg.specs.Runs.{Stack, State, runs, entries}
-use Rattle.vpg.proofs.Take.{Move, Taken, Ended, taken, take, ended, end}
+use Rattle.vpg.specs.Runs.{Stack, runs, entries}
+use Rattle.vpg.proofs.Take.{Move, taken, take, ended, end}
 use Rattle.vpg.proofs.Take
 
 -- w begins with what a tree from L derives, and e with its code; P holds of what is left of both

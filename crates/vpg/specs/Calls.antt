@@ -1,10 +1,13 @@
 -- One call of first reading or next reading on the buffer alone (document 01, "Services"): what it answers and what it leaves.
 -- Assumes nothing.
-use Prim.Native.Nat.{ℕ, zero, suc}
+use Prim.Native.Nat.{ℕ, suc}
 use mathlib.Core.List.{List, [], _∷_, _++_}
 use mathlib.Core.Option.{none, some}
-use lib.ListN.{take, drop}
+use lib.ListN.{take, drop, length}
+use Rattle.vpg.specs.declared.Token.{Token}
+use Rattle.vpg.specs.Grammar.{Grammar}
 use Rattle.vpg.specs.Listing.{Call, first, next, Answer, written, no-reading, no-further, refused, Subject, due, over, Shown, find}
+use Rattle.vpg.specs.Runs.{entries}
 
 -- "n + 1 bytes written, or none and no byte written"
 abbrev pub firstOn : List (List ℕ) → ℕ → List ℕ → Answer × List ℕ
@@ -24,3 +27,7 @@ abbrev pub callOn : Subject → Call → List ℕ → Answer × List ℕ
 callOn (due k) c buf = (refused k, buf)
 callOn (over l n) first buf = firstOn l n buf
 callOn (over l n) next buf = nextOn (find (take n buf) l) l n buf
+
+-- both files pass and the buffer is long enough: g is the grammar, w are the history's tokens
+abbrev pub overEntries : Grammar → List Token → Subject
+overEntries g w = over (entries g w) (suc (length w))

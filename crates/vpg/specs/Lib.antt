@@ -1,6 +1,10 @@
 pub mod Calls
+pub mod Counted
+pub mod Extremes
 pub mod Grammar
 pub mod Listing
 pub mod Order
+pub mod Positions
 pub mod Runs
 pub mod Sets
+pub mod Steps

@@ -1,0 +1,78 @@
+-- The laws of `bit` and `addBit`, over every width.
+-- Assumes nothing.
+use Prim.Native.Nat.{ℕ, zero, suc, _+_, _/_, _%_, _^_, _<_, _≤_}
+use mathlib.Core.Bool.{false, _||_}
+use mathlib.Core.Path.{_≡_, refl, sym, _∙_}
+use native.Mathlib.Nat.{zero-div, div-one, div-eq-of-lt, lt-of-lt-of-le, mod-lt, pow-suc, mul-div-cancel, mul-mod-left}
+use native.Mathlib.Omega.{arith}
+use lib.Dec.{eqb, lit<, eqb·zero-suc, eqb·suc-zero, eqb·suc-suc}
+use lib.Arith.{lt-one}
+use lib.Bits.{bitOr, or-shr, or-mod, or-lt}
+use lib.Pow.{pow-lt, pow-mono, shr-shr, shr-lt}
+use Rattle.bits.specs.Bit.{bit, addBit}
+
+-- the empty set has no member
+pub bit-zero : (b : ℕ) → bit 0 b ≡ false
+bit-zero b = rw zero-div
+
+-- a set within a width has no member from there on
+pub bit-above : (k m b : ℕ) → m < 2 ^ k → k ≤ b → bit m b ≡ false
+bit-above k m b h l = rw (div-eq-of-lt (lt-of-lt-of-le h (pow-mono l)))
+
+pub bit-first : (m : ℕ) → bit m 0 ≡ eqb (m % 2) 1
+bit-first m = rw div-one
+
+-- a later digit of a number is a digit of its half
+pub bit-suc : (m b : ℕ) → bit m (suc b) ≡ bit (m / 2) b
+bit-suc m b = let e : suc b ≡ 1 + b = omega arith in rw (e, ← shr-shr m 1 b)
+
+-- two digits with one test are one digit
+digit : (x y : ℕ) → x < 2 → y < 2 → eqb x 1 ≡ eqb y 1 → x ≡ y
+digit zero zero h h′ e = refl
+digit zero (suc zero) h h′ e = cc
+digit (suc zero) zero h h′ e = cc
+digit (suc zero) (suc zero) h h′ e = refl
+digit (suc (suc x)) y h h′ e = omega arith
+digit zero (suc (suc y)) h h′ e = omega arith
+digit (suc zero) (suc (suc y)) h h′ e = omega arith
+
+half : (k x : ℕ) → x < 2 ^ suc k → x / 2 < 2 ^ k
+half k x h = let e : suc k ≡ k + 1 = omega arith in shr-lt k 1 (rw e at h)
+
+-- two sets of one width with the same members are one number
+pub same : (k m n : ℕ) → m < 2 ^ k → n < 2 ^ k → ((b : ℕ) → b < k → bit m b ≡ bit n b) → m ≡ n
+same zero m n h h′ e = lt-one h ∙ sym (lt-one h′)
+same (suc k) m n h h′ e =
+    let high = same k (m / 2) (n / 2) (half k m h) (half k n h′) (λ b l. sym (bit-suc m b) ∙ e (suc b) (omega arith) ∙ bit-suc n b) in
+    let low = digit (m % 2) (n % 2) (mod-lt m (lit< tt)) (mod-lt n (lit< tt)) (sym (bit-first m) ∙ e 0 (omega arith) ∙ bit-first n) in
+    omega arith
+
+or-digit : (x y : ℕ) → x < 2 → y < 2 → eqb (bitOr x y) 1 ≡ (eqb x 1 || eqb y 1)
+or-digit zero zero h h′ = refl
+or-digit zero (suc zero) h h′ = refl
+or-digit (suc zero) zero h h′ = refl
+or-digit (suc zero) (suc zero) h h′ = refl
+or-digit (suc (suc x)) y h h′ = absurd (omega arith)
+or-digit zero (suc (suc y)) h h′ = absurd (omega arith)
+or-digit (suc zero) (suc (suc y)) h h′ = absurd (omega arith)
+
+-- the union has the members of both
+pub bit-or : (m n b : ℕ) → bit (bitOr m n) b ≡ (bit m b || bit n b)
+bit-or m n b =
+    rw (or-shr m n b, or-mod (m / 2 ^ b) (n / 2 ^ b) 1)
+    (or-digit (m / 2 ^ b % 2) (n / 2 ^ b % 2) (mod-lt (m / 2 ^ b) (lit< tt)) (mod-lt (n / 2 ^ b) (lit< tt)))
+
+-- 2 ^ b has the one member b
+pub bit-pow : (b k : ℕ) → bit (2 ^ b) k ≡ eqb k b
+bit-pow zero zero = refl
+bit-pow zero (suc k) = bit-suc 1 k ∙ bit-zero k ∙ sym (eqb·suc-zero k)
+bit-pow (suc b) zero = bit-first (2 ^ suc b) ∙ rw (pow-suc 2 b, mul-mod-left (2 ^ b) 2) (sym (eqb·zero-suc b))
+bit-pow (suc b) (suc k) = bit-suc (2 ^ suc b) k ∙ rw (pow-suc 2 b, mul-div-cancel (2 ^ b) (lit< tt), eqb·suc-suc k b) (bit-pow b k)
+
+-- m with b has the members of m, and b
+pub bit-add : (m b k : ℕ) → bit (addBit m b) k ≡ (bit m k || eqb k b)
+bit-add m b k = bit-or m (2 ^ b) k ∙ rw bit-pow
+
+-- and stays within the width
+pub add-below : (k m b : ℕ) → m < 2 ^ k → b < k → addBit m b < 2 ^ k
+add-below k m b h l = or-lt k m (2 ^ b) h (pow-lt l)

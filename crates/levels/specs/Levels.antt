@@ -1,0 +1,25 @@
+-- Arrays by position: the matching closes, and the nonterminals that derive the rest of each level.
+-- Assumes nothing.
+use Prim.Native.Nat.{ℕ, suc, _≤_}
+use mathlib.Core.Path.{_≡_}
+use mathlib.Core.List.{List}
+use lib.ListN.{length, getD, drop}
+use Rattle.bits.specs.Bit.{bit}
+use Rattle.vpg.specs.declared.Token.{Token}
+use Rattle.vpg.specs.Grammar.{Rules}
+use Rattle.masks.specs.Masks.{masks}
+use Rattle.masks.specs.Pending.{pendingAt, closeOf}
+
+-- the first pending close from a token on; top: the first one behind the token, beyond: the one behind that
+abbrev pub nextTop : Token → ℕ → ℕ → ℕ → ℕ
+nextTop (Token.Mark c) i top beyond = top
+nextTop (Token.Open a) i top beyond = beyond
+nextTop (Token.Close b) i top beyond = i
+
+-- from position p on, m has the first pending close behind each position (for an open, its own); the length where there is none
+abbrev pub Matched : List Token → List ℕ → ℕ → Type 0
+Matched w m p = (k : ℕ) → p ≤ k → k ≤ length w → getD m k 0 ≡ closeOf (pendingAt w (suc k)) (length w)
+
+-- from position p on, a nonterminal is in the word of a position exactly when it derives the rest of the level that starts there
+abbrev pub Leveled : Rules → List Token → List ℕ → ℕ → Type 0
+Leveled g w mask p = (k : ℕ) → p ≤ k → k ≤ length w → (L : ℕ) → bit (getD mask k 0) L ≡ masks g (drop k w) .0 L

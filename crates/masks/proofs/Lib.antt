@@ -1,0 +1,4 @@
+pub mod Alive
+pub mod Pending
+pub mod Search
+pub mod Walk

@@ -1,0 +1,26 @@
+-- Walking over the tokens by an array: which rules can stand at a position, and where they lead.
+-- Assumes nothing.
+use Prim.Native.Nat.{ℕ}
+use mathlib.Core.Bool.{Bool}
+use mathlib.Core.List.{List, [], _∷_}
+use Rattle.vpg.specs.declared.Rule.{Rule}
+use Rattle.vpg.specs.declared.Token.{Token}
+use Rattle.vpg.specs.Grammar.{Rules}
+use Rattle.masks.specs.Masks.{applies, finishes, masks}
+
+-- can R stand before these tokens
+unfoldable pub testAt : Rules → List Token → Rule → Bool
+testAt g [] R = finishes R
+testAt g (t ∷ v) R = applies (masks g v) t R
+
+-- the nonterminal at the next position; d: the one behind the close, where the token is a close
+abbrev pub inner : Rule → ℕ → ℕ
+inner (Rule.Empty M) d = d
+inner (Rule.Mark M c M₁) d = M₁
+inner (Rule.Step M a M₁ b M₂) d = M₁
+
+-- the nonterminal behind the close of a step; d: what stands there already
+abbrev pub later : Rule → ℕ → ℕ
+later (Rule.Empty M) d = d
+later (Rule.Mark M c M₁) d = d
+later (Rule.Step M a M₁ b M₂) d = M₂
