@@ -5,10 +5,14 @@ use mathlib.Core.Path.{_≡_}
 use mathlib.Core.List.{List}
 use lib.ListN.{length, getD, drop}
 use Rattle.bits.specs.Bit.{bit}
+use Rattle.vpg.specs.declared.Rule.{Rule}
 use Rattle.vpg.specs.declared.Token.{Token}
 use Rattle.vpg.specs.Grammar.{Rules}
 use Rattle.masks.specs.Masks.{masks}
 use Rattle.masks.specs.Pending.{pendingAt, closeOf}
+use Rattle.masks.specs.Walk.{testAt}
+use Rattle.places.specs.declared.Place.{Place}
+use Rattle.places.specs.Place.{appliesTo}
 
 -- the first pending close from a token on; top: the first one behind the token, beyond: the one behind that
 abbrev pub nextTop : Token → ℕ → ℕ → ℕ → ℕ
@@ -23,3 +27,7 @@ Matched w m p = (k : ℕ) → p ≤ k → k ≤ length w → getD m k 0 ≡ clos
 -- from position p on, a nonterminal is in the word of a position exactly when it derives the rest of the level that starts there
 abbrev pub Leveled : Rules → List Token → List ℕ → ℕ → Type 0
 Leveled g w mask p = (k : ℕ) → p ≤ k → k ≤ length w → (L : ℕ) → bit (getD mask k 0) L ≡ masks g (drop k w) .0 L
+
+-- what stands at position p: where the words behind p are right, exactly those rules can stand here that can stand before the tokens
+abbrev pub Stands : List Token → List ℕ → ℕ → Place → Type 0
+Stands w mask p place = (g : Rules) → Leveled g w mask (suc p) → (R : Rule) → appliesTo R place ≡ testAt g (drop p w) R

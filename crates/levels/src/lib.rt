@@ -1,153 +1,112 @@
-// Matching positions, and backward over the tokens the nonterminals that derive the rest of the level from each position.
+// Arrays by position: the matching closes, and backward over the tokens the nonterminals that derive the rest of each level.
+use places::Place;
 use vpg::CloseName;
-use vpg::MarkName;
-use vpg::OpenName;
-use vpg::Rule;
 use vpg::Token;
 ghost use mathlib.Core.Path.{_≡_};
-ghost use mathlib.Core.Bool.{Bool, _&&_};
-ghost use Prim.Native.Nat.{ℕ, suc, _/_, _<_, _≤_};
-ghost use lib.Dec.{eqb};
-ghost use lib.ListN.{length, getD, drop};
-ghost use Rattle.bits.specs.Bit.{bit};
-ghost use Rattle.vpg.specs.Grammar.{Rules};
-ghost use Rattle.vpg.specs.Steps.{left};
-ghost use Rattle.masks.specs.Walk.{testAt};
+ghost use Prim.Native.Nat.{ℕ, _/_, _<_, _≤_};
+ghost use lib.ListN.{length};
+ghost use Rattle.places.specs.Place.{endPlace};
 ghost use Rattle.tables.specs.Table.{rulesIn};
-ghost use Rattle.tables.specs.Ready.{Below, Ready};
+ghost use Rattle.tables.specs.Ready.{Ready};
 ghost use Rattle.history_file.specs.HistoryFile.{tokensOf};
 ghost use Rattle.history_file.specs.HistoryTokens.{Tokens};
-ghost use Rattle.levels.specs.Place.{isClose, markApplies, stepApplies, appliesTo, endPlace, withLeft, levelIn};
-ghost use Rattle.levels.specs.Levels.{nextTop, Matched, Leveled};
+ghost use Rattle.levels.specs.Levels.{nextTop, Matched, Leveled, Stands};
 
-// What stands at a position: the token, the nonterminals that derive what follows it, and for an open the name of its close and
-// the nonterminals that derive what follows that. At the end stands a close.
-pub struct Place {
-    pub token: Token,
-    pub inside: u32,
-    pub close: CloseName,
-    pub after: u32,
-}
-
-fn same_mark(a: MarkName, b: MarkName) -> bool
-    ensures { λ r. ⌜ r ≡ eqb (a .0) (b .0) ⌝ }
-{
-    a.0 == b.0
-}
-
-fn same_open(a: OpenName, b: OpenName) -> bool
-    ensures { λ r. ⌜ r ≡ eqb (a .0) (b .0) ⌝ }
-{
-    a.0 == b.0
-}
-
-fn same_close(a: CloseName, b: CloseName) -> bool
-    ensures { λ r. ⌜ r ≡ eqb (a .0) (b .0) ⌝ }
-{
-    a.0 == b.0
-}
-
-fn is_close(token: Token) -> bool
-    ensures { λ r. ⌜ r ≡ isClose token ⌝ }
+// The first pending close from position i on; top is the first one behind the token, beyond the one behind that.
+fn next_top(token: Token, i: usize, top: usize, beyond: usize) -> usize
+    ensures { λ r. ⌜ r ≡ nextTop token i top beyond ⌝ }
 {
     match token {
-        Token::Mark(_) => false,
-        Token::Open(_) => false,
-        Token::Close(_) => true,
+        Token::Mark(_) => top,
+        Token::Open(_) => beyond,
+        Token::Close(_) => i,
     }
 }
 
-// Whether a form 1 rule's mark stands here and what follows can be derived.
-fn mark_applies(name: MarkName, to: u16, place: Place) -> bool
-    requires { ⌜ to < 32 ⌝ }
-    ensures { λ r. ⌜ r ≡ markApplies name to place ⌝ }
+// The first pending close behind each position: for an open, its own close. The number of tokens where there is none.
+pub fn closes(w: &[u32]) -> [usize; 1025]
+    requires { ⌜ Tokens (now w) ⌝ }
+    ensures { λ m. ⌜ (length m ≡ 1025) × Matched (tokensOf (now (w .entry))) m 0 ⌝ }
 {
-    let token = place.token;
-    match token {
-        Token::Mark(c) => if same_mark(name, c) {
-            bits::has(place.inside, to as usize)
-        } else {
-            false
-        },
-        Token::Open(_) => false,
-        Token::Close(_) => false,
+    let n = w.len();
+    let mut m = [0usize; 1025];
+    m[n] = n;
+    let mut top = n;
+    let mut i = n;
+    while 0 < i {
+        i -= 1;
+        let beyond = m[top];
+        m[i] = top;
+        top = next_top(history_file::token_of(w[i]), i, top, beyond);
     }
+    m
 }
 
-// Whether a form 2 rule's open and close stand here, and the inside and what follows the close can be derived.
-fn step_applies(a: OpenName, to: u16, b: CloseName, last: u16, place: Place) -> bool
-    requires { ⌜ (to < 32) × (last < 32) ⌝ }
-    ensures { λ r. ⌜ r ≡ stepApplies a to b last place ⌝ }
+fn end_place() -> Place
+    ensures { λ r. ⌜ r ≡ endPlace ⌝ }
 {
-    let token = place.token;
-    let close = place.close;
-    match token {
-        Token::Mark(_) => false,
-        Token::Open(c) => {
-            if same_open(a, c) {
-                if bits::has(place.inside, to as usize) {
-                    if same_close(b, close) {
-                        bits::has(place.after, last as usize)
-                    } else {
-                        false
-                    }
-                } else {
-                    false
-                }
-            } else {
-                false
-            }
-        }
-        Token::Close(_) => false,
+    let token = Token::Close(CloseName(0));
+    let close = CloseName(0);
+    Place {
+        token,
+        inside: 0,
+        close,
+        after: 0,
     }
 }
 
-// Whether the rule can stand here, whatever nonterminal it is for.
-pub fn applies(rule: Rule, place: Place) -> bool
-    requires { ⌜ Below 32 rule ⌝ }
-    ensures { λ r. ⌜ r ≡ appliesTo rule place ⌝ }
+fn close_name(t: u32) -> CloseName
+    requires { ⌜ t < 262144 ⌝ }
+    ensures { λ r. ⌜ r .0 ≡ t / 4 ⌝ }
 {
-    let token = place.token;
-    match rule {
-        Rule::Empty(_) => is_close(token),
-        Rule::Mark(_, c, l1) => mark_applies(c, l1, place),
-        Rule::Step(_, a, l1, b, l2) => step_applies(a, l1, b, l2, place),
-    }
+    CloseName((t / 4) as u16)
 }
 
-// The nonterminal that a rule is for.
-pub fn left_of(rule: Rule) -> u16
-    ensures { λ r. ⌜ r ≡ left rule ⌝ }
+// What stands at position p, from the levels of the positions behind it.
+pub fn place_at(w: &[u32], m: &[usize; 1025], mask: &[u32; 1025], p: usize) -> Place
+    requires { ⌜ Tokens (now w) ⌝ }
+    requires { ⌜ p ≤ length (now w) ⌝ }
+    requires { ⌜ Matched (tokensOf (now w)) (now m) 0 ⌝ }
+    ensures { λ r. ⌜ Stands (tokensOf (now (w .entry))) (now (mask .entry)) p r ⌝ }
 {
-    match rule {
-        Rule::Empty(l) => l,
-        Rule::Mark(l, _, _) => l,
-        Rule::Step(l, _, _, _, _) => l,
+    if p == w.len() {
+        return end_place();
+    }
+    let token = history_file::token_of(w[p]);
+    let inside = mask[p + 1];
+    let j = m[p];
+    if j < w.len() {
+        let close = close_name(w[j]);
+        let after = mask[j + 1];
+        return Place {
+            token,
+            inside,
+            close,
+            after,
+        };
+    }
+    let close = CloseName(0);
+    Place {
+        token,
+        inside,
+        close,
+        after: 0,
     }
 }
 
-// The set with the rule's nonterminal, where the rule can stand here.
-fn with_left(set: u32, rule: Rule, place: Place) -> u32
-    requires { ⌜ Below 32 rule ⌝ }
-    ensures { λ r. ⌜ r ≡ withLeft set rule place ⌝ }
-{
-    if applies(rule, place) {
-        bits::with(set, left_of(rule) as usize)
-    } else {
-        set
-    }
-}
-
-// The nonterminals of the rules that can stand here.
-pub fn level(table: &[u16; 768], count: usize, place: Place) -> u32
+// The nonterminals that derive the rest of the level from each position.
+pub fn masks(table: &[u16; 768], count: usize, w: &[u32], m: &[usize; 1025]) -> [u32; 1025]
     requires { ⌜ Ready (now table) count ⌝ }
-    ensures { λ m. ⌜ m ≡ levelIn (now (table .entry)) place count ⌝ }
+    requires { ⌜ Tokens (now w) ⌝ }
+    requires { ⌜ Matched (tokensOf (now w)) (now m) 0 ⌝ }
+    ensures { λ r. ⌜ (length r ≡ 1025) × Leveled (rulesIn (now (table .entry)) count) (tokensOf (now (w .entry))) r 0 ⌝ }
 {
-    let mut set: u32 = 0;
-    let mut r: usize = 0;
-    while r < count {
-        set = with_left(set, tables::rule_of(table, r), place);
-        r += 1;
+    let mut mask = [0u32; 1025];
+    let mut i = w.len() + 1;
+    while 0 < i {
+        i -= 1;
+        let place = place_at(w, m, &mask, i);
+        mask[i] = places::level(table, count, place);
     }
-    set
+    mask
 }

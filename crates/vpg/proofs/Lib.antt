@@ -1,3 +1,4 @@
+pub mod Any
 pub mod Ascends
 pub mod Basics
 pub mod Calls
@@ -6,6 +7,7 @@ pub mod Find
 pub mod Inject
 pub mod Listing
 pub mod Order
+pub mod Pairs
 pub mod Positions
 pub mod Sets
 pub mod Sound

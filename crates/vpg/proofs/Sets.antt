@@ -3,18 +3,18 @@
 use Prim.Native.Nat.{ℕ, zero, suc, _+_, _≤_, _<_}
 use native.Mathlib.Nat.{le-of-suc-le-suc, eq-or-lt-of-le}
 use native.Mathlib.Omega.{arith}
-use mathlib.Core.Path.{_≡_, refl, sym, _∙_, ap}
+use mathlib.Core.Path.{_≡_, refl, sym, _∙_, ap, ap₂}
 use mathlib.Core.Logic.{_⊎_, ⊎-elim, _↔_, _≢_}
 use mathlib.Core.Bool.{Bool, true, false, false≢true, or-true}
 use mathlib.Core.List.{List, [], _∷_, List·Memᴰ, List·Memᴰ·head, List·Memᴰ·tail, List·Memᴰ·not-nil, List·Memᴰ·cases-cons, List·Memᴰ·eq-of-singleton}
 use mathlib.Core.Option.{some, Option·none-ne-some, Option·some-injective}
 use borrow.Author.Tests.{eqb-true, eq-eqb, ltb-true, lt-ltb}
-use lib.ListN.{length, take, getElem?}
+use lib.ListN.{length, take, getD, getElem?}
 use Rattle.vpg.specs.declared.Token.{Token}
 use Rattle.vpg.specs.Grammar.{Rules, Grammar, Tree, code, Derives, by-empty, by-mark, by-step, Reading}
 use Rattle.vpg.specs.Counted.{Distinct, Counted}
 use Rattle.vpg.specs.Runs.{entries}
-use Rattle.vpg.specs.Sets.{Kept, standsAt, standsIn, kept, one, count, doubtful, doubtfulCount, marked, stopMark}
+use Rattle.vpg.specs.Sets.{Kept, standsAt, standsIn, kept, one, count, doubtful, doubtfulCount, marked, stopMark, listed, stopMarks}
 use Rattle.vpg.proofs.Basics.{or-cases, at-cases, at-below}
 use Rattle.vpg.proofs.Entries.{reading-length}
 use Rattle.vpg.proofs.Sound.{entries-readings}
@@ -150,3 +150,25 @@ pub stop-mark-is : (g : Grammar) (w : List Token) (i : ℕ) →
     ((stopMark g w i ≡ 1) ↔ ((e : List ℕ) × Reading g (take i w) e)) × ((stopMark g w i ≡ 0) ↔ ((e : List ℕ) → Reading g (take i w) e → ⊥))
 unfolding stopMark
 stop-mark-is g w i = marked-is (entries g (take i w)) (Reading g (take i w)) (entries-readings g (take i w))
+
+pub length-listed : {A : Type 0} (n : ℕ) (f : ℕ → A) → length (listed n f) ≡ n
+length-listed zero f = refl
+length-listed (suc n) f = ap suc (length-listed n (λ i. f (suc i)))
+
+pub getD-listed : {A : Type 0} (n : ℕ) (f : ℕ → A) (i : ℕ) (d : A) → i < n → getD (listed n f) i d ≡ f i
+getD-listed zero f i d h = absurd (omega arith)
+getD-listed (suc n) f zero d h = refl
+getD-listed (suc n) f (suc i) d h = getD-listed n (λ i. f (suc i)) i d (le-of-suc-le-suc h)
+
+pub listed-cong : {A : Type 0} (n : ℕ) (f f′ : ℕ → A) → ((i : ℕ) → f i ≡ f′ i) → listed n f ≡ listed n f′
+listed-cong zero f f′ h = refl
+listed-cong (suc n) f f′ h = ap₂ _∷_ (h 0) (listed-cong n (λ i. f (suc i)) (λ i. f′ (suc i)) (λ i. h (suc i)))
+
+pub length-stop-marks : (g : Grammar) (w : List Token) → length (stopMarks g w) ≡ suc (length w)
+unfolding stopMarks
+length-stop-marks g w = length-listed (suc (length w)) (stopMark g w)
+
+-- the mark of position i stands at element i
+pub stop-mark-at : (g : Grammar) (w : List Token) (i : ℕ) → i ≤ length w → getD (stopMarks g w) i 0 ≡ stopMark g w i
+unfolding stopMarks
+stop-mark-at g w i h = getD-listed (suc (length w)) (stopMark g w) i 0 (omega arith)

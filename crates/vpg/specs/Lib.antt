@@ -1,9 +1,11 @@
+pub mod Any
 pub mod Calls
 pub mod Counted
 pub mod Extremes
 pub mod Grammar
 pub mod Listing
 pub mod Order
+pub mod Pairs
 pub mod Positions
 pub mod Runs
 pub mod Sets

@@ -14,8 +14,8 @@ use Rattle.vpg.specs.Steps.{left}
 use Rattle.masks.specs.Masks.{any, lefts}
 use Rattle.tables.specs.Table.{ruleIn, rulesIn}
 use Rattle.tables.specs.Ready.{Below}
-use Rattle.levels.specs.declared.Place.{Place}
-use Rattle.levels.specs.Place.{appliesTo, withLeft, levelIn}
+use Rattle.places.specs.declared.Place.{Place}
+use Rattle.places.specs.Place.{appliesTo, withLeft, levelIn}
 
 pub below-left : (n : ℕ) (r : Rule) → Below n r → left r < n
 below-left n (Rule.Empty l) h = h

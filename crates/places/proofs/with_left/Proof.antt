@@ -1,8 +1,8 @@
 use mathlib.Core.Path.{sym, _∙_}
-use Rattle.levels.proofs.Places.{below-left}
+use Rattle.places.proofs.Places.{below-left}
 use borrow.Author.Needs.{needs}
-use Rattle.levels.proofs.with_left.Statement.{statement}
-use Rattle.levels.proofs.with_left.Tie as tie
+use Rattle.places.proofs.with_left.Statement.{statement}
+use Rattle.places.proofs.with_left.Tie as tie
 
 applies-requires : tie.Need-applies-requires
 applies-requires c κs = search needs

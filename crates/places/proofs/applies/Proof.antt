@@ -1,6 +1,6 @@
 use borrow.Author.Needs.{needs}
-use Rattle.levels.proofs.applies.Statement.{statement}
-use Rattle.levels.proofs.applies.Tie as tie
+use Rattle.places.proofs.applies.Statement.{statement}
+use Rattle.places.proofs.applies.Tie as tie
 
 enum-told : tie.Need-enum-told
 enum-told c = search needs

@@ -3,9 +3,9 @@ use Prim.Native.Nat.{_-_, _≤_}
 use mathlib.Core.Path.{_≡_, refl}
 use native.Mathlib.Numerals.{add-one}
 use native.Mathlib.Omega.{arith}
-use Rattle.levels.specs.Place.{levelIn}
-use Rattle.levels.proofs.level.Statement.{statement}
-use Rattle.levels.proofs.level.Tie as tie
+use Rattle.places.specs.Place.{levelIn}
+use Rattle.places.proofs.level.Statement.{statement}
+use Rattle.places.proofs.level.Tie as tie
 
 abbrev Inv-loop : tie.InvT-loop
 Inv-loop table count place set₀ r₀ set r = (r ≤ count) × (set ≡ levelIn table place r)

@@ -1,6 +1,6 @@
 use borrow.Author.Needs.{needs}
-use Rattle.levels.proofs.left_of.Statement.{statement}
-use Rattle.levels.proofs.left_of.Tie as tie
+use Rattle.places.proofs.left_of.Statement.{statement}
+use Rattle.places.proofs.left_of.Tie as tie
 
 enum-known-rule : tie.Need-enum-known-rule
 enum-known-rule c = search needs

@@ -1,7 +1,7 @@
 use mathlib.Core.Path.{sym, _∙_}
 use borrow.Author.Needs.{needs}
-use Rattle.levels.proofs.step_applies.Statement.{statement}
-use Rattle.levels.proofs.step_applies.Tie as tie
+use Rattle.places.proofs.step_applies.Statement.{statement}
+use Rattle.places.proofs.step_applies.Tie as tie
 
 enum-told : tie.Need-enum-told
 enum-told c = search needs

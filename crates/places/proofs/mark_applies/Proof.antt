@@ -1,7 +1,7 @@
 use mathlib.Core.Path.{sym, _∙_}
 use borrow.Author.Needs.{needs}
-use Rattle.levels.proofs.mark_applies.Statement.{statement}
-use Rattle.levels.proofs.mark_applies.Tie as tie
+use Rattle.places.proofs.mark_applies.Statement.{statement}
+use Rattle.places.proofs.mark_applies.Tie as tie
 
 enum-known-token : tie.Need-enum-known-token
 enum-known-token c = search needs

@@ -12,7 +12,7 @@ use Rattle.vpg.specs.declared.Rule.{Rule}
 use Rattle.vpg.specs.declared.Token.{Token}
 use Rattle.vpg.specs.Steps.{left}
 use Rattle.tables.specs.Table.{ruleIn}
-use Rattle.levels.specs.declared.Place.{Place}
+use Rattle.places.specs.declared.Place.{Place}
 
 abbrev pub isClose : Token → Bool
 isClose (Token.Mark c) = false
