@@ -1,47 +1,41 @@
+use Rattle.levels.specs.Levels.{Setting}
 use borrow.Author.Needs.{needs}
 use Rattle.readings.proofs.first_on.Statement.{statement}
 use Rattle.readings.proofs.first_on.Tie as tie
-use Rattle.readings.proofs.first_on.Reads as reads
-use Rattle.readings.proofs.first_on.Lts as lts
-use Rattle.first_run.proofs.first.Reads as first-reads
-use Rattle.levels.proofs.closes.Reads as closes-reads
-use Rattle.levels.proofs.masks.Reads as masks-reads
 
--- src/lib.rt:32:13
 closes-requires : tie.Need-closes-requires
-closes-requires c κs = search needs
+closes-requires c κs =
+    c .before .before .pre .1 .0
 
--- src/lib.rt:33:16
 masks-requires : tie.Need-masks-requires
-masks-requires c κs = search needs
+masks-requires c κs =
+    let s = c .before .before .before .before in
+    (s .pre .0, (s .pre .1 .0, c .before .closes .ensures .1))
 
--- src/lib.rt:34:9
 first-requires : tie.Need-first-requires
-first-requires c κs = search needs
+first-requires c κs =
+    let s = c .before .before .before .before .before .before .before .before in
+    (record { ready = s .pre .0; tokens = s .pre .1 .0; matched = c .before .before .before .before .before .closes .ensures .1; leveled = c .before .before .before .masks .ensures .1 }, s .pre .1 .1)
 
--- src/lib.rt:36:33
 enum-told : tie.Need-enum-told
 enum-told c = search needs
 
--- src/lib.rt:37:35
 enum-told-2 : tie.Need-enum-told-2
 enum-told-2 c = search needs
 
--- src/lib.rt:26:1
 same-length : tie.Need-same-length
 same-length c = search needs
 
--- src/lib.rt:26:1
 returns : tie.Need-returns
-returns c = ?
+returns c =
+    rw (c .enum-told .given .1) at (c .before .before .before .before .first .ensures)
 
--- src/lib.rt:26:1
 same-length-2 : tie.Need-same-length-2
 same-length-2 c = search needs
 
--- src/lib.rt:26:1
 returns-2 : tie.Need-returns-2
-returns-2 c = ?
+returns-2 c =
+    rw (c .enum-told2 .given .1) at (c .before .before .before .before .first .ensures)
 
 pub first-on-spec : {M : Type 1} → statement M
 first-on-spec =

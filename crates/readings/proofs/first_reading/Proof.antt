@@ -1,63 +1,78 @@
+use Prim.Native.Nat.{suc, _≤_, _<_}
+use mathlib.Core.Path.{_≡_, refl, sym, _∙_, ap}
+use native.Mathlib.Omega.{arith}
+use lib.ListN.{length, take}
+use Rattle.vpg.specs.Listing.{Subject, due, first}
+use Rattle.vpg.specs.Calls.{callOn, overEntries}
+use Rattle.frame.specs.Frame.{filesIn}
+use Rattle.frame.proofs.Passed.{files-refused, files-passed}
+use Rattle.frame.proofs.Served.{served-refused, served-short, served-on}
+use Rattle.readings.proofs.Entries.{same-entries}
 use borrow.Author.Needs.{needs}
 use Rattle.readings.proofs.first_reading.Statement.{statement}
 use Rattle.readings.proofs.first_reading.Tie as tie
-use Rattle.readings.proofs.first_reading.Reads as reads
-use Rattle.readings.proofs.first_reading.Lts as lts
-use Rattle.files.proofs.read_files.Reads as read-files-reads
-use Rattle.files.proofs.refusal_of.Reads as refusal-of-reads
-use Rattle.readings.proofs.first_on.Reads as first-on-reads
 
--- src/lib.rt:61:9
 read-files-requires : tie.Need-read-files-requires
 read-files-requires c κs = search needs
 
--- src/lib.rt:63:34
 enum-known-answer : tie.Need-enum-known-answer
 enum-known-answer c = search needs
 
--- src/lib.rt:64:32
 enum-told : tie.Need-enum-told
 enum-told c = search needs
 
--- src/lib.rt:64:32
 refusal-of-requires : tie.Need-refusal-of-requires
 refusal-of-requires c κs = search needs
 
--- src/lib.rt:64:9
 returns : tie.Need-returns
-returns c = ?
+returns c =
+    let s = c .before .before .before .before .before .before .before in
+    let a = s .args in
+    rw (c .refusal-of .ensures, c .before .enum-told .given .1, served-refused due overEntries suc (length (a .reading .now)) (filesIn (a .grammar .now) (a .history .now)) _ (files-refused (a .grammar .now) (a .history .now) (c .before .before .before .read-files .ensures) _ (c .before .enum-told .given .1)))
 
--- src/lib.rt:66:13
 cast-n : tie.Need-cast-n
 cast-n c = search needs
 
--- src/lib.rt:68:9
 returns-2 : tie.Need-returns-2
-returns-2 c = ?
+returns-2 c =
+    let s = c .before .before .before .before .before .before .before .before in
+    let a = s .args in
+    let k = files-passed (a .grammar .now) (a .history .now) (c .before .before .before .before .read-files .ensures) _ _ _ _ (c .before .before .answer .given .1) in
+    rw (served-short due overEntries suc (length (a .reading .now)) (filesIn (a .grammar .now) (a .history .now)) (k .g) (k .ts) (k .is) (omega (arith, k .count-is)))
 
--- src/lib.rt:72:22
 cast-first-on : tie.Need-cast-first-on
 cast-first-on c = search needs
 
--- src/lib.rt:72:45
 array-share-prefix-tokens : tie.Need-array-share-prefix-tokens
-array-share-prefix-tokens c = ?
+array-share-prefix-tokens c =
+    let s = c .before .before .before .before .before .before .before .before .before .before .before in
+    let a = s .args in
+    let k = files-passed (a .grammar .now) (a .history .now) (c .before .before .before .before .before .before .before .read-files .ensures) _ _ _ _ (c .before .before .before .before .before .answer .given .1) in
+    k .room
 
--- src/lib.rt:72:45
 slice-aggregate-first-on : tie.Need-slice-aggregate-first-on
-slice-aggregate-first-on c = ?
+slice-aggregate-first-on c =
+    let s = c .before .before .before .before .before .before .before .before .before .before .before .before in
+    let a = s .args in
+    let k = files-passed (a .grammar .now) (a .history .now) (c .before .before .before .before .before .before .before .before .read-files .ensures) _ _ _ _ (c .before .before .before .before .before .before .answer .given .1) in
+    sym (ap length (k .numbers-are) ∙ k .count-is)
 
--- src/lib.rt:72:5
 first-on-requires : tie.Need-first-on-requires
-first-on-requires c κs = ?
+first-on-requires c κs =
+    let s = c .before .before .before .before .before .before .before .before .before .before .before .before .before in
+    let a = s .args in
+    let k = files-passed (a .grammar .now) (a .history .now) (c .before .before .before .before .before .before .before .before .before .read-files .ensures) _ _ _ _ (c .before .before .before .before .before .before .before .answer .given .1) in
+    (k .ready, (rw (k .numbers-are) (k .tokens), (k .start-small, rw (k .numbers-are) (omega (arith, k .count-is)), rw (k .numbers-are) (k .top))))
 
--- src/lib.rt:58:1
 same-length : tie.Need-same-length
 same-length c = search needs
 
--- src/lib.rt:58:1
 returns-3 : tie.Need-returns-3
-returns-3 c = ?
+returns-3 c =
+    let s = c .before .before .before .before .before .before .before .before .before .before .before .before .before .before .before .before in
+    let a = s .args in
+    let k = files-passed (a .grammar .now) (a .history .now) (c .before .before .before .before .before .before .before .before .before .before .before .before .read-files .ensures) _ _ _ _ (c .before .before .before .before .before .before .before .before .before .before .answer .given .1) in
+    c .before .before .first-on .ensures ∙ ap (λ (x : Subject). callOn x first (a .reading .now)) (same-entries (a .grammar .now) (a .history .now) _ _ _ _ k ∙ sym (served-on due overEntries suc (length (a .reading .now)) (filesIn (a .grammar .now) (a .history .now)) (k .g) (k .ts) (k .is) (omega (arith, k .count-is))))
 
 pub first-reading-spec : {M : Type 1} → statement M
 first-reading-spec =

@@ -1,59 +1,51 @@
+use Rattle.levels.specs.Levels.{Setting}
 use borrow.Author.Needs.{needs}
 use Rattle.readings.proofs.next_on.Statement.{statement}
 use Rattle.readings.proofs.next_on.Tie as tie
-use Rattle.readings.proofs.next_on.Reads as reads
-use Rattle.readings.proofs.next_on.Lts as lts
-use Rattle.levels.proofs.closes.Reads as closes-reads
-use Rattle.levels.proofs.masks.Reads as masks-reads
-use Rattle.next_run.proofs.next.Reads as next-reads
 
--- src/lib.rt:47:13
 closes-requires : tie.Need-closes-requires
-closes-requires c κs = search needs
+closes-requires c κs =
+    c .before .before .pre .1 .0
 
--- src/lib.rt:48:16
 masks-requires : tie.Need-masks-requires
-masks-requires c κs = search needs
+masks-requires c κs =
+    let s = c .before .before .before .before in
+    (s .pre .0, (s .pre .1 .0, c .before .closes .ensures .1))
 
--- src/lib.rt:49:9
 next-requires : tie.Need-next-requires
-next-requires c κs = search needs
+next-requires c κs =
+    let s = c .before .before .before .before .before .before .before .before in
+    (record { ready = s .pre .0; tokens = s .pre .1 .0; matched = c .before .before .before .before .before .closes .ensures .1; leveled = c .before .before .before .masks .ensures .1 }, s .pre .1 .1)
 
--- src/lib.rt:51:32
 enum-told : tie.Need-enum-told
 enum-told c = search needs
 
--- src/lib.rt:52:34
 enum-told-2 : tie.Need-enum-told-2
 enum-told-2 c = search needs
 
--- src/lib.rt:53:32
 enum-told-3 : tie.Need-enum-told-3
 enum-told-3 c = search needs
 
--- src/lib.rt:41:1
 same-length : tie.Need-same-length
 same-length c = search needs
 
--- src/lib.rt:41:1
 returns : tie.Need-returns
-returns c = ?
+returns c =
+    rw (c .enum-told .given .1) at (c .before .before .before .before .next .ensures)
 
--- src/lib.rt:41:1
 same-length-2 : tie.Need-same-length-2
 same-length-2 c = search needs
 
--- src/lib.rt:41:1
 returns-2 : tie.Need-returns-2
-returns-2 c = ?
+returns-2 c =
+    rw (c .enum-told2 .given .1) at (c .before .before .before .before .next .ensures)
 
--- src/lib.rt:41:1
 same-length-3 : tie.Need-same-length-3
 same-length-3 c = search needs
 
--- src/lib.rt:41:1
 returns-3 : tie.Need-returns-3
-returns-3 c = ?
+returns-3 c =
+    rw (c .enum-told3 .given .1) at (c .before .before .before .before .next .ensures)
 
 pub next-on-spec : {M : Type 1} → statement M
 next-on-spec =
