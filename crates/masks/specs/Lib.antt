@@ -1,3 +1,4 @@
+pub mod Kept
 pub mod Masks
 pub mod Pending
 pub mod Walk
