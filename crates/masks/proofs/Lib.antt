@@ -1,5 +1,6 @@
 pub mod Alive
 pub mod Kept
+pub mod Local
 pub mod Pending
 pub mod Search
 pub mod Walk

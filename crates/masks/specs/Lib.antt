@@ -1,4 +1,5 @@
 pub mod Kept
+pub mod Local
 pub mod Masks
 pub mod Pending
 pub mod Walk

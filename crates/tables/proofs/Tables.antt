@@ -1,45 +1,16 @@
 -- What a table of numbers says of the rules that were written into it.
 -- Assumes nothing.
-use Prim.Native.Nat.{ℕ, zero, suc, _+_, _-_, _*_, _<_, _≤_}
-use mathlib.Core.Path.{_≡_, refl, sym, ap, _∙_}
+use Prim.Native.Nat.{ℕ, zero, suc, _+_, _*_, _<_, _≤_}
+use mathlib.Core.Path.{_≡_, refl, ap, _∙_}
 use mathlib.Core.List.{List, [], _∷_, _++_}
-use mathlib.Core.Bool.{Bool, true, false, _||_}
-use mathlib.Core.Logic.{_≢_}
 use native.Mathlib.Omega.{arith}
 use native.Mathlib.Numerals.{add-one}
 use native.Mathlib.Nat.{add-zero, zero-add}
-use lib.Dec.{ltb, eqb}
-use borrow.Author.Tests.{ltb-true}
 use lib.ListN.{length, getD, set, replicate, length-set, length-append}
 use lib.Seq.{getD-set-same, getD-set-other}
 use Rattle.vpg.specs.declared.Rule.{Rule}
 use Rattle.tables.specs.declared.Six.{Six}
-use Rattle.tables.specs.Table.{sixOf, sixIn, ruleFrom, ruleIn, rulesIn, putSix, fill, tableOf, sameRule, earlier}
-
-pub or-false : (b : Bool) → (b || false) ≡ b
-or-false true = refl
-or-false false = refl
-
-or-assoc : (a b c : Bool) → (a || (b || c)) ≡ ((a || b) || c)
-or-assoc true b c = refl
-or-assoc false b c = refl
-
-pub or-true : (b : Bool) → (b || true) ≡ true
-or-true true = refl
-or-true false = refl
-
-earlier-snoc : (r x : Rule) (xs : List Rule) → earlier r (xs ++ (x ∷ [])) ≡ (earlier r xs || sameRule r x)
-unfolding earlier
-earlier-snoc r x [] = or-false (sameRule r x)
-earlier-snoc r x (y ∷ ys) = rw (earlier-snoc r x ys) (or-assoc (sameRule r y) (earlier r ys) (sameRule r x))
-
--- one turn of the search, from the last rule down
-pub earlier-at : (r : Rule) (t : List ℕ) (j : ℕ) → 0 < j → earlier r (rulesIn t j) ≡ (earlier r (rulesIn t (j - 1)) || sameRule r (ruleIn t (j - 1)))
-unfolding rulesIn
-earlier-at r t zero h = absurd (omega arith)
-earlier-at r t (suc n) h =
-    let e : suc n - 1 ≡ n = omega arith in
-    rw e (earlier-snoc r (ruleIn t n) (rulesIn t n))
+use Rattle.tables.specs.Table.{sixOf, sixIn, ruleFrom, ruleIn, rulesIn, putSix, fill, tableOf}
 
 -- what stands before the place of a store, and what stands at it
 low : (l : List ℕ) (i j a : ℕ) → j < i → getD (set l i a) j 0 ≡ getD l j 0
@@ -90,7 +61,7 @@ six-same t k v h =
     }
 
 -- a rule comes back from its six numbers
-from-of : (r : Rule) → ruleFrom (sixOf r) ≡ r
+pub from-of : (r : Rule) → ruleFrom (sixOf r) ≡ r
 from-of (Rule.Empty l) = refl
 from-of (Rule.Mark l c l1) = refl
 from-of (Rule.Step l a l1 b l2) = refl
