@@ -13,6 +13,10 @@ use Rattle.masks.specs.Pending.{pendingAt, closeOf}
 use Rattle.masks.specs.Walk.{testAt}
 use Rattle.places.specs.declared.Place.{Place}
 use Rattle.places.specs.Place.{appliesTo}
+use Rattle.tables.specs.Table.{rulesIn}
+use Rattle.tables.specs.Ready.{Ready}
+use Rattle.history_file.specs.HistoryFile.{tokensOf}
+use Rattle.history_file.specs.HistoryTokens.{Tokens}
 
 -- the first pending close from a token on; top: the first one behind the token, beyond: the one behind that
 abbrev pub nextTop : Token → ℕ → ℕ → ℕ → ℕ
@@ -31,3 +35,10 @@ Leveled g w mask p = (k : ℕ) → p ≤ k → k ≤ length w → (L : ℕ) → 
 -- what stands at position p: where the words behind p are right, exactly those rules can stand here that can stand before the tokens
 abbrev pub Stands : List Token → List ℕ → ℕ → Place → Type 0
 Stands w mask p place = (g : Rules) → Leveled g w mask (suc p) → (R : Rule) → appliesTo R place ≡ testAt g (drop p w) R
+
+-- what a walk over the tokens may take for granted: the rules, the tokens, the matching closes and the levels
+pub record Setting (table : List ℕ) (count : ℕ) (ts m mask : List ℕ) : Type 0 where
+  pub ready : Ready table count
+  pub tokens : Tokens ts
+  pub matched : Matched (tokensOf ts) m 0
+  pub leveled : Leveled (rulesIn table count) (tokensOf ts) mask 0

@@ -1,14 +1,17 @@
 -- What a table of numbers says of the rules that were written into it.
 -- Assumes nothing.
 use Prim.Native.Nat.{ℕ, zero, suc, _+_, _*_, _<_, _≤_}
-use mathlib.Core.Path.{_≡_, refl, ap, _∙_}
+use mathlib.Core.Path.{_≡_, refl, sym, ap, _∙_}
+use mathlib.Core.Logic.{⊎-elim}
 use mathlib.Core.List.{List, [], _∷_, _++_}
+use mathlib.Core.Option.{some}
 use native.Mathlib.Omega.{arith}
 use native.Mathlib.Numerals.{add-one}
-use native.Mathlib.Nat.{add-zero, zero-add}
-use lib.ListN.{length, getD, set, replicate, length-set, length-append}
-use lib.Seq.{getD-set-same, getD-set-other}
+use native.Mathlib.Nat.{add-zero, zero-add, eq-or-lt-of-le, le-of-suc-le-suc}
+use lib.ListN.{length, getD, getElem?, set, replicate, length-set, length-append, List·getD-append}
+use lib.Seq.{getD-set-same, getD-set-other, ext-getD}
 use Rattle.vpg.specs.declared.Rule.{Rule}
+use Rattle.vpg.proofs.Basics.{at-left, at-below}
 use Rattle.tables.specs.declared.Six.{Six}
 use Rattle.tables.specs.Table.{sixOf, sixIn, ruleFrom, ruleIn, rulesIn, putSix, fill, tableOf}
 
@@ -124,3 +127,36 @@ fill-at (r ∷ rs) t k (suc j) d room h =
 pub table-rule : (rs : List Rule) (k : ℕ) (d : Rule) → length rs ≤ 128 → k < length rs → ruleIn (tableOf rs) k ≡ getD rs k d
 unfolding tableOf
 table-rule rs k d few h = rw (zero-add k) at (fill-at rs (replicate 768 0) 0 k d (omega arith) h)
+
+-- the last of a list with one element more
+at-seam : {A : Type 0} (l : List A) (x : A) (r : ℕ) → r ≡ length l → getElem? (l ++ (x ∷ [])) r ≡ some x
+at-seam [] x r e = rw e
+at-seam (y ∷ l) x r e = rw e (at-seam l x (length l) refl)
+
+getD-seam : {A : Type 0} (l : List A) (x d : A) (r : ℕ) → r ≡ length l → getD (l ++ (x ∷ [])) r d ≡ x
+getD-seam [] x d r e = rw e
+getD-seam (y ∷ l) x d r e = rw e (getD-seam l x d (length l) refl)
+
+-- rule r of the first n
+pub rules-at : (t : List ℕ) (n r : ℕ) → r < n → getElem? (rulesIn t n) r ≡ some (ruleIn t r)
+unfolding rulesIn
+rules-at t zero r h = absurd (omega arith)
+rules-at t (suc n) r h =
+    ⊎-elim (λ e. at-seam (rulesIn t n) (ruleIn t n) r (e ∙ sym (length-rules t n)) ∙ ap (λ (k : ℕ). some (ruleIn t k)) (sym e)) (λ l. at-left (rulesIn t n) (ruleIn t n ∷ []) r (rules-at t n r l)) (eq-or-lt-of-le (le-of-suc-le-suc h))
+
+pub rules-below : (t : List ℕ) (n r : ℕ) {R : Rule} → getElem? (rulesIn t n) r ≡ some R → r < n
+rules-below t n r e = rw length-rules at (at-below (rulesIn t n) r e)
+
+rules-getD : (t : List ℕ) (n r : ℕ) (d : Rule) → r < n → getD (rulesIn t n) r d ≡ ruleIn t r
+unfolding rulesIn
+rules-getD t zero r d h = absurd (omega arith)
+rules-getD t (suc n) r d h =
+    ⊎-elim (λ e. getD-seam (rulesIn t n) (ruleIn t n) d r (e ∙ sym (length-rules t n)) ∙ ap (ruleIn t) (sym e))
+    (λ l. List·getD-append (rulesIn t n) (ruleIn t n ∷ []) d r (rw length-rules l) ∙ rules-getD t n r d l)
+    (eq-or-lt-of-le (le-of-suc-le-suc h))
+
+-- a table of rules has these rules
+pub rules-table : (rs : List Rule) → length rs ≤ 128 → rulesIn (tableOf rs) (length rs) ≡ rs
+rules-table rs few =
+    ext-getD (Rule.Empty 0) (rulesIn (tableOf rs) (length rs)) rs (length-rules (tableOf rs) (length rs))
+    (λ i h. let l : i < length rs = rw length-rules at h in rules-getD (tableOf rs) (length rs) i (Rule.Empty 0) l ∙ table-rule rs i (Rule.Empty 0) few l)
