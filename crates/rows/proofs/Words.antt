@@ -17,7 +17,7 @@ use lib.Seq.{getD-set-same, getD-set-other}
 use Rattle.bits.specs.Bit.{bit, addBit}
 use Rattle.bits.proofs.Bits.{bit-zero, bit-above, bit-add, add-below, same}
 use Rattle.vpg.specs.Sets.{one, wordOf}
-use Rattle.rows.specs.Words.{bitIn, addIn}
+use Rattle.rows.specs.Words.{bitIn, addIn, Held}
 
 or-yes : (a x : Bool) → x ≡ true → (a || x) ≡ true
 or-yes a x e = rw e (or-true a)
@@ -83,15 +83,10 @@ module _ (W : ℕ) where
           let d : k / W ≢ r / W = eqb-false _ _ q in
           rw (getD-set-other ws (r / W) (k / W) (addBit m (r % W)) 0 d, ne-eqb k r (λ e. d (ap (λ (x : ℕ). x / W) e))) (sym (or-false _))
 
-  -- ws has those of the numbers below n that pass a test
-  pub record Held (n : ℕ) (f : ℕ → Bool) (ws : List ℕ) : Type 0 where
-    pub small : (k : ℕ) → getD ws k 0 < 2 ^ W
-    pub digits : (r : ℕ) → bitIn W ws r ≡ (ltb r n && f r)
-
-  pub held-none : (f : ℕ → Bool) (ws : List ℕ) → ((k : ℕ) → getD ws k 0 ≡ 0) → Held 0 f ws
+  pub held-none : (f : ℕ → Bool) (ws : List ℕ) → ((k : ℕ) → getD ws k 0 ≡ 0) → Held W 0 f ws
   held-none f ws z = record { small = λ k. rw (z k) (pow-pos W); digits = λ r. rw (z (r / W), le-ltb r 0 (omega arith)) (bit-zero (r % W)) }
 
-  pub held-with : (n : ℕ) (f : ℕ → Bool) (ws : List ℕ) → 0 < W → n / W < length ws → f n ≡ true → Held n f ws → Held (suc n) f (addIn W ws n)
+  pub held-with : (n : ℕ) (f : ℕ → Bool) (ws : List ℕ) → 0 < W → n / W < length ws → f n ≡ true → Held W n f ws → Held W (suc n) f (addIn W ws n)
   held-with n f ws pos room q h = record { small = small; digits = λ r. bit-in-add ws n r room ∙ rw (h .digits r) (digit r (eqb r n) refl) }
     where
       small : (k : ℕ) → getD (addIn W ws n) k 0 < 2 ^ W
@@ -113,7 +108,7 @@ module _ (W : ℕ) where
               go (inl i) d = absurd (d (sym i))
               go (inr i) d = i
 
-  pub held-without : (n : ℕ) (f : ℕ → Bool) (ws : List ℕ) → f n ≡ false → Held n f ws → Held (suc n) f ws
+  pub held-without : (n : ℕ) (f : ℕ → Bool) (ws : List ℕ) → f n ≡ false → Held W n f ws → Held W (suc n) f ws
   held-without n f ws q h = record { small = h .small; digits = λ r. h .digits r ∙ digit r (ltb r n) refl }
     where
       digit : (r : ℕ) (b : Bool) → ltb r n ≡ b → (b && f r) ≡ (ltb r (suc n) && f r)
@@ -121,7 +116,7 @@ module _ (W : ℕ) where
       digit r false e = ⊎-elim (λ i. sym (rw (lt-ltb r (suc n) (omega arith), ← i) q)) (λ l. rw (le-ltb r (suc n) l)) (eq-or-lt-of-le (ltb-false r n e))
 
   -- word k has the digits W k to W k + W - 1
-  pub held-word : (n : ℕ) (f : ℕ → Bool) (ws : List ℕ) → Held n f ws → (k : ℕ) → getD ws k 0 ≡ wordOf W (λ b. ltb (W * k + b) n && f (W * k + b))
+  pub held-word : (n : ℕ) (f : ℕ → Bool) (ws : List ℕ) → Held W n f ws → (k : ℕ) → getD ws k 0 ≡ wordOf W (λ b. ltb (W * k + b) n && f (W * k + b))
   held-word n f ws h k = word-is W (getD ws k 0) _ (h .small k) digit
     where
       digit : (b : ℕ) → b < W → bit (getD ws k 0) b ≡ (ltb (W * k + b) n && f (W * k + b))
