@@ -2,15 +2,17 @@
 -- Assumes nothing.
 use Prim.Native.Nat.{ℕ, zero, suc, _+_, _<_, _≤_}
 use native.Mathlib.Numerals.{add-one}
+use native.Mathlib.Nat.{add-zero}
 use native.Mathlib.Omega.{arith}
-use mathlib.Core.Path.{_≡_, refl, sym, _∙_, ap}
+use mathlib.Core.Path.{_≡_, refl, sym, _∙_, ap, subst}
 use mathlib.Core.Bool.{Bool, true, false}
-use mathlib.Core.List.{List, [], _∷_, _++_}
-use borrow.Author.Tests.{lt-ltb, le-ltb}
+use mathlib.Core.List.{List, [], _∷_, _++_, append-nil, append-assoc}
+use borrow.Author.Tests.{lt-ltb, le-ltb, ltb-true}
 use lib.Dec.{ltb}
-use lib.ListN.{length, drop, getD, drop-of-length-le}
-use lib.Seq.{drop-cons}
-use Rattle.lines.specs.Laid.{Place, put, laid}
+use lib.ListN.{length, take, drop, set, getD, length-set, drop-of-length-le, take-append-drop}
+use lib.Seq.{drop-cons, length-take-le, take-suc-set, drop-set-lt}
+use Rattle.io.specs.Counts.{Counts}
+use Rattle.lines.specs.Laid.{Place, putIf, put, laid}
 
 pub laid-append : (p : Place) (a b : List ℕ) → laid p (a ++ b) ≡ laid (laid p a) b
 unfolding laid
@@ -56,3 +58,38 @@ laid-both p q r a b e f = f ∙ ap (λ (x : Place). laid x b) e ∙ sym (laid-ap
 
 pub laid-then : (p : Place) (q r : Place) (a : List ℕ) (x : ℕ) → q ≡ laid p a → r ≡ put q x → r ≡ laid p (a ++ (x ∷ []))
 laid-then p q r a x e f = laid-both p q r a (x ∷ []) e (f ∙ sym (laid-one q x))
+
+-- ── what the buffer holds ──
+
+put-within : (p : Place) (b : ℕ) → p .0 ≤ length (p .1) → (put p b) .0 ≤ length ((put p b) .1)
+put-within p b h = go (ltb (p .0) (length (p .1))) refl
+  where
+    go : (x : Bool) → ltb (p .0) (length (p .1)) ≡ x → (putIf x (p .0) (p .1) b) .0 ≤ length ((putIf x (p .0) (p .1) b) .1)
+    go true e =
+        let l : p .0 < length (p .1) = ltb-true (p .0) (length (p .1)) e in
+        let m : p .0 + 1 ≤ length (set (p .1) (p .0) b) = omega (arith, length-set (p .1) (p .0) b) in
+        m
+    go false e = h
+
+laid-within : (p : Place) (text : List ℕ) → p .0 ≤ length (p .1) → (laid p text) .0 ≤ length ((laid p text) .1)
+unfolding laid
+laid-within p [] h = h
+laid-within p (b ∷ text) h = laid-within (put p b) text (put-within p b h)
+
+-- the place behind a text lies within the buffer
+pub laid-counts : (r : ℕ) (out out₀ text : List ℕ) → (r, out) ≡ laid (0, out₀) text → Counts r out
+laid-counts r out out₀ text e =
+    let h : r ≤ length out = subst (λ (p : Place). p .0 ≤ length (p .1)) (sym e) (laid-within (0, out₀) text (omega arith)) in
+    (h, sym (length-take-le r out h))
+
+-- where there is room, the text stands in the buffer, and all else is as it was
+pub laid-room : (at : ℕ) (out text : List ℕ) → at + length text ≤ length out → laid (at, out) text ≡ (at + length text, take at out ++ text ++ drop (at + length text) out)
+unfolding laid
+laid-room at out [] h =
+    rw (add-zero at) (ap (λ (l : List ℕ). (at, l)) (sym (ap (λ (x : List ℕ). x ++ drop at out) (append-nil (take at out)) ∙ take-append-drop at out)))
+laid-room at out (b ∷ text) h =
+    let in-reach : at < length out = omega arith in
+    let there : at + 1 + length text ≡ at + suc (length text) = omega arith in
+    let put-is : put (at, out) b ≡ (at + 1, set out at b) = rw (lt-ltb at (length out) in-reach) in
+    ap (λ (p : Place). laid p text) put-is ∙ laid-room (at + 1) (set out at b) text (omega (arith, length-set out at b))
+    ∙ rw (there, drop-set-lt (at + suc (length text)) out at b (omega arith), add-one at, take-suc-set out at b in-reach, append-assoc (take at out) (b ∷ []) text)
