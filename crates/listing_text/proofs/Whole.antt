@@ -28,7 +28,7 @@ use Rattle.frame.specs.Frame.{filesIn}
 use Rattle.frame.proofs.Served.{served-on}
 use Rattle.readings.specs.Answers.{subject}
 use Rattle.sets.specs.Sets.{Given, counted, refused, countDue}
-use Rattle.lines.specs.Laid.{Place, laid}
+use Rattle.lines.specs.Laid.{Laid, laid}
 use Rattle.lines.proofs.Laying.{laid-both}
 use Rattle.lines.specs.Text.{tokensLine, doubtfulLine, noneLine, refusedGrammarLine, refusedHistoryLine}
 use Rattle.listing_text.specs.Listing.{listedFrom, mostListed, readingsListed, listing}
@@ -87,10 +87,10 @@ module _ (grammar history : List ℕ) (n : ℕ) (k : Passing grammar history n) 
       go [] h = absurd (omega arith)
       go (e ∷ l) h = refl
 
-  pub whole-none : (p q r : Place) → q ≡ laid p (tokensLine n) → L ≡ [] → r ≡ laid q noneLine → r ≡ laid p (listing grammar history)
+  pub whole-none : (p q r : Laid) → q ≡ laid p (tokensLine n) → L ≡ [] → r ≡ laid q noneLine → r ≡ laid p (listing grammar history)
   whole-none p q r e h f = laid-both p q r (tokensLine n) noneLine e f ∙ ap (laid p) (sym (listing-none h))
 
-  pub whole-some : (p q s r : Place) (d : ℕ) → q ≡ laid p (tokensLine n) → d ≡ countIn (countDue grammar history) → s ≡ laid q (doubtfulLine d) → 0 < length L →
+  pub whole-some : (p q s r : Laid) (d : ℕ) → q ≡ laid p (tokensLine n) → d ≡ countIn (countDue grammar history) → s ≡ laid q (doubtfulLine d) → 0 < length L →
       r ≡ laid s (listedFrom mostListed 0 L) → r ≡ laid p (listing grammar history)
   whole-some p q s r d e i f h l =
       let due = countIn (countDue grammar history) in

@@ -1,6 +1,7 @@
 // The whole listing of two files as text.
 use files::GrammarCheck;
 use files::HistoryCheck;
+use lines::Place;
 use readings::Answer;
 use sets::CountAnswer;
 ghost use mathlib.Core.Path.{_≡_};
@@ -10,7 +11,7 @@ ghost use Rattle.vpg.specs.Calls.{callOn};
 ghost use Rattle.readings.specs.Answers.{said, subject};
 ghost use Rattle.sets.specs.Sets.{countDue};
 ghost use Rattle.io.specs.Counts.{Counts};
-ghost use Rattle.lines.specs.Laid.{laid};
+ghost use Rattle.lines.specs.Laid.{laid, window};
 ghost use Rattle.listing_text.specs.Listing.{listedFrom, mostListed, listing};
 ghost use Rattle.listing_text.specs.Passing.{Passing, Begun, entriesOf, isWritten, told, countIn};
 
@@ -54,13 +55,13 @@ fn list_readings(
     n: usize,
     reading: &mut [u8],
     text: &mut [u8],
-    at: usize,
-) -> usize
+    p: Place,
+) -> Place
     requires { ⌜ Passing (now grammar) (now history) n ⌝ }
     requires { ⌜ Begun (entriesOf (now grammar) (now history)) n (now reading) ⌝ }
-    ensures { λ r. ⌜ (r, now (text .exit)) ≡ laid (at, now (text .entry)) (listedFrom mostListed 0 (entriesOf (now (grammar .entry)) (now (history .entry)))) ⌝ }
+    ensures { λ r. ⌜ (r, now (text .exit)) ≡ laid (p, now (text .entry)) (listedFrom mostListed 0 (entriesOf (now (grammar .entry)) (now (history .entry)))) ⌝ }
 {
-    let mut place = at;
+    let mut place = p;
     let mut k: u64 = 0;
     while k < 1000 {
         k += 1;
@@ -73,11 +74,11 @@ fn list_readings(
 }
 
 // The listing where both files pass.
-fn list_accepted(grammar: &[u8], history: &[u8], n: u16, text: &mut [u8]) -> usize
+fn list_accepted(grammar: &[u8], history: &[u8], n: u16, text: &mut [u8], p: Place) -> Place
     requires { ⌜ Passing (now grammar) (now history) n ⌝ }
-    ensures { λ r. ⌜ (r, now (text .exit)) ≡ laid (0, now (text .entry)) (listing (now (grammar .entry)) (now (history .entry))) ⌝ }
+    ensures { λ r. ⌜ (r, now (text .exit)) ≡ laid (p, now (text .entry)) (listing (now (grammar .entry)) (now (history .entry))) ⌝ }
 {
-    let at = lines::tokens_line(text, 0, n as u64);
+    let at = lines::tokens_line(text, p, n as u64);
     let mut reading = [0u8; 1025];
     if !first_written(grammar, history, &mut reading) {
         return lines::none_line(text, at);
@@ -86,20 +87,28 @@ fn list_accepted(grammar: &[u8], history: &[u8], n: u16, text: &mut [u8]) -> usi
     list_readings(grammar, history, n as usize, &mut reading, text, behind)
 }
 
-// Writes the listing to the buffer's start, as far as there is room, and answers how many bytes it wrote.
-pub fn list(grammar: &[u8], history: &[u8], text: &mut [u8]) -> usize
-    ensures { λ r. ⌜ (r, now (text .exit)) ≡ laid (0, now (text .entry)) (listing (now (grammar .entry)) (now (history .entry))) ⌝ }
-    ensures { λ r. ⌜ Counts r (now (text .exit)) ⌝ }
+fn list_from(grammar: &[u8], history: &[u8], text: &mut [u8], p: Place) -> Place
+    ensures { λ r. ⌜ (r, now (text .exit)) ≡ laid (p, now (text .entry)) (listing (now (grammar .entry)) (now (history .entry))) ⌝ }
 {
     let g = files::grammar_check(grammar);
     match g {
-        GrammarCheck::Refused(k) => lines::refused_grammar_line(text, 0, k as u64),
+        GrammarCheck::Refused(k) => lines::refused_grammar_line(text, p, k as u64),
         GrammarCheck::Accepted(_, _) => {
             let h = files::history_check(history);
             match h {
-                HistoryCheck::Refused(k) => lines::refused_history_line(text, 0, k as u64),
-                HistoryCheck::Accepted(n) => list_accepted(grammar, history, n, text),
+                HistoryCheck::Refused(k) => lines::refused_history_line(text, p, k as u64),
+                HistoryCheck::Accepted(n) => list_accepted(grammar, history, n, text, p),
             }
         }
     }
+}
+
+// Writes a part of the listing to the buffer's start, from the byte number `skip` on, as much as there is room for; answers how many bytes.
+pub fn list(grammar: &[u8], history: &[u8], skip: usize, text: &mut [u8]) -> usize
+    ensures { λ r. ⌜ (r, now (text .exit)) ≡ window skip (now (text .entry)) (listing (now (grammar .entry)) (now (history .entry))) ⌝ }
+    ensures { λ r. ⌜ Counts r (now (text .exit)) ⌝ }
+{
+    let start = Place { skip, at: 0 };
+    let end = list_from(grammar, history, text, start);
+    end.at
 }

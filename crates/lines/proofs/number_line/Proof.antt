@@ -26,7 +26,7 @@ returns c =
     let b = c .before .before .before .before .before .before .before .before .before .before in
     let n = c .before .before .before .before .before .before in
     let a = b .before .before .before .before .args in
-    laid-then (a .at, a .out .now) _ _ (a .word .now ++ decimal (a .n)) 10 (laid-both (a .at, a .out .now) _ _ (a .word .now) (decimal (a .n)) (b .put-bytes .ensures) (n .put-number .ensures)) (c .before .before .put-byte .ensures)
+    laid-then (a .p, a .out .now) _ _ (a .word .now ++ decimal (a .n)) 10 (laid-both (a .p, a .out .now) _ _ (a .word .now) (decimal (a .n)) (b .put-bytes .ensures) (n .put-number .ensures)) (c .before .before .put-byte .ensures)
 
 pub number-line-spec : {M : Type 1} → statement M
 number-line-spec =

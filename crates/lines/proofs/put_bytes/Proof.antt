@@ -15,15 +15,15 @@ abbrev one : ℕ → List ℕ
 one b = b ∷ []
 
 abbrev Inv-loop : tie.InvT-loop
-Inv-loop out₀ at bytes place₀ i₀ out place i = Laying all out₀ at bytes out place i
+Inv-loop out₀ bytes place₀ i₀ out place i = Laying all out₀ place₀ bytes out place i
 
 abbrev μ-loop : tie.MeasureT-loop
-μ-loop out₀ at bytes place₀ i₀ out place i = length bytes - i
+μ-loop out₀ bytes place₀ i₀ out place i = length bytes - i
 
 loop-holds : tie.Need-loop-holds Inv-loop μ-loop
 loop-holds c =
     let a = c .before .before .args in
-    laying-start all one refl (λ b l. refl) (a .out .now) (a .at) (a .bytes .now)
+    laying-start all one refl (λ b l. refl) (a .out .now) (a .p) (a .bytes .now)
 
 shared-slice-read-put-byte : tie.Need-shared-slice-read-put-byte Inv-loop μ-loop
 shared-slice-read-put-byte c = search needs
@@ -41,7 +41,7 @@ loop-again : tie.Need-loop-again Inv-loop μ-loop
 loop-again c =
     let l = c .before .before .before .before .before .before in
     let a = l .before .before .before .args in
-    laying-next all one refl (λ b l. refl) (a .out .now) (a .at) (a .bytes .now) (l .loop .inv) (c .before .before .before .before .before .loop-test .taken) (c .before .before .put-byte .result) _ (c .before .out .given) (c .before .before .put-byte .ensures ∙ sym (laid-one _ _))
+    laying-next all one refl (λ b l. refl) (a .out .now) (a .p) (a .bytes .now) (l .loop .inv) (c .before .before .before .before .before .loop-test .taken) (c .before .before .put-byte .result) _ (c .before .out .given) (c .before .before .put-byte .ensures ∙ sym (laid-one _ _))
 
 same-length : tie.Need-same-length Inv-loop μ-loop
 same-length c = c .before .loop .inv .same
@@ -50,7 +50,7 @@ returns : tie.Need-returns Inv-loop μ-loop
 returns c =
     let l = c .before in
     let a = l .before .before .before .args in
-    laying-end all one refl (λ b l. refl) (a .out .now) (a .at) (a .bytes .now) (l .loop .inv) (omega arith)
+    laying-end all one refl (λ b l. refl) (a .out .now) (a .p) (a .bytes .now) (l .loop .inv) (omega arith)
 
 pub put-bytes-spec : {M : Type 1} → statement M
 put-bytes-spec =

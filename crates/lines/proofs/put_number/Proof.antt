@@ -29,7 +29,7 @@ returns : tie.Need-returns
 returns c =
     let d = c .before .before .before .before .before in
     let a = d .before .before .before .args in
-    c .before .before .put-bytes .ensures ∙ ap (laid (a .at, a .out .now)) (d .decimal .ensures .1 .1 ∙ decimal-written (a .n) (d .decimal .result) (omega (arith, d .before .before .before .fits .n)) (d .decimal .ensures .1 .0))
+    c .before .before .put-bytes .ensures ∙ ap (laid (a .p, a .out .now)) (d .decimal .ensures .1 .1 ∙ decimal-written (a .n) (d .decimal .result) (omega (arith, d .before .before .before .fits .n)) (d .decimal .ensures .1 .0))
 
 pub put-number-spec : {M : Type 1} → statement M
 put-number-spec =

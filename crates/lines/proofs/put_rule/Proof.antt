@@ -22,7 +22,7 @@ returns : tie.Need-returns
 returns c =
     let b = c .before .before .before .before .before .before in
     let a = b .before .before .before .args in
-    laid-both (a .at, a .out .now) _ _ (32 ∷ []) (decimal (a .x)) (b .put-byte .ensures ∙ sym (laid-one (a .at, a .out .now) 32)) (c .before .before .put-number .ensures)
+    laid-both (a .p, a .out .now) _ _ (32 ∷ []) (decimal (a .x)) (b .put-byte .ensures ∙ sym (laid-one (a .p, a .out .now) 32)) (c .before .before .put-number .ensures)
 
 pub put-rule-spec : {M : Type 1} → statement M
 put-rule-spec = tie.close (tie.spec put-byte-requires put-number-requires same-length returns)

@@ -21,15 +21,15 @@ unfolding readingText
 cons r e = refl
 
 abbrev Inv-loop : tie.InvT-loop
-Inv-loop out₀ at reading place₀ i₀ out place i = Laying readingText out₀ at reading out place i
+Inv-loop out₀ reading place₀ i₀ out place i = Laying readingText out₀ place₀ reading out place i
 
 abbrev μ-loop : tie.MeasureT-loop
-μ-loop out₀ at reading place₀ i₀ out place i = length reading - i
+μ-loop out₀ reading place₀ i₀ out place i = length reading - i
 
 loop-holds : tie.Need-loop-holds Inv-loop μ-loop
 loop-holds c =
     let a = c .before .before .args in
-    laying-start readingText one nil cons (a .out .now) (a .at) (a .reading .now)
+    laying-start readingText one nil cons (a .out .now) (a .p) (a .reading .now)
 
 shared-slice-read-put-rule : tie.Need-shared-slice-read-put-rule Inv-loop μ-loop
 shared-slice-read-put-rule c = search needs
@@ -47,7 +47,7 @@ loop-again : tie.Need-loop-again Inv-loop μ-loop
 loop-again c =
     let l = c .before .before .before .before .before .before in
     let a = l .before .before .before .args in
-    laying-next readingText one nil cons (a .out .now) (a .at) (a .reading .now) (l .loop .inv) (c .before .before .before .before .before .loop-test .taken) (c .before .before .put-rule .result) _ (c .before .out .given) (c .before .before .put-rule .ensures)
+    laying-next readingText one nil cons (a .out .now) (a .p) (a .reading .now) (l .loop .inv) (c .before .before .before .before .before .loop-test .taken) (c .before .before .put-rule .result) _ (c .before .out .given) (c .before .before .put-rule .ensures)
 
 same-length : tie.Need-same-length Inv-loop μ-loop
 same-length c = c .before .loop .inv .same
@@ -56,7 +56,7 @@ returns : tie.Need-returns Inv-loop μ-loop
 returns c =
     let l = c .before in
     let a = l .before .before .before .args in
-    laying-end readingText one nil cons (a .out .now) (a .at) (a .reading .now) (l .loop .inv) (omega arith)
+    laying-end readingText one nil cons (a .out .now) (a .p) (a .reading .now) (l .loop .inv) (omega arith)
 
 pub put-rules-spec : {M : Type 1} → statement M
 put-rules-spec =

@@ -26,9 +26,9 @@ returns c =
     let k = c .before .before .before .before .before .before .before .before .before .before in
     let r = c .before .before .before .before .before .before in
     let a = n .before .before .before .before .args in
-    let upto-colon = laid-then (a .at, a .out .now) _ _ (decimal (a .k)) colon (n .put-number .ensures) (k .put-byte .ensures) in
-    let upto-rules = laid-both (a .at, a .out .now) _ _ (decimal (a .k) ++ (colon ∷ [])) (readingText (a .reading .now)) upto-colon (r .put-rules .ensures) in
-    laid-then (a .at, a .out .now) _ _ (decimal (a .k) ++ (colon ∷ []) ++ readingText (a .reading .now)) 10 upto-rules (c .before .before .put-byte2 .ensures)
+    let upto-colon = laid-then (a .p, a .out .now) _ _ (decimal (a .k)) colon (n .put-number .ensures) (k .put-byte .ensures) in
+    let upto-rules = laid-both (a .p, a .out .now) _ _ (decimal (a .k) ++ (colon ∷ [])) (readingText (a .reading .now)) upto-colon (r .put-rules .ensures) in
+    laid-then (a .p, a .out .now) _ _ (decimal (a .k) ++ (colon ∷ []) ++ readingText (a .reading .now)) 10 upto-rules (c .before .before .put-byte2 .ensures)
 
 pub reading-line-spec : {M : Type 1} → statement M
 reading-line-spec =

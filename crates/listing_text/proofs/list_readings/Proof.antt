@@ -10,16 +10,16 @@ use Rattle.listing_text.proofs.list_readings.Statement.{statement}
 use Rattle.listing_text.proofs.list_readings.Tie as tie
 
 abbrev Inv-loop : tie.InvT-loop
-Inv-loop grammar history n reading₀ text₀ at place₀ k₀ reading text place k = Turns (entriesOf grammar history) n reading₀ text₀ at reading text place k
+Inv-loop grammar history n reading₀ text₀ place₀ k₀ reading text place k = Turns (entriesOf grammar history) n reading₀ text₀ place₀ reading text place k
 
 abbrev μ-loop : tie.MeasureT-loop
-μ-loop grammar history n reading₀ text₀ at place₀ k₀ reading text place k = 1000 - k
+μ-loop grammar history n reading₀ text₀ place₀ k₀ reading text place k = 1000 - k
 
 loop-holds : tie.Need-loop-holds Inv-loop μ-loop
 loop-holds c =
     let s = c .before .before .before .before in
     let a = s .args in
-    turns-start (a .grammar .now) (a .history .now) (a .n) (s .pre .0) (a .reading .now) (a .text .now) (a .at) (s .pre .1)
+    turns-start (a .grammar .now) (a .history .now) (a .n) (s .pre .0) (a .reading .now) (a .text .now) (a .p) (s .pre .1)
 
 add-k : tie.Need-add-k Inv-loop μ-loop
 add-k c = omega arith
@@ -53,7 +53,7 @@ returns c =
     let l = c .before .before .before .before .before .before .before .before .before .before .before .before .before .before .before in
     let s = l .before .before .before .before .before in
     let a = s .args in
-    turns-end (a .grammar .now) (a .history .now) (a .n) (s .pre .0) (a .reading .now) (a .text .now) (a .at) (l .loop .inv) (c .before .before .before .before .before .before .before .before .before .before .before .before .before .before .loop-test .taken) _ (c .before .before .before .before .before .before .before .before .before .before .before .reading-line .ensures) (c .before .before .before .before .before .before .before .next-written .result) _ (denied _ (c .before .before .before .before .if1 .taken)) (c .before .before .before .before .before .before .before .next-written .ensures) _ (c .before .before .end-line .ensures)
+    turns-end (a .grammar .now) (a .history .now) (a .n) (s .pre .0) (a .reading .now) (a .text .now) (a .p) (l .loop .inv) (c .before .before .before .before .before .before .before .before .before .before .before .before .before .before .loop-test .taken) _ (c .before .before .before .before .before .before .before .before .before .before .before .reading-line .ensures) (c .before .before .before .before .before .before .before .next-written .result) _ (denied _ (c .before .before .before .before .if1 .taken)) (c .before .before .before .before .before .before .before .next-written .ensures) _ (c .before .before .end-line .ensures)
 
 loop-less : tie.Need-loop-less Inv-loop μ-loop
 loop-less c = omega arith
@@ -63,7 +63,7 @@ loop-again c =
     let l = c .before .before .before .before .before .before .before .before .before .before .before in
     let s = l .before .before .before .before .before in
     let a = s .args in
-    turns-next (a .grammar .now) (a .history .now) (a .n) (s .pre .0) (a .reading .now) (a .text .now) (a .at) (l .loop .inv) (c .before .before .before .before .before .before .before .before .before .before .loop-test .taken) (c .before .before .before .before .before .before .before .reading-line .result) _ (c .before .before .before .before .before .before .text .given) (c .before .before .before .before .before .before .before .reading-line .ensures) (c .before .before .before .next-written .result) _ (affirmed _ (c .if1 .left)) (c .before .before .reading .given) (c .before .before .before .next-written .ensures)
+    turns-next (a .grammar .now) (a .history .now) (a .n) (s .pre .0) (a .reading .now) (a .text .now) (a .p) (l .loop .inv) (c .before .before .before .before .before .before .before .before .before .before .loop-test .taken) (c .before .before .before .before .before .before .before .reading-line .result) _ (c .before .before .before .before .before .before .text .given) (c .before .before .before .before .before .before .before .reading-line .ensures) (c .before .before .before .next-written .result) _ (affirmed _ (c .if1 .left)) (c .before .before .reading .given) (c .before .before .before .next-written .ensures)
 
 more-line-requires : tie.Need-more-line-requires Inv-loop μ-loop
 more-line-requires c κs = search needs
@@ -79,7 +79,7 @@ returns-2 c =
     let l = c .before .before .before .before .before in
     let s = l .before .before .before .before .before in
     let a = s .args in
-    turns-more (a .grammar .now) (a .history .now) (a .n) (s .pre .0) (a .reading .now) (a .text .now) (a .at) (l .loop .inv) (c .before .before .before .before .loop-test .left) _ (c .before .before .more-line .ensures)
+    turns-more (a .grammar .now) (a .history .now) (a .n) (s .pre .0) (a .reading .now) (a .text .now) (a .p) (l .loop .inv) (c .before .before .before .before .loop-test .left) _ (c .before .before .more-line .ensures)
 
 pub list-readings-spec : {M : Type 1} → statement M
 list-readings-spec =
