@@ -1,2 +1,3 @@
 pub mod Derivatives
 pub mod Gathers
+pub mod Grammars
