@@ -1,2 +1,5 @@
+pub mod Accepted
 pub mod Answers
+pub mod BothWays
+pub mod Ready
 pub mod Turns

@@ -2,7 +2,6 @@
 -- Assumes nothing.
 use Prim.Native.Nat.{ℕ}
 use lib.ListN.{length, replicate}
-use Rattle.grammar_file.specs.declared.GrammarAnswer.{GrammarAnswer}
 use Rattle.grammar_file.specs.declared.GrammarAnswer.the-variants.{Accepted, Refused}
 use Rattle.grammar_file.specs.declared.GrammarRead.{GrammarRead}
 use Rattle.grammar_file.specs.GrammarFile.{GrammarFile, accepted, refused}

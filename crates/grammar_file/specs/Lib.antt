@@ -1,2 +1,3 @@
 pub mod GrammarFile
 pub mod GrammarTable
+pub mod Wellformed

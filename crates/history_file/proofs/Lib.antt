@@ -1,3 +1,5 @@
+pub mod Accepted
 pub mod Answers
+pub mod BothWays
 pub mod Padded
 pub mod Tokens

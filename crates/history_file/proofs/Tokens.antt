@@ -1,17 +1,18 @@
 -- What a caller learns of a token that was read, and one turn of the loop over the tokens, of which k of n are read.
 -- Assumes nothing.
 use Prim.Native.Nat.{ℕ, suc, _+_, _-_, _<_, _≤_}
-use mathlib.Core.Path.{_≡_, refl, sym, _∙_}
+use mathlib.Core.Path.{_≡_, refl}
+use mathlib.Core.Logic.{_≢_}
 use mathlib.Core.Bool.{Bool, true, false, _&&_, _||_}
 use mathlib.Core.List.{List, [], _∷_, _++_}
 use native.Mathlib.Nat.{mod-lt}
 use native.Mathlib.Omega.{arith}
 use lib.Dec.{eqb, leb, lit<}
-use borrow.Author.Tests.{leb-false, eqb-false, eqb-true, eq-eqb}
+use borrow.Author.Tests.{leb-false, lt-leb, eqb-false, eqb-true, eq-eqb, ne-eqb}
 use Rattle.numbers.specs.declared.NumberRead.{NumberRead}
 use Rattle.numbers.specs.declared.NumberRead.the-variants.{Number, Refused as NumberRefused}
 use Rattle.numbers.specs.Number.{pick, Source}
-use Rattle.history_file.specs.declared.TokenRead.{TokenRead}
+use Rattle.numbers.proofs.Picks.{picked-second}
 use Rattle.history_file.specs.declared.TokenRead.the-variants.{Token as TokenIs, Refused as TokenRefused}
 use Rattle.history_file.specs.HistoryFile.{kind, tokenJudged, judged, tokenAt, depthAfter, refused, tokensFrom}
 
@@ -23,9 +24,8 @@ pub record Judged (r : NumberRead) (depth t next : ℕ) : Type 0 where
   pub closes : kind t ≡ 2 → 0 < depth
   pub opens : kind t ≡ 1 → depth < 128
 
-passes : (b : Bool) (e : ℕ) (x : TokenRead) {t next : ℕ} → pick b (TokenRefused e) x ≡ TokenIs t next → (b ≡ false) × (x ≡ TokenIs t next)
-passes true e x h = absurd (let z : _≡_ {A = ℕ} 0 1 = cc in omega arith)
-passes false e x h = (refl, h)
+apart : {e t next : ℕ} → TokenRefused e ≢ TokenIs t next
+apart h = let z : _≡_ {A = ℕ} 0 1 = cc in omega arith
 
 neither : (a b : Bool) → (a || b) ≡ false → (a ≡ false) × (b ≡ false)
 neither true b h = absurd (let z : _≡_ {A = ℕ} 0 1 = cc in omega arith)
@@ -42,9 +42,9 @@ pub judged-read : (r : NumberRead) (depth t next : ℕ) → judged r depth ≡ T
 unfolding tokenJudged
 judged-read (NumberRefused e) depth t next h = absurd (let z : _≡_ {A = ℕ} 0 1 = cc in omega arith)
 judged-read (Number u at) depth t next h =
-    let p = passes (leb 256 u || eqb (kind u) 3) 11 _ h in
-    let q = passes (eqb (kind u) 2 && eqb depth 0) 12 _ (p .1) in
-    let s = passes (eqb (kind u) 1 && leb 128 depth) 14 _ (q .1) in
+    let p = picked-second (leb 256 u || eqb (kind u) 3) _ _ apart h in
+    let q = picked-second (eqb (kind u) 2 && eqb depth 0) _ _ apart (p .1) in
+    let s = picked-second (eqb (kind u) 1 && leb 128 depth) _ _ apart (q .1) in
     let n = neither (leb 256 u) (eqb (kind u) 3) (p .0) in
     let ne = eqb-false (kind u) 3 (n .1) in
     let z : u ≡ t = cc in
@@ -60,6 +60,21 @@ judged-read (Number u at) depth t next h =
 pub token-read : (number : ℕ → NumberRead) (at depth t next : ℕ) → tokenAt number at depth ≡ TokenIs t next → Judged (number at) depth t next
 unfolding tokenAt
 token-read number at depth t next h = judged-read (number at) depth t next h
+
+pub token-reads : (number : ℕ → NumberRead) (at depth t next : ℕ) → Judged (number at) depth t next → tokenAt number at depth ≡ TokenIs t next
+unfolding tokenAt tokenJudged
+token-reads number at depth t next j =
+    rw (
+      j .read,
+      lt-leb 256 t (j .small),
+      ne-eqb (kind t) 3 (omega (arith, j .kinds)),
+      neither-holds (eqb (kind t) 2) (eqb depth 0) (λ k. let l = j .closes (eqb-true _ _ k) in ne-eqb depth 0 (omega arith)),
+      neither-holds (eqb (kind t) 1) (leb 128 depth) (λ k. lt-leb 128 depth (j .opens (eqb-true _ _ k))),
+    )
+  where
+    neither-holds : (a b : Bool) → (a ≡ true → b ≡ false) → (a && b) ≡ false
+    neither-holds true b h = h refl
+    neither-holds false b h = refl
 
 -- never more than 128 steps are open
 pub depth-most : (r : NumberRead) (depth t next : ℕ) → Judged r depth t next → depth ≤ 128 → depthAfter t depth ≤ 128

@@ -1,7 +1,7 @@
 -- What a history file says, or the first fault met in file order (document 01, "The two files" and refusals 1, 2 and 9 to 14).
 -- Assumes nothing.
 use Prim.Native.Nat.{ℕ, zero, suc, _+_, _-_, _/_, _%_}
-use mathlib.Core.Bool.{Bool, true, false, _&&_, _||_}
+use mathlib.Core.Bool.{_&&_, _||_}
 use mathlib.Core.List.{List, [], _∷_, _++_, map}
 use lib.Dec.{eqb, ltb, leb}
 use Rattle.numbers.specs.declared.NumberRead.{NumberRead}

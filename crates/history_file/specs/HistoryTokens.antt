@@ -3,7 +3,6 @@
 use Prim.Native.Nat.{ℕ, _-_, _<_, _≤_}
 use mathlib.Core.List.{List, _++_}
 use lib.ListN.{length, replicate, getD}
-use Rattle.history_file.specs.declared.HistoryAnswer.{HistoryAnswer}
 use Rattle.history_file.specs.declared.HistoryAnswer.the-variants.{Accepted, Refused}
 use Rattle.history_file.specs.declared.HistoryRead.{HistoryRead}
 use Rattle.history_file.specs.HistoryFile.{HistoryFile, accepted, refused}

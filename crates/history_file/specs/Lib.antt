@@ -1,2 +1,3 @@
 pub mod HistoryFile
 pub mod HistoryTokens
+pub mod Wellformed

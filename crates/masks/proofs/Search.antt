@@ -4,7 +4,7 @@ use Prim.Native.Nat.{ℕ, _<_}
 use mathlib.Core.Path.{_≡_, refl, ap}
 use mathlib.Core.Logic.{_⊎_, inl, inr}
 use mathlib.Core.Bool.{Bool}
-use mathlib.Core.List.{List, [], _∷_, List·Memᴰ}
+use mathlib.Core.List.{List, [], _∷_}
 use mathlib.Core.Option.{some}
 use lib.ListN.{getElem?}
 use Rattle.vpg.specs.declared.Rule.{Rule}
@@ -12,15 +12,12 @@ use Rattle.vpg.specs.declared.Token.{Token}
 use Rattle.vpg.specs.Grammar.{Rules}
 use Rattle.vpg.specs.Order.{Before}
 use Rattle.vpg.specs.Extremes.{Least, Next, Last}
-use Rattle.vpg.specs.Runs.{Stack, State, move, runs}
+use Rattle.vpg.specs.Runs.{Stack, State, move}
 use Rattle.vpg.proofs.Basics.{trichotomy}
 use Rattle.vpg.proofs.Take.{Move, moves, Taken, taken, take, Ended, ended, end}
 use Rattle.masks.specs.Masks.{Masks, applies, finishes, masks}
+use Rattle.masks.specs.Walk.{Run}
 use Rattle.masks.proofs.Alive.{Passes, goes-applies, run-fits, ends-empty}
-
--- e is a run
-abbrev pub Run : Rules → State → List Token → List ℕ → Type 0
-Run g s w e = List·Memᴰ e (runs g s w)
 
 -- no rule for L passes whose number P holds of
 abbrev pub None : (Rule → Bool) → Rules → ℕ → (ℕ → Type 0) → Type 0
@@ -34,7 +31,7 @@ one-way g {L} {s} {t} {R} {Q} e p q v v′ =
     cc (moves v, moves v′, ap (λ (X : Rule). move X L s t) h)
 
 -- the first rule of a run applies
-live : {g : Rules} {L : ℕ} {s : Stack} {t : Token} {w : List Token} {f : List ℕ} (k : Taken g L s t w f) → Passes (applies (masks g w) t) g L (k .number)
+pub live : {g : Rules} {L : ℕ} {s : Stack} {t : Token} {w : List Token} {f : List ℕ} (k : Taken g L s t w f) → Passes (applies (masks g w) t) g L (k .number)
 live {g} {w = w} k =
     let a = goes-applies (masks g w) (k .goes) (run-fits g w (k .nonterminal) (k .due) (k .rest) (k .run)) in
     record { rule = k .rule; is = k .is; from = a .from; passes = a .applied }
@@ -55,7 +52,7 @@ module _ (g : Rules) (L : ℕ) (s : Stack) (t : Token) (w : List Token) where
     pub goes : Move rule L s t L′ s′
 
   -- what follows the same rule is a run from the same place
-  same-place : {r L′ : ℕ} {s′ : Stack} {f : List ℕ} (v : Leads r L′ s′) (k : Taken g L s t w f) → r ≡ k .number → Run g (L′, s′) w (k .rest)
+  pub same-place : {r L′ : ℕ} {s′ : Stack} {f : List ℕ} (v : Leads r L′ s′) (k : Taken g L s t w f) → r ≡ k .number → Run g (L′, s′) w (k .rest)
   same-place v k q = rw (one-way g q (v .is) (k .is) (v .goes) (k .goes)) (k .run)
 
   -- the first run takes the first rule that applies

@@ -1,3 +1,4 @@
+pub mod Local
 pub mod Masks
 pub mod Pending
 pub mod Walk

@@ -2,11 +2,16 @@
 -- Assumes nothing.
 use Prim.Native.Nat.{ℕ}
 use mathlib.Core.Bool.{Bool}
-use mathlib.Core.List.{List, [], _∷_}
+use mathlib.Core.List.{List, [], _∷_, List·Memᴰ}
 use Rattle.vpg.specs.declared.Rule.{Rule}
 use Rattle.vpg.specs.declared.Token.{Token}
 use Rattle.vpg.specs.Grammar.{Rules}
+use Rattle.vpg.specs.Runs.{State, runs}
 use Rattle.masks.specs.Masks.{applies, finishes, masks}
+
+-- e is a run from a nonterminal with a stack due
+abbrev pub Run : Rules → State → List Token → List ℕ → Type 0
+Run g s w e = List·Memᴰ e (runs g s w)
 
 -- can R stand before these tokens
 unfoldable pub testAt : Rules → List Token → Rule → Bool

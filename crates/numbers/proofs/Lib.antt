@@ -1,1 +1,4 @@
 pub mod Fields
+pub mod Picks
+pub mod Standing
+pub mod Written

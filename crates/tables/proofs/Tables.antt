@@ -1,45 +1,19 @@
 -- What a table of numbers says of the rules that were written into it.
 -- Assumes nothing.
-use Prim.Native.Nat.{ℕ, zero, suc, _+_, _-_, _*_, _<_, _≤_}
+use Prim.Native.Nat.{ℕ, zero, suc, _+_, _*_, _<_, _≤_}
 use mathlib.Core.Path.{_≡_, refl, sym, ap, _∙_}
+use mathlib.Core.Logic.{⊎-elim}
 use mathlib.Core.List.{List, [], _∷_, _++_}
-use mathlib.Core.Bool.{Bool, true, false, _||_}
-use mathlib.Core.Logic.{_≢_}
+use mathlib.Core.Option.{some}
 use native.Mathlib.Omega.{arith}
 use native.Mathlib.Numerals.{add-one}
-use native.Mathlib.Nat.{add-zero, zero-add}
-use lib.Dec.{ltb, eqb}
-use borrow.Author.Tests.{ltb-true}
-use lib.ListN.{length, getD, set, replicate, length-set, length-append}
-use lib.Seq.{getD-set-same, getD-set-other}
+use native.Mathlib.Nat.{add-zero, zero-add, eq-or-lt-of-le, le-of-suc-le-suc}
+use lib.ListN.{length, getD, getElem?, set, replicate, length-set, length-append, List·getD-append}
+use lib.Seq.{getD-set-same, getD-set-other, ext-getD}
 use Rattle.vpg.specs.declared.Rule.{Rule}
+use Rattle.vpg.proofs.Basics.{at-left, at-below}
 use Rattle.tables.specs.declared.Six.{Six}
-use Rattle.tables.specs.Table.{sixOf, sixIn, ruleFrom, ruleIn, rulesIn, putSix, fill, tableOf, sameRule, earlier}
-
-pub or-false : (b : Bool) → (b || false) ≡ b
-or-false true = refl
-or-false false = refl
-
-or-assoc : (a b c : Bool) → (a || (b || c)) ≡ ((a || b) || c)
-or-assoc true b c = refl
-or-assoc false b c = refl
-
-pub or-true : (b : Bool) → (b || true) ≡ true
-or-true true = refl
-or-true false = refl
-
-earlier-snoc : (r x : Rule) (xs : List Rule) → earlier r (xs ++ (x ∷ [])) ≡ (earlier r xs || sameRule r x)
-unfolding earlier
-earlier-snoc r x [] = or-false (sameRule r x)
-earlier-snoc r x (y ∷ ys) = rw (earlier-snoc r x ys) (or-assoc (sameRule r y) (earlier r ys) (sameRule r x))
-
--- one turn of the search, from the last rule down
-pub earlier-at : (r : Rule) (t : List ℕ) (j : ℕ) → 0 < j → earlier r (rulesIn t j) ≡ (earlier r (rulesIn t (j - 1)) || sameRule r (ruleIn t (j - 1)))
-unfolding rulesIn
-earlier-at r t zero h = absurd (omega arith)
-earlier-at r t (suc n) h =
-    let e : suc n - 1 ≡ n = omega arith in
-    rw e (earlier-snoc r (ruleIn t n) (rulesIn t n))
+use Rattle.tables.specs.Table.{sixOf, sixIn, ruleFrom, ruleIn, rulesIn, putSix, fill, tableOf}
 
 -- what stands before the place of a store, and what stands at it
 low : (l : List ℕ) (i j a : ℕ) → j < i → getD (set l i a) j 0 ≡ getD l j 0
@@ -90,7 +64,7 @@ six-same t k v h =
     }
 
 -- a rule comes back from its six numbers
-from-of : (r : Rule) → ruleFrom (sixOf r) ≡ r
+pub from-of : (r : Rule) → ruleFrom (sixOf r) ≡ r
 from-of (Rule.Empty l) = refl
 from-of (Rule.Mark l c l1) = refl
 from-of (Rule.Step l a l1 b l2) = refl
@@ -153,3 +127,36 @@ fill-at (r ∷ rs) t k (suc j) d room h =
 pub table-rule : (rs : List Rule) (k : ℕ) (d : Rule) → length rs ≤ 128 → k < length rs → ruleIn (tableOf rs) k ≡ getD rs k d
 unfolding tableOf
 table-rule rs k d few h = rw (zero-add k) at (fill-at rs (replicate 768 0) 0 k d (omega arith) h)
+
+-- the last of a list with one element more
+at-seam : {A : Type 0} (l : List A) (x : A) (r : ℕ) → r ≡ length l → getElem? (l ++ (x ∷ [])) r ≡ some x
+at-seam [] x r e = rw e
+at-seam (y ∷ l) x r e = rw e (at-seam l x (length l) refl)
+
+getD-seam : {A : Type 0} (l : List A) (x d : A) (r : ℕ) → r ≡ length l → getD (l ++ (x ∷ [])) r d ≡ x
+getD-seam [] x d r e = rw e
+getD-seam (y ∷ l) x d r e = rw e (getD-seam l x d (length l) refl)
+
+-- rule r of the first n
+pub rules-at : (t : List ℕ) (n r : ℕ) → r < n → getElem? (rulesIn t n) r ≡ some (ruleIn t r)
+unfolding rulesIn
+rules-at t zero r h = absurd (omega arith)
+rules-at t (suc n) r h =
+    ⊎-elim (λ e. at-seam (rulesIn t n) (ruleIn t n) r (e ∙ sym (length-rules t n)) ∙ ap (λ (k : ℕ). some (ruleIn t k)) (sym e)) (λ l. at-left (rulesIn t n) (ruleIn t n ∷ []) r (rules-at t n r l)) (eq-or-lt-of-le (le-of-suc-le-suc h))
+
+pub rules-below : (t : List ℕ) (n r : ℕ) {R : Rule} → getElem? (rulesIn t n) r ≡ some R → r < n
+rules-below t n r e = rw length-rules at (at-below (rulesIn t n) r e)
+
+rules-getD : (t : List ℕ) (n r : ℕ) (d : Rule) → r < n → getD (rulesIn t n) r d ≡ ruleIn t r
+unfolding rulesIn
+rules-getD t zero r d h = absurd (omega arith)
+rules-getD t (suc n) r d h =
+    ⊎-elim (λ e. getD-seam (rulesIn t n) (ruleIn t n) d r (e ∙ sym (length-rules t n)) ∙ ap (ruleIn t) (sym e))
+    (λ l. List·getD-append (rulesIn t n) (ruleIn t n ∷ []) d r (rw length-rules l) ∙ rules-getD t n r d l)
+    (eq-or-lt-of-le (le-of-suc-le-suc h))
+
+-- a table of rules has these rules
+pub rules-table : (rs : List Rule) → length rs ≤ 128 → rulesIn (tableOf rs) (length rs) ≡ rs
+rules-table rs few =
+    ext-getD (Rule.Empty 0) (rulesIn (tableOf rs) (length rs)) rs (length-rules (tableOf rs) (length rs))
+    (λ i h. let l : i < length rs = rw length-rules at h in rules-getD (tableOf rs) (length rs) i (Rule.Empty 0) l ∙ table-rule rs i (Rule.Empty 0) few l)

@@ -1,6 +1,6 @@
 -- The set at a position, doubtful positions and stop marks (document 01, "Readings").
 -- Assumes nothing.
-use Prim.Native.Nat.{ℕ, zero, suc, _+_}
+use Prim.Native.Nat.{ℕ, zero, suc, _+_, _*_, _/_, _%_, _^_}
 use mathlib.Core.Path.{_≡_}
 use mathlib.Core.Bool.{Bool, true, false, _||_}
 use mathlib.Core.List.{List, [], _∷_}
@@ -61,3 +61,16 @@ listed (suc n) f = f 0 ∷ listed n (λ i. f (suc i))
 -- document 01, "Services": the marks of the positions 0 to n, in order
 unfoldable pub stopMarks : Grammar → List Token → List ℕ
 stopMarks g w = listed (suc (length w)) (stopMark g w)
+
+-- the number whose digits 0 to n - 1 are 1 exactly where a test passes: "bit b (worth 2^b)"
+unfoldable pub wordOf : ℕ → (ℕ → Bool) → ℕ
+wordOf zero f = 0
+wordOf (suc n) f = one (f n) * 2 ^ n + wordOf n f
+
+-- word k of position p: "rule 32k + b as bit b (worth 2^b) of word k, every bit outside the set 0"
+unfoldable pub setWord : Grammar → List Token → ℕ → ℕ → ℕ
+setWord g w p k = wordOf 32 (λ b. kept g w p (32 * k + b))
+
+-- "four 32-bit words for each position, n + 1 positions, those of position p from element 4p on"
+unfoldable pub setWords : Grammar → List Token → List ℕ
+setWords g w = listed (4 * suc (length w)) (λ i. setWord g w (i / 4) (i % 4))

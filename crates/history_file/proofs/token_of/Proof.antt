@@ -1,4 +1,4 @@
-use borrow.Author.Tests.{eq-eqb, ne-eqb}
+use borrow.Author.Tests.{ne-eqb}
 use Rattle.history_file.specs.HistoryFile.{tokenOf}
 use borrow.Author.Needs.{needs}
 use Rattle.history_file.proofs.token_of.Statement.{statement}

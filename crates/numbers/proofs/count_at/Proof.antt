@@ -3,9 +3,6 @@ use borrow.Author.Tests.{eq-eqb, ne-eqb}
 use Rattle.numbers.specs.Field.{countAt}
 use Rattle.numbers.proofs.count_at.Statement.{statement}
 use Rattle.numbers.proofs.count_at.Tie as tie
-use Rattle.numbers.proofs.count_at.Reads as reads
-use Rattle.numbers.proofs.count_at.Lts as lts
-use Rattle.numbers.proofs.field_at.Reads as field-at-reads
 
 -- src/lib.rt:277:32
 add-field-at : tie.Need-add-field-at

@@ -3,10 +3,6 @@ use borrow.Author.Tests.{le-ltb, lt-ltb}
 use Rattle.numbers.specs.Field.{fieldAt}
 use Rattle.numbers.proofs.field_at.Statement.{statement}
 use Rattle.numbers.proofs.field_at.Tie as tie
-use Rattle.numbers.proofs.field_at.Reads as reads
-use Rattle.numbers.proofs.field_at.Lts as lts
-use Rattle.numbers.proofs.number_at.Reads as number-at-reads
-use Rattle.numbers.proofs.number_refusal.Reads as number-refusal-reads
 
 -- src/lib.rt:81:9
 number-at-requires : tie.Need-number-at-requires

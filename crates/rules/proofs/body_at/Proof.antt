@@ -1,13 +1,8 @@
 use borrow.Author.Needs.{needs}
 use borrow.Author.Tests.{eq-eqb, ne-eqb}
-use Rattle.rules.specs.Rule.{stepAt, bodyAt, ruleAt}
+use Rattle.rules.specs.Rule.{bodyAt}
 use Rattle.rules.proofs.body_at.Statement.{statement}
 use Rattle.rules.proofs.body_at.Tie as tie
-use Rattle.rules.proofs.body_at.Reads as reads
-use Rattle.rules.proofs.body_at.Lts as lts
-use Rattle.rules.proofs.pair_at.Reads as pair-at-reads
-use Rattle.rules.proofs.pair_refusal.Reads as pair-refusal-reads
-use Rattle.rules.proofs.step_at.Reads as step-at-reads
 
 pair-at-requires : tie.Need-pair-at-requires
 pair-at-requires c κs = search needs

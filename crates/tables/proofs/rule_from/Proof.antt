@@ -1,8 +1,6 @@
 use borrow.Author.Tests.{eq-eqb, ne-eqb}
 use Rattle.tables.proofs.rule_from.Statement.{statement}
 use Rattle.tables.proofs.rule_from.Tie as tie
-use Rattle.tables.proofs.rule_from.Reads as reads
-use Rattle.tables.proofs.rule_from.Lts as lts
 
 returns : tie.Need-returns
 returns c = simp (eq-eqb _ _ (c .if1 .taken))

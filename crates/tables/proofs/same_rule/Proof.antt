@@ -2,10 +2,6 @@ use borrow.Author.Needs.{needs}
 use Rattle.tables.specs.Table.{sameRule}
 use Rattle.tables.proofs.same_rule.Statement.{statement}
 use Rattle.tables.proofs.same_rule.Tie as tie
-use Rattle.tables.proofs.same_rule.Reads as reads
-use Rattle.tables.proofs.same_rule.Lts as lts
-use Rattle.tables.proofs.both.Reads as both-reads
-use Rattle.tables.proofs.six_of.Reads as six-of-reads
 
 six-of-requires : tie.Need-six-of-requires
 six-of-requires c κs = search needs

@@ -1,15 +1,12 @@
 use Prim.Native.Nat.{_≤_}
-use mathlib.Core.Path.{_≡_, refl, sym, _∙_}
+use mathlib.Core.Path.{_≡_}
 use borrow.Author.Needs.{needs}
 use native.Mathlib.Omega.{arith}
+use mathlib.Core.Bool.{or-true, or-false}
 use Rattle.tables.specs.Table.{earlier, rulesIn}
-use Rattle.tables.proofs.Tables.{earlier-at, or-true, or-false}
+use Rattle.tables.proofs.Earlier.{earlier-at}
 use Rattle.tables.proofs.seen.Statement.{statement}
 use Rattle.tables.proofs.seen.Tie as tie
-use Rattle.tables.proofs.seen.Reads as reads
-use Rattle.tables.proofs.seen.Lts as lts
-use Rattle.tables.proofs.rule_of.Reads as rule-of-reads
-use Rattle.tables.proofs.same_rule.Reads as same-rule-reads
 
 abbrev Inv-loop : tie.InvT-loop
 Inv-loop table n rule j₀ j = (j ≤ n) × (earlier rule (rulesIn table n) ≡ earlier rule (rulesIn table j))
@@ -35,7 +32,7 @@ returns c =
     let a = l .before .args in
     rw (
       l .loop .inv .1,
-      earlier-at (a .rule) (a .table .now) (l .loop .j) (c .before .before .before .loop-test .taken),
+      earlier-at (a .rule) (a .table .now) (l .loop .j) (omega arith),
       ← (c .before .before .rule-of .ensures),
       ← (c .before .same-rule .ensures),
       c .if1 .taken,
@@ -52,7 +49,7 @@ loop-again c =
       omega arith,
       rw (
         l .loop .inv .1,
-        earlier-at (a .rule) (a .table .now) (l .loop .j) (c .before .before .before .loop-test .taken),
+        earlier-at (a .rule) (a .table .now) (l .loop .j) (omega arith),
         ← (c .before .before .rule-of .ensures),
         ← (c .before .same-rule .ensures),
         c .if1 .left,

@@ -1,8 +1,6 @@
 use borrow.Author.Needs.{needs}
 use Rattle.tables.proofs.six_of.Statement.{statement}
 use Rattle.tables.proofs.six_of.Tie as tie
-use Rattle.tables.proofs.six_of.Reads as reads
-use Rattle.tables.proofs.six_of.Lts as lts
 
 enum-known-rule : tie.Need-enum-known-rule
 enum-known-rule c = search needs

@@ -1,0 +1,3 @@
+pub mod Passing
+pub mod Sofar
+pub mod Whole

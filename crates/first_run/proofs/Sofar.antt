@@ -1,0 +1,167 @@
+-- The forward pass, one position at a time: what is written so far, and the end.
+-- Assumes nothing.
+use Prim.Native.Nat.{ℕ, zero, suc, _+_, _<_, _≤_}
+use native.Mathlib.Numerals.{add-one}
+use native.Mathlib.Omega.{arith}
+use borrow.Author.Tests.{eqb-true}
+use mathlib.Core.Path.{_≡_, refl, sym, _∙_, ap}
+use mathlib.Core.List.{List, [], _∷_, _++_, append-assoc, append-nil}
+use lib.Dec.{eqb}
+use lib.ListN.{length, take, drop, getD, set, length-set, drop-of-length-le}
+use lib.Seq.{take-suc-set, drop-set-lt}
+use Rattle.vpg.specs.declared.Rule.{Rule}
+use Rattle.vpg.specs.declared.Token.{Token}
+use Rattle.vpg.specs.Grammar.{Rules}
+use Rattle.vpg.specs.Extremes.{Least}
+use Rattle.vpg.specs.Runs.{Stack, State}
+use Rattle.masks.specs.Masks.{finishes, masks, Fits}
+use Rattle.masks.specs.Pending.{pendingAt, closeOf, dueAt}
+use Rattle.masks.specs.Walk.{Run, testAt, inner, later}
+use Rattle.masks.proofs.Alive.{Passes}
+use Rattle.masks.proofs.Search.{None, end-first}
+use Rattle.masks.proofs.Local.{Turn, turn, first-turn}
+use Rattle.masks.proofs.Walk.{stored}
+use Rattle.vpg.specs.Steps.{left}
+use Rattle.vpg.proofs.Basics.{and-left, and-right}
+use Rattle.places.specs.declared.Place.{Place}
+use Rattle.places.specs.Place.{appliesTo}
+use Rattle.tables.specs.Table.{ruleIn, rulesIn}
+use Rattle.tables.proofs.Tables.{rules-at}
+use Rattle.history_file.specs.HistoryFile.{tokenOf, tokensOf}
+use Rattle.levels.specs.Levels.{Leveled, Stands, Setting}
+use Rattle.levels.proofs.Levels.{tokens-length, tokens-at, close-most, pending-end}
+use Rattle.first_run.specs.Fill.{Smallest, Filled}
+use Rattle.first_run.proofs.Passing.{passes, found, least}
+
+-- before position p stands the front of a run from s₀ whose rest is to be the first run from s
+pub record Sofar (g : Rules) (w : List Token) (s₀ : State) (from : ℕ) (s : State) (p : ℕ) (old new : List ℕ) : Type 0 where
+  pub run : List ℕ
+  pub is : take p new ≡ take from old ++ run
+  pub least : (e : List ℕ) → Least (Run g s (drop p w)) e → Least (Run g s₀ (drop from w)) (run ++ e)
+
+pub sofar-start : (g : Rules) (w : List Token) (s : State) (from : ℕ) (old : List ℕ) → Sofar g w s from s from old old
+sofar-start g w s from old = record { run = []; is = sym (append-nil (take from old)); least = λ e h. h }
+
+front : (from p r : ℕ) (old new run : List ℕ) → p < length new → take p new ≡ take from old ++ run → take (suc p) (set new p r) ≡ take from old ++ (run ++ (r ∷ []))
+front from p r old new run h e = take-suc-set new p r h ∙ rw (e, append-assoc)
+
+module _ (g : Rules) (w : List Token) (s₀ : State) (from : ℕ) (old : List ℕ) where
+  pub sofar-next : (n : ℕ) (f : List ℕ) (p : ℕ) (t : Token) (here : drop p w ≡ t ∷ drop (suc p) w) (L r : ℕ) (R : Rule) (new : List ℕ) → p < length new →
+      Turn g w n f p t here L r R → None (testAt g (drop p w)) g L (λ q. q < r) → Sofar g w s₀ from (L, dueAt f (pendingAt w p)) p old new →
+      Sofar g w s₀ from (inner R (getD f p 0), dueAt (stored g w p n f R) (pendingAt w (suc p))) (suc p) old (set new p r)
+  sofar-next n f p t here L r R new h u d k = record {
+    run = k .run ++ (r ∷ []);
+    is = front from p r old new (k .run) h (k .is);
+    least = λ e x. rw append-assoc (k .least (r ∷ e) (first-turn g w n f p t here L r R e u d x));
+  }
+
+  -- at the end nothing is due
+  pub filled-end : (f : List ℕ) (L r : ℕ) (new : List ℕ) → length w < length new → pendingAt w (length w) ≡ [] → Passes (testAt g (drop (length w) w)) g L r →
+      None (testAt g (drop (length w) w)) g L (λ q. q < r) → Sofar g w s₀ from (L, dueAt f (pendingAt w (length w))) (length w) old new →
+      drop (suc (length w)) new ≡ drop (suc (length w)) old → Filled g w s₀ from old (set new (length w) r)
+  unfolding testAt
+  filled-end f L r new h e p d k q = record {
+    run = k .run ++ (r ∷ []);
+    least = k .least (r ∷ []) (ending (dueAt f (pendingAt w (length w))) (ap (dueAt f) e));
+    written = front from (length w) r old new (k .run) h (k .is);
+    kept = drop-set-lt (suc (length w)) new (length w) r (omega arith) ∙ q;
+  }
+    where
+      done : drop (length w) w ≡ []
+      done = drop-of-length-le w {i = length w} (omega arith)
+
+      at-end : (v : List Token) → drop (length w) w ≡ v → v ≡ [] → Passes (testAt g v) g L r → None (testAt g v) g L (λ q. q < r) → Least (Run g (L, []) v) (r ∷ [])
+      at-end v a b x y = rw b (end-first g L r (finish (rw b at x)) (λ q l z. (rw b at y) q l (unfinish z)))
+        where
+          finish : {q : ℕ} → Passes (testAt g []) g L q → Passes finishes g L q
+          finish z = record { rule = z .rule; is = z .is; from = z .from; passes = z .passes }
+
+          unfinish : {q : ℕ} → Passes finishes g L q → Passes (testAt g []) g L q
+          unfinish z = record { rule = z .rule; is = z .is; from = z .from; passes = z .passes }
+
+      ending : (s : Stack) → s ≡ [] → Least (Run g (L, s) (drop (length w) w)) (r ∷ [])
+      ending s z = rw z (at-end (drop (length w) w) refl done p d)
+
+-- ── the loop ──
+
+pub record Going (t : List ℕ) (n : ℕ) (ts : List ℕ) (L₀ from : ℕ) (behind old new due : List ℕ) (L p : ℕ) : Type 0 where
+  pub passed : from ≤ p
+  pub most : p ≤ length ts
+  pub room : length due ≡ 1025
+  pub as-long : length new ≡ length old
+  pub fits : Fits L (dueAt due (pendingAt (tokensOf ts) p)) (masks (rulesIn t n) (drop p (tokensOf ts)))
+  pub sofar : Sofar (rulesIn t n) (tokensOf ts) (L₀, dueAt behind (pendingAt (tokensOf ts) from)) from (L, dueAt due (pendingAt (tokensOf ts) p)) p old new
+  pub kept : drop (suc (length (tokensOf ts))) new ≡ drop (suc (length (tokensOf ts))) old
+
+module _ (t : List ℕ) (n : ℕ) (ts m mask : List ℕ) (set-up : Setting t n ts m mask) (L₀ from : ℕ) (behind old : List ℕ) (long : length ts < length old) where
+  abbrev W : List Token
+  W = tokensOf ts
+
+  abbrev G : Rules
+  G = rulesIn t n
+
+  abbrev Goes : List ℕ → List ℕ → ℕ → ℕ → Type 0
+  Goes new due L p = Going t n ts L₀ from behind old new due L p
+
+  pub going-start : from ≤ length ts → length behind ≡ 1025 → Fits L₀ (dueAt behind (pendingAt W from)) (masks G (drop from W)) → Goes old behind L₀ from
+  going-start h b f = record {
+    passed = omega arith;
+    most = h;
+    room = b;
+    as-long = refl;
+    fits = f;
+    sofar = sofar-start G W (L₀, dueAt behind (pendingAt W from)) from old;
+    kept = refl;
+  }
+
+  module _ {new due : List ℕ} {L p : ℕ} (k : Goes new due L p) (place : Place) (stands : Stands W mask p place) (r : ℕ) (small : Smallest t n L place r) where
+    after : Leveled G W mask (suc p)
+    after q h l = set-up .leveled q (omega arith) l
+
+    -- a rule is found
+    pub found-rule : r < n
+    found-rule = found t n W mask p L place stands after (dueAt due (pendingAt W p)) r (k .fits) small
+
+    passing : Passes (testAt G (drop p W)) G L r
+    passing = passes t n W mask p L place stands after r found-rule (small .found found-rule)
+
+    none-before : None (testAt G (drop p W)) G L (λ q. q < r)
+    none-before = least t n W mask p L place stands after r small
+
+    module _ (more : p < length ts) where
+      here : drop p W ≡ tokenOf (getD ts p 0) ∷ drop (suc p) W
+      here = tokens-at ts p more
+
+      closing : getD m p 0 ≡ closeOf (pendingAt W (suc p)) (length W)
+      closing = set-up .matched p (omega arith) (rw tokens-length (omega arith))
+
+      inside : closeOf (pendingAt W (suc p)) (length W) < length due
+      inside = let c = close-most W (suc p) in omega (arith, tokens-length ts, k .room, set-up .tokens .few)
+
+      here-turn : Turn G W (length W) due p (tokenOf (getD ts p 0)) here L r (ruleIn t r)
+      here-turn =
+          turn G W (length W) due p (tokenOf (getD ts p 0)) here L r (ruleIn t r) inside (k .fits) (rules-at t n r found-rule) (eqb-true _ _ (and-left _ _ (small .found found-rule)))
+          (sym (stands G after (ruleIn t r)) ∙ and-right (eqb (left (ruleIn t r)) L) (appliesTo (ruleIn t r) place) (small .found found-rule))
+
+      pub going-next : Goes (set new p r) (set due (getD m p 0) (later (ruleIn t r) (getD due (getD m p 0) 0))) (inner (ruleIn t r) (getD due p 0)) (p + 1)
+      going-next =
+          rw (closing, add-one p)
+          (record {
+            passed = omega (arith, k .passed);
+            most = more;
+            room = length-set due _ _ ∙ k .room;
+            as-long = length-set new p r ∙ k .as-long;
+            fits = here-turn .fits;
+            sofar = sofar-next G W (L₀, dueAt behind (pendingAt W from)) from old (length W) due p (tokenOf (getD ts p 0)) here L r (ruleIn t r) new (omega (arith, k .as-long)) here-turn none-before (k .sofar);
+            kept = drop-set-lt (suc (length W)) new p r (omega (arith, tokens-length ts)) ∙ k .kept;
+          })
+
+    pub going-end : p ≡ length ts → Filled G W (L₀, dueAt behind (pendingAt W from)) from old (set new p r)
+    going-end e =
+        let q : p ≡ length W = e ∙ sym (tokens-length ts) in
+        at-end p q k passing none-before
+      where
+        at-end : (p : ℕ) → p ≡ length W → Goes new due L p → Passes (testAt G (drop p W)) G L r → None (testAt G (drop p W)) G L (λ q. q < r) → Filled G W (L₀, dueAt behind (pendingAt W from)) from old (set new p r)
+        at-end p q k x y =
+            rw q
+            (filled-end G W (L₀, dueAt behind (pendingAt W from)) from old due L r new (omega (arith, k .as-long, tokens-length ts)) (pending-end W (length W) (omega arith)) (rw q at x) (rw q at y) (rw q at (k .sofar)) (k .kept))

@@ -1,0 +1,186 @@
+use borrow.Author.Needs.{needs}
+use Prim.Native.Nat.{suc, _-_, _≤_, _<_}
+use mathlib.Core.Path.{_≡_, refl, sym, _∙_}
+use native.Mathlib.Omega.{arith}
+use lib.ListN.{length, length-set, getD}
+use Rattle.history_file.specs.HistoryFile.{tokensOf}
+use Rattle.levels.proofs.Levels.{tokens-length, close-most}
+use Rattle.first_run.proofs.Sofar.{Going, going-start, found-rule, going-next, going-end}
+use Rattle.first_run.proofs.fill.Statement.{statement}
+use Rattle.first_run.proofs.fill.Tie as tie
+
+abbrev Inv-loop : tie.InvT-loop
+Inv-loop table count w m mask l0 from out₀ due₀ l₀ p₀ out due l p = Going table count w l0 from due₀ out₀ out due l p
+
+abbrev μ-loop : tie.MeasureT-loop
+μ-loop table count w m mask l0 from out₀ due₀ l₀ p₀ out due l p = length w - p
+
+loop-holds : tie.Need-loop-holds Inv-loop μ-loop
+loop-holds c =
+    let s = c .before .before in
+    let a = s .args in
+    going-start (a .table .now) (a .count) (a .w .now) (a .m .now) (a .mask .now) (s .pre .0) (a .l0) (a .from) (a .behind) (a .out .now) (s .pre .1 .0 .1) (s .pre .1 .0 .0) (search needs) (s .pre .1 .1)
+
+place-at-requires : tie.Need-place-at-requires Inv-loop μ-loop
+place-at-requires c κs =
+    let l = c .before in
+    let s = l .before .before .before in
+    let a = s .args in
+    (s .pre .0 .tokens, (omega arith, s .pre .0 .matched))
+
+smallest-requires : tie.Need-smallest-requires Inv-loop μ-loop
+smallest-requires c κs =
+    c .before .before .before .before .before .pre .0 .ready
+
+rule-of-requires : tie.Need-rule-of-requires Inv-loop μ-loop
+rule-of-requires c κs =
+    let l = c .before .before .before in
+    let s = l .before .before .before in
+    let a = s .args in
+    omega (arith, s .pre .0 .ready .few, found-rule (a .table .now) (a .count) (a .w .now) (a .m .now) (a .mask .now) (s .pre .0) (a .l0) (a .from) (a .behind) (a .out .now) (s .pre .1 .0 .1) (l .loop .inv) (c .before .place-at .result) (c .before .place-at .ensures) (c .smallest .result) (c .smallest .ensures))
+
+cast-out : tie.Need-cast-out Inv-loop μ-loop
+cast-out c =
+    let l = c .before .before .before .before in
+    let s = l .before .before .before in
+    let a = s .args in
+    omega (arith, s .pre .0 .ready .few, found-rule (a .table .now) (a .count) (a .w .now) (a .m .now) (a .mask .now) (s .pre .0) (a .l0) (a .from) (a .behind) (a .out .now) (s .pre .1 .0 .1) (l .loop .inv) (c .before .before .place-at .result) (c .before .before .place-at .ensures) (c .before .smallest .result) (c .before .smallest .ensures))
+
+slice-write-out : tie.Need-slice-write-out Inv-loop μ-loop
+slice-write-out c = search needs
+
+mul-j : tie.Need-mul-j Inv-loop μ-loop
+mul-j c = search needs
+
+element-copy-out-j : tie.Need-element-copy-out-j Inv-loop μ-loop
+element-copy-out-j c = search needs
+
+mul-inner-of : tie.Need-mul-inner-of Inv-loop μ-loop
+mul-inner-of c =
+    let l = c .before .before .before .before .before in
+    let s = l .before .before .before in
+    let a = s .args in
+    omega (arith, s .pre .0 .tokens .few)
+
+array-read-inner-of : tie.Need-array-read-inner-of Inv-loop μ-loop
+array-read-inner-of c =
+    let l = c .before .before .before .before .before in
+    let s = l .before .before .before in
+    let a = s .args in
+    omega (arith, s .pre .0 .tokens .few)
+
+inner-of-requires : tie.Need-inner-of-requires Inv-loop μ-loop
+inner-of-requires c κs = search needs
+
+mul-later-of : tie.Need-mul-later-of Inv-loop μ-loop
+mul-later-of c =
+    let l = c .before .before .before .before .before .before in
+    let s = l .before .before .before in
+    let a = s .args in
+    let j = s .pre .0 .matched (l .loop .p) (omega arith) (rw tokens-length (omega arith)) in
+    omega (arith, s .pre .0 .tokens .few, j, tokens-length (a .w .now), close-most (tokensOf (a .w .now)) (suc (l .loop .p)))
+
+array-read-later-of : tie.Need-array-read-later-of Inv-loop μ-loop
+array-read-later-of c =
+    let l = c .before .before .before .before .before .before in
+    let s = l .before .before .before in
+    let a = s .args in
+    let j = s .pre .0 .matched (l .loop .p) (omega arith) (rw tokens-length (omega arith)) in
+    omega (arith, s .pre .0 .tokens .few, j, tokens-length (a .w .now), close-most (tokensOf (a .w .now)) (suc (l .loop .p)))
+
+later-of-requires : tie.Need-later-of-requires Inv-loop μ-loop
+later-of-requires c κs = search needs
+
+mul-due : tie.Need-mul-due Inv-loop μ-loop
+mul-due c =
+    let l = c .before .before .before .before .before .before .before in
+    let s = l .before .before .before in
+    let a = s .args in
+    let j = s .pre .0 .matched (l .loop .p) (omega arith) (rw tokens-length (omega arith)) in
+    omega (arith, s .pre .0 .tokens .few, j, tokens-length (a .w .now), close-most (tokensOf (a .w .now)) (suc (l .loop .p)))
+
+array-write-due : tie.Need-array-write-due Inv-loop μ-loop
+array-write-due c =
+    let l = c .before .before .before .before .before .before .before in
+    let s = l .before .before .before in
+    let a = s .args in
+    let j = s .pre .0 .matched (l .loop .p) (omega arith) (rw tokens-length (omega arith)) in
+    omega (arith, s .pre .0 .tokens .few, j, tokens-length (a .w .now), close-most (tokensOf (a .w .now)) (suc (l .loop .p)))
+
+add-p : tie.Need-add-p Inv-loop μ-loop
+add-p c = search needs
+
+loop-less : tie.Need-loop-less Inv-loop μ-loop
+loop-less c = search needs
+
+loop-again : tie.Need-loop-again Inv-loop μ-loop
+loop-again c =
+    let l = c .before .before .before .before .before .before .before in
+    let s = l .before .before .before in
+    let a = s .args in
+    let k = l .loop .inv in
+    rw (c .later-of .ensures, c .before .inner-of .ensures, c .before .before .before .rule-of .ensures)
+    (going-next (a .table .now) (a .count) (a .w .now) (a .m .now) (a .mask .now) (s .pre .0) (a .l0) (a .from) (a .behind) (a .out .now) (s .pre .1 .0 .1) k (c .before .before .before .before .before .place-at .result) (c .before .before .before .before .before .place-at .ensures) (c .before .before .before .before .smallest .result) (c .before .before .before .before .smallest .ensures) (c .before .before .before .before .before .before .loop-test .taken))
+
+place-at-requires-2 : tie.Need-place-at-requires-2 Inv-loop μ-loop
+place-at-requires-2 c κs =
+    let l = c .before in
+    let s = l .before .before .before in
+    let a = s .args in
+    (s .pre .0 .tokens, (omega arith, s .pre .0 .matched))
+
+smallest-requires-2 : tie.Need-smallest-requires-2 Inv-loop μ-loop
+smallest-requires-2 c κs =
+    c .before .before .before .before .before .pre .0 .ready
+
+cast-out-2 : tie.Need-cast-out-2 Inv-loop μ-loop
+cast-out-2 c =
+    let l = c .before .before .before in
+    let s = l .before .before .before in
+    let a = s .args in
+    omega (arith, s .pre .0 .ready .few, found-rule (a .table .now) (a .count) (a .w .now) (a .m .now) (a .mask .now) (s .pre .0) (a .l0) (a .from) (a .behind) (a .out .now) (s .pre .1 .0 .1) (l .loop .inv) (c .before .place-at2 .result) (c .before .place-at2 .ensures) (c .smallest2 .result) (c .smallest2 .ensures))
+
+slice-write-out-2 : tie.Need-slice-write-out-2 Inv-loop μ-loop
+slice-write-out-2 c = search needs
+
+same-length : tie.Need-same-length Inv-loop μ-loop
+same-length c = search needs
+
+returns : tie.Need-returns Inv-loop μ-loop
+returns c =
+    let l = c .before .before .before in
+    let s = l .before .before .before in
+    let a = s .args in
+    going-end (a .table .now) (a .count) (a .w .now) (a .m .now) (a .mask .now) (s .pre .0) (a .l0) (a .from) (a .behind) (a .out .now) (s .pre .1 .0 .1) (l .loop .inv) (c .before .place-at2 .result) (c .before .place-at2 .ensures) (c .smallest2 .result) (c .smallest2 .ensures) (omega arith)
+
+pub fill-spec : {M : Type 1} → statement M
+fill-spec =
+    tie.close
+    (tie.spec
+    Inv-loop
+    μ-loop
+    loop-holds
+    place-at-requires
+    smallest-requires
+    rule-of-requires
+    cast-out
+    slice-write-out
+    mul-j
+    element-copy-out-j
+    mul-inner-of
+    array-read-inner-of
+    inner-of-requires
+    mul-later-of
+    array-read-later-of
+    later-of-requires
+    mul-due
+    array-write-due
+    add-p
+    loop-less
+    loop-again
+    place-at-requires-2
+    smallest-requires-2
+    cast-out-2
+    slice-write-out-2
+    same-length
+    returns)

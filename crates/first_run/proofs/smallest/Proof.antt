@@ -1,0 +1,63 @@
+use borrow.Author.Needs.{needs}
+use Prim.Native.Nat.{ℕ, _-_, _≤_, _<_}
+use mathlib.Core.Path.{_≡_, sym, _∙_}
+use mathlib.Core.Bool.{false}
+use native.Mathlib.Omega.{arith}
+use Rattle.tables.specs.Table.{ruleIn}
+use Rattle.first_run.specs.Fill.{ruleFits}
+use Rattle.first_run.proofs.Passing.{below-more}
+use Rattle.first_run.proofs.smallest.Statement.{statement}
+use Rattle.first_run.proofs.smallest.Tie as tie
+
+abbrev Inv-loop : tie.InvT-loop
+Inv-loop table count l place r₀ r = (r ≤ count) × ((q : ℕ) → q < r → ruleFits (ruleIn table q) l place ≡ false)
+
+abbrev μ-loop : tie.MeasureT-loop
+μ-loop table count l place r₀ r = count - r
+
+loop-holds : tie.Need-loop-holds Inv-loop μ-loop
+loop-holds c = (omega arith, λ q h. absurd (omega arith))
+
+rule-of-requires : tie.Need-rule-of-requires Inv-loop μ-loop
+rule-of-requires c κs = omega (arith, c .before .before .pre .few)
+
+fits-requires : tie.Need-fits-requires Inv-loop μ-loop
+fits-requires c κs = rw (c .rule-of .ensures) (c .before .before .before .pre .small _ (c .before .loop-test .taken))
+
+returns : tie.Need-returns Inv-loop μ-loop
+returns c =
+    let l = c .before .before .before .before in
+    let here = sym (c .before .fits2 .ensures) ∙ c .if1 .taken in
+    record { found = λ h. rw (c .before .before .rule-of .ensures) at here; least = λ q h k. l .loop .inv .1 q k }
+
+add-r : tie.Need-add-r Inv-loop μ-loop
+add-r c = search needs
+
+loop-less : tie.Need-loop-less Inv-loop μ-loop
+loop-less c = search needs
+
+loop-again : tie.Need-loop-again Inv-loop μ-loop
+loop-again c =
+    let l = c .before .before .before .before in
+    let here = sym (c .before .fits2 .ensures) ∙ c .if1 .left in
+    (omega arith, below-more _ (l .loop .r) (l .loop .inv .1) (rw (c .before .before .rule-of .ensures) at here))
+
+returns-2 : tie.Need-returns-2 Inv-loop μ-loop
+returns-2 c =
+    let l = c .before in
+    record { found = λ h. absurd (omega arith); least = λ q h k. l .loop .inv .1 q k }
+
+pub smallest-spec : {M : Type 1} → statement M
+smallest-spec =
+    tie.close
+    (tie.spec
+    Inv-loop
+    μ-loop
+    loop-holds
+    rule-of-requires
+    fits-requires
+    returns
+    add-r
+    loop-less
+    loop-again
+    returns-2)

@@ -1,0 +1,8 @@
+-- What the first reading answers (document 01, "Services" and "The plain listing").
+-- Assumes nothing.
+use Rattle.vpg.specs.Listing.{Answer, written, no-reading}
+use Rattle.first_run.specs.declared.FirstAnswer.{FirstAnswer}
+
+abbrev pub firstSaid : FirstAnswer → Answer
+firstSaid FirstAnswer.Written = written
+firstSaid FirstAnswer.NoReading = no-reading

@@ -1,0 +1,128 @@
+// The first reading: forward over the tokens, at each position the smallest rule that can stand there.
+use places::Place;
+use vpg::Rule;
+ghost use mathlib.Core.Path.{_≡_};
+ghost use mathlib.Core.List.{[]};
+ghost use Prim.Native.Nat.{_+_, _<_, _≤_};
+ghost use lib.ListN.{length, drop};
+ghost use Rattle.vpg.specs.Listing.{first};
+ghost use Rattle.vpg.specs.Calls.{callOn, overEntries};
+ghost use Rattle.masks.specs.Masks.{masks, Fits};
+ghost use Rattle.masks.specs.Pending.{pendingAt, dueAt};
+ghost use Rattle.masks.specs.Walk.{inner, later};
+ghost use Rattle.tables.specs.Table.{rulesIn};
+ghost use Rattle.tables.specs.Ready.{Below, Ready, grammarIn};
+ghost use Rattle.history_file.specs.HistoryFile.{tokensOf};
+ghost use Rattle.levels.specs.Levels.{Setting};
+ghost use Rattle.first_run.specs.Fill.{ruleFits, Smallest, Filled};
+ghost use Rattle.first_run.specs.First.{firstSaid};
+
+// Whether the rule is for the nonterminal and can stand here.
+pub fn fits(rule: Rule, l: u16, place: Place) -> bool
+    requires { ⌜ Below 32 rule ⌝ }
+    ensures { λ r. ⌜ r ≡ ruleFits rule l place ⌝ }
+{
+    if places::left_of(rule) == l {
+        places::applies(rule, place)
+    } else {
+        false
+    }
+}
+
+// The smallest rule for the nonterminal that can stand here; count where there is none.
+pub fn smallest(table: &[u16; 768], count: usize, l: u16, place: Place) -> usize
+    requires { ⌜ Ready (now table) count ⌝ }
+    ensures { λ r. ⌜ Smallest (now (table .entry)) count l place r ⌝ }
+{
+    let mut r: usize = 0;
+    while r < count {
+        if fits(tables::rule_of(table, r), l, place) {
+            return r;
+        }
+        r += 1;
+    }
+    r
+}
+
+// The nonterminal at the next position; d is the one behind the close, where the token is a close.
+pub fn inner_of(rule: Rule, d: u16) -> u16
+    ensures { λ r. ⌜ r ≡ inner rule d ⌝ }
+{
+    match rule {
+        Rule::Empty(_) => d,
+        Rule::Mark(_, _, l1) => l1,
+        Rule::Step(_, _, l1, _, _) => l1,
+    }
+}
+
+// The nonterminal behind the close of a step; d is what stands there already.
+pub fn later_of(rule: Rule, d: u16) -> u16
+    ensures { λ r. ⌜ r ≡ later rule d ⌝ }
+{
+    match rule {
+        Rule::Empty(_) => d,
+        Rule::Mark(_, _, _) => d,
+        Rule::Step(_, _, _, _, l2) => l2,
+    }
+}
+
+// Writes the first run from a position on; behind has the nonterminal behind each pending close.
+pub fn fill(
+    table: &[u16; 768],
+    count: usize,
+    w: &[u32],
+    m: &[usize; 1025],
+    mask: &[u32; 1025],
+    behind: [u16; 1025],
+    l0: u16,
+    from: usize,
+    out: &mut [u8],
+)
+    requires { ⌜ Setting (now table) count (now w) (now m) (now mask) ⌝ }
+    requires { ⌜ (from ≤ length (now w)) × (length (now w) < length (now out)) ⌝ }
+    requires { ⌜ Fits l0 (dueAt behind (pendingAt (tokensOf (now w)) from)) (masks (rulesIn (now table) count) (drop from (tokensOf (now w)))) ⌝ }
+    ensures { λ _. ⌜ Filled (rulesIn (now (table .entry)) count) (tokensOf (now (w .entry))) (l0, dueAt behind (pendingAt (tokensOf (now (w .entry))) from)) from (now (out .entry)) (now (out .exit)) ⌝ }
+{
+    let mut due = behind;
+    let mut l = l0;
+    let mut p = from;
+    while p < w.len() {
+        let r = smallest(table, count, l, levels::place_at(w, m, mask, p));
+        let rule = tables::rule_of(table, r);
+        out[p] = r as u8;
+        let j = m[p];
+        l = inner_of(rule, due[p]);
+        due[j] = later_of(rule, due[j]);
+        p += 1;
+    }
+    let last = smallest(table, count, l, levels::place_at(w, m, mask, p));
+    out[p] = last as u8;
+}
+
+// A reading was written, or there is none.
+pub enum FirstAnswer {
+    Written,
+    NoReading,
+}
+
+// Writes the first reading, if there is one.
+pub fn first(
+    table: &[u16; 768],
+    count: usize,
+    start: u16,
+    w: &[u32],
+    m: &[usize; 1025],
+    mask: &[u32; 1025],
+    out: &mut [u8],
+) -> FirstAnswer
+    requires { ⌜ Setting (now table) count (now w) (now m) (now mask) ⌝ }
+    requires { ⌜ (start < 32) × (length (now w) < length (now out)) × (pendingAt (tokensOf (now w)) 0 ≡ []) ⌝ }
+    ensures { λ r. ⌜ (firstSaid r, now (out .exit)) ≡ callOn (overEntries (grammarIn (now (table .entry)) count start) (tokensOf (now (w .entry)))) first (now (out .entry)) ⌝ }
+{
+    if bits::has(mask[0], start as usize) {
+        let behind = [0u16; 1025];
+        fill(table, count, w, m, mask, behind, start, 0, out);
+        return FirstAnswer::Written;
+    }
+    FirstAnswer::NoReading
+}

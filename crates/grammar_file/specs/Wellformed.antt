@@ -1,0 +1,30 @@
+-- The grammars that a grammar file can say, and the numbers that the file of a grammar holds (document 01, "The two files" and refusals
+-- 3, 4, 6, 7 and 8). Assumes nothing.
+use Prim.Native.Nat.{ℕ, _<_, _≤_}
+use mathlib.Core.List.{List, [], _∷_, _++_, List·Memᴰ}
+use lib.ListN.{length}
+use Rattle.rules.specs.RuleNumbers.{ruleNumbers, Fits}
+use Rattle.vpg.specs.declared.Rule.{Rule}
+use Rattle.vpg.specs.Grammar.{Grammar}
+
+-- no rule stands twice
+abbrev pub Distinct : List Rule → Type 0
+Distinct [] = Unit {0}
+Distinct (r ∷ rs) = (List·Memᴰ r rs → ⊥) × Distinct rs
+
+-- "stage count (1 to 32), rule count (1 to 128), then each rule"
+pub record Wellformed (g : Grammar) : Type 0 where
+  pub nonterminals-least : 1 ≤ g .nonterminals
+  pub nonterminals-most : g .nonterminals ≤ 32
+  pub start-below : g .start < g .nonterminals
+  pub rules-least : 1 ≤ length (g .rules)
+  pub rules-most : length (g .rules) ≤ 128
+  pub fits : (r : Rule) → List·Memᴰ r (g .rules) → Fits (g .nonterminals) r
+  pub distinct : Distinct (g .rules)
+
+abbrev pub rulesNumbers : List Rule → List ℕ
+rulesNumbers [] = []
+rulesNumbers (r ∷ rs) = ruleNumbers r ++ rulesNumbers rs
+
+abbrev pub numbersOf : Grammar → List ℕ
+numbersOf g = g .nonterminals ∷ length (g .rules) ∷ rulesNumbers (g .rules)

@@ -1,0 +1,101 @@
+use Prim.Native.Nat.{_<_, _≤_}
+use mathlib.Core.Path.{_≡_, refl, sym, _∙_}
+use native.Mathlib.Omega.{arith}
+use native.Mathlib.Numerals.{add-one}
+use lib.ListN.{length}
+use Rattle.history_file.specs.HistoryFile.{tokensOf}
+use Rattle.levels.proofs.Levels.{tokens-length, stands-end, stands-closed, stands-open}
+use borrow.Author.Needs.{needs}
+use Rattle.levels.proofs.place_at.Statement.{statement}
+use Rattle.levels.proofs.place_at.Tie as tie
+
+end-place-requires : tie.Need-end-place-requires
+end-place-requires c κs = search needs
+
+returns : tie.Need-returns
+returns c = rw (c .end-place .ensures) (stands-end (tokensOf (c .before .before .before .args .w .now)) (c .before .before .before .args .mask .now) (c .before .before .before .args .p) (omega (arith, tokens-length (c .before .before .before .args .w .now))))
+
+mul-token-of : tie.Need-mul-token-of
+mul-token-of c = search needs
+
+shared-slice-read-token-of : tie.Need-shared-slice-read-token-of
+shared-slice-read-token-of c = search needs
+
+token-of-requires : tie.Need-token-of-requires
+token-of-requires c κs = c .before .before .before .pre .0 .small _ (omega arith)
+
+add-inside : tie.Need-add-inside
+add-inside c = search needs
+
+mul-inside : tie.Need-mul-inside
+mul-inside c = search needs
+
+element-copy-out-inside : tie.Need-element-copy-out-inside
+element-copy-out-inside c = search needs
+
+mul-j : tie.Need-mul-j
+mul-j c = search needs
+
+element-copy-out-j : tie.Need-element-copy-out-j
+element-copy-out-j c = search needs
+
+mul-close-name : tie.Need-mul-close-name
+mul-close-name c = search needs
+
+shared-slice-read-close-name : tie.Need-shared-slice-read-close-name
+shared-slice-read-close-name c = search needs
+
+close-name-requires : tie.Need-close-name-requires
+close-name-requires c κs = c .before .before .before .before .before .before .before .before .pre .0 .small _ (omega arith)
+
+add-after : tie.Need-add-after
+add-after c = search needs
+
+mul-after : tie.Need-mul-after
+mul-after c = search needs
+
+element-copy-out-after : tie.Need-element-copy-out-after
+element-copy-out-after c = search needs
+
+returns-2 : tie.Need-returns-2
+returns-2 c =
+    let k = c .before .before .before .before .before .before in
+    let s = k .before .before .before .before in
+    let a = s .args in
+    let j = s .pre .1 .1 (a .p) (omega arith) (rw tokens-length (s .pre .1 .0)) in
+    let here : a .p < length (a .w .now) = omega (arith, k .before .before .if1 .left) in
+    rw (k .token-of .ensures, add-one (a .p), j, add-one)
+    (stands-closed (a .w .now) (a .mask .now) (a .p) here (c .before .close-name .result) (rw j at (c .before .before .before .if2 .taken)) (rw j at (c .before .close-name .ensures)))
+
+returns-3 : tie.Need-returns-3
+returns-3 c =
+    let k = c .before .before .before in
+    let s = k .before .before .before .before in
+    let a = s .args in
+    let j = s .pre .1 .1 (a .p) (omega arith) (rw tokens-length (s .pre .1 .0)) in
+    let here : a .p < length (a .w .now) = omega (arith, k .before .before .if1 .left) in
+    rw (k .token-of .ensures, add-one (a .p))
+    (stands-open (a .w .now) (a .mask .now) (a .p) here (record { 0 = 0 }) (rw j at (c .if2 .left)))
+
+pub place-at-spec : {M : Type 1} → statement M
+place-at-spec =
+    tie.close
+    (tie.spec
+    end-place-requires
+    returns
+    mul-token-of
+    shared-slice-read-token-of
+    token-of-requires
+    add-inside
+    mul-inside
+    element-copy-out-inside
+    mul-j
+    element-copy-out-j
+    mul-close-name
+    shared-slice-read-close-name
+    close-name-requires
+    add-after
+    mul-after
+    element-copy-out-after
+    returns-2
+    returns-3)

@@ -1,0 +1,53 @@
+-- What stands at a position, in words and names, and which rules can stand there.
+-- Assumes nothing.
+use Prim.Native.Nat.{ℕ, zero, suc}
+use mathlib.Core.Bool.{Bool, true, false, cond, _&&_}
+use mathlib.Core.List.{List}
+use lib.Dec.{eqb}
+use Rattle.bits.specs.Bit.{bit, addBit}
+use Rattle.vpg.specs.declared.MarkName.{MarkName}
+use Rattle.vpg.specs.declared.OpenName.{OpenName}
+use Rattle.vpg.specs.declared.CloseName.{CloseName}
+use Rattle.vpg.specs.declared.Rule.{Rule}
+use Rattle.vpg.specs.declared.Token.{Token}
+use Rattle.vpg.specs.Steps.{left}
+use Rattle.tables.specs.Table.{ruleIn}
+use Rattle.places.specs.declared.Place.{Place}
+
+abbrev pub isClose : Token → Bool
+isClose (Token.Mark c) = false
+isClose (Token.Open a) = false
+isClose (Token.Close b) = true
+
+abbrev pub markHere : MarkName → ℕ → Token → ℕ → Bool
+markHere name to (Token.Mark c) x = eqb (name .0) (c .0) && bit x to
+markHere name to (Token.Open a) x = false
+markHere name to (Token.Close b) x = false
+
+abbrev pub markApplies : MarkName → ℕ → Place → Bool
+markApplies name to p = markHere name to (p .token) (p .inside)
+
+abbrev pub stepHere : OpenName → ℕ → CloseName → ℕ → Token → ℕ → CloseName → ℕ → Bool
+stepHere a to b last (Token.Mark c) x d y = false
+stepHere a to b last (Token.Open c) x d y = eqb (a .0) (c .0) && (bit x to && (eqb (b .0) (d .0) && bit y last))
+stepHere a to b last (Token.Close c) x d y = false
+
+abbrev pub stepApplies : OpenName → ℕ → CloseName → ℕ → Place → Bool
+stepApplies a to b last p = stepHere a to b last (p .token) (p .inside) (p .close) (p .after)
+
+abbrev pub appliesTo : Rule → Place → Bool
+appliesTo (Rule.Empty M) p = isClose (p .token)
+appliesTo (Rule.Mark M c M₁) p = markApplies c M₁ p
+appliesTo (Rule.Step M a M₁ b M₂) p = stepApplies a M₁ b M₂ p
+
+-- what stands at the end
+abbrev pub endPlace : Place
+endPlace = record { token = Token.Close (record { 0 = 0 }); inside = 0; close = record { 0 = 0 }; after = 0 }
+
+abbrev pub withLeft : ℕ → Rule → Place → ℕ
+withLeft set rule p = cond (appliesTo rule p) (addBit set (left rule)) set
+
+-- the nonterminals of the first n rules of a table that can stand here
+unfoldable pub levelIn : List ℕ → Place → ℕ → ℕ
+levelIn t p zero = 0
+levelIn t p (suc n) = withLeft (levelIn t p n) (ruleIn t n) p

@@ -1,0 +1,19 @@
+-- The numbers of a rule in a grammar file, and their ranges (document 01, "The two files" and refusals 6 and 7).
+-- Assumes nothing.
+use Prim.Native.Nat.{ℕ, _<_}
+use mathlib.Core.List.{List, [], _∷_}
+use Rattle.vpg.specs.declared.Rule.{Rule}
+use Rattle.rules.specs.Rule.{names}
+
+-- "each rule: its form, then L; or L c L1; or L a L1 b L2"
+abbrev pub ruleNumbers : Rule → List ℕ
+ruleNumbers (Rule.Empty l) = 0 ∷ l ∷ []
+ruleNumbers (Rule.Mark l c l1) = 1 ∷ l ∷ c .0 ∷ l1 ∷ []
+ruleNumbers (Rule.Step l a l1 b l2) = 2 ∷ l ∷ a .0 ∷ l1 ∷ b .0 ∷ l2 ∷ []
+
+-- no "stage number not below the stage count" and no "name above 63"
+abbrev pub Fits : ℕ → Rule → Type 0
+Fits nonterminals (Rule.Empty l) = l < nonterminals
+Fits nonterminals (Rule.Mark l c l1) = (l < nonterminals) × (c .0 < names) × (l1 < nonterminals)
+Fits nonterminals (Rule.Step l a l1 b l2) =
+    (l < nonterminals) × (a .0 < names) × (l1 < nonterminals) × (b .0 < names) × (l2 < nonterminals)
