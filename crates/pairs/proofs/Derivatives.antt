@@ -18,16 +18,18 @@ use Rattle.vpg.specs.declared.Rule.{Rule}
 use Rattle.vpg.specs.Any.{any, anyBelow}
 use Rattle.vpg.specs.Grammar.{Grammar}
 use Rattle.vpg.specs.Pairs.{PairState, single, markTo, overMark, openTo, overOpen, endsFrom, finished, closeTo, overClose}
-use Rattle.vpg.specs.Steps.{left}
 use Rattle.vpg.proofs.Any.{both, eqb-refl, below-some, some-below}
 use Rattle.vpg.proofs.Basics.{and-left, and-right}
 use Rattle.vpg.proofs.Sets.{getD-listed}
-use Rattle.tables.specs.Ready.{Below, Ready}
+use Rattle.tables.specs.Ready.{Below, Ready, grammarIn}
 use Rattle.tables.specs.Table.{ruleIn, rulesIn}
-use Rattle.pairs.specs.declared.Pattern.{Pattern}
-use Rattle.pairs.specs.Words.{followsBy, passes, rowAfter, rowsAfter, currentsOf, diagonalOf, meets, finishedOf, emptiesOf}
-use Rattle.pairs.specs.Encodes.{grammarOf, Encodes}
-use Rattle.pairs.proofs.Gathers.{same-test, below-cong, any-rules, bit-gather, gather-below, gathers, some-member, bit-currents}
+use Rattle.rows.specs.declared.Pattern.{Pattern}
+use Rattle.rows.specs.Row.{followsBy, passes, rowAfter}
+use Rattle.rows.proofs.Below.{follows-below}
+use Rattle.rows.proofs.Gathers.{same-test, below-cong, any-rules, bit-gather, gather-below, gathers, some-member}
+use Rattle.pairs.specs.Words.{rowsAfter, currentsOf, diagonalOf, meets, finishedOf, emptiesOf}
+use Rattle.pairs.specs.Encodes.{Encodes}
+use Rattle.pairs.proofs.Fills.{bit-currents}
 
 -- ── tests in another order ──
 
@@ -100,19 +102,6 @@ ends S L₃ (Rule.Empty M) h q = record { current = M; small = h; pair = q; pass
 ends S L₃ (Rule.Mark M c M₁) h q = absurd (false≢true q)
 ends S L₃ (Rule.Step M a M₁ b M₂) h q = absurd (false≢true q)
 
-pub left-below : (R : Rule) → Below 32 R → left R < 32
-left-below (Rule.Empty M) h = h
-left-below (Rule.Mark M c M₁) h = h .0
-left-below (Rule.Step M a M₁ b M₂) h = h .0
-
-pub follows-below : (p : Pattern) (R : Rule) → Below 32 R → followsBy p R < 32
-follows-below p (Rule.Empty M) h = h
-follows-below p (Rule.Mark M c M₁) h = h .1
-follows-below Pattern.Empty (Rule.Step M a M₁ b M₂) h = h .1
-follows-below (Pattern.Mark c) (Rule.Step M a M₁ b M₂) h = h .1
-follows-below (Pattern.Open x) (Rule.Step M a M₁ b M₂) h = h .1
-follows-below (Pattern.Step x y) (Rule.Step M a M₁ b M₂) h = h .2
-
 -- the one number that passes
 below-at : (n : ℕ) (p : ℕ → Bool) (L : ℕ) → L < n → anyBelow n (λ k. p k && eqb k L) ≡ p L
 below-at n p L h =
@@ -159,7 +148,7 @@ single-encodes s = record {
 
 module _ (t : List ℕ) (n start : ℕ) (ready : Ready t n) where
   abbrev g : Grammar
-  g = grammarOf t n start
+  g = grammarIn t n start
 
   -- the nonterminals with an empty rule
   bit-empties : (L : ℕ) → bit (emptiesOf t n) L ≡ any (emptyOf L) (rulesIn t n)

@@ -10,9 +10,8 @@ use lib.ListN.{getElem?}
 use Rattle.vpg.specs.declared.Rule.{Rule}
 use Rattle.vpg.specs.Pairs.{Proper}
 use Rattle.vpg.proofs.Basics.{at-cases}
-use Rattle.tables.specs.Ready.{Below, Ready}
+use Rattle.tables.specs.Ready.{Below, Ready, grammarIn}
 use Rattle.tables.specs.Table.{ruleIn, rulesIn}
-use Rattle.pairs.specs.Encodes.{grammarOf}
 
 record Element (t : List ℕ) (n : ℕ) (R : Rule) : Type 0 where
   number : ℕ
@@ -29,7 +28,7 @@ element t (suc n) r R e =
     last zero q = record { number = n; small = omega arith; is = Option·some-injective (ruleIn t n) R q }
     last (suc k) q = absurd (Option·none-ne-some R q)
 
-pub proper : (t : List ℕ) (n start : ℕ) → Ready t n → start < 32 → Proper (grammarOf t n start)
+pub proper : (t : List ℕ) (n start : ℕ) → Ready t n → start < 32 → Proper (grammarIn t n start)
 proper t n start ready small = record {
   start-in = small;
   inside-in = λ r L a L₁ b L₂ e. let k = element t n r (Rule.Step L a L₁ b L₂) e in subst (Below 32) (k .is) (ready .small (k .number) (k .small)) .1;

@@ -1,3 +1,3 @@
 pub mod Derivatives
-pub mod Gathers
+pub mod Fills
 pub mod Grammars

@@ -5,13 +5,7 @@ use mathlib.Core.Path.{_≡_}
 use mathlib.Core.List.{List}
 use lib.ListN.{getD}
 use Rattle.bits.specs.Bit.{bit}
-use Rattle.vpg.specs.Grammar.{Grammar}
 use Rattle.vpg.specs.Pairs.{PairState}
-use Rattle.tables.specs.Table.{rulesIn}
-
--- the grammar of the first n rules of a table, with 32 nonterminals
-abbrev pub grammarOf : List ℕ → ℕ → ℕ → Grammar
-grammarOf t n start = record { nonterminals = 32; start = start; rules = rulesIn t n }
 
 -- digit L₂ of word L₁ says whether (L₁, L₂) is in the state
 pub record Encodes (rows : List ℕ) (S : PairState) : Type 0 where

@@ -18,7 +18,8 @@ use Rattle.vpg.specs.declared.Token.{Token}
 use Rattle.vpg.specs.Pairs.{PairState, PairStack, overMark, overOpen, overClose, closed, bottom}
 use Rattle.vpg.proofs.Sets.{listed-cong, getD-listed}
 use Rattle.vpg.proofs.Take.{name-open}
-use Rattle.pairs.specs.Encodes.{Encodes, grammarOf}
+use Rattle.tables.specs.Ready.{grammarIn}
+use Rattle.pairs.specs.Encodes.{Encodes}
 use Rattle.prefixes.specs.Stack.{blockAt, Saved, Holds, StepHolds}
 
 -- ── a block that was written ──
@@ -89,13 +90,13 @@ saved-bottom stack names (suc d) (y ∷ T) x = eqb·suc-zero d
 
 module _ (t : List ℕ) (n : ℕ) (rows : List ℕ) (depth : ℕ) (stack names : List ℕ) (long : length stack ≡ 4096) (long′ : length names ≡ 128) where
   -- over a mark
-  pub mark-step : (c : MarkName) (rows′ : List ℕ) → ((start : ℕ) (S : PairState) → Encodes rows S → Encodes rows′ (overMark (grammarOf t n start) c S)) →
+  pub mark-step : (c : MarkName) (rows′ : List ℕ) → ((start : ℕ) (S : PairState) → Encodes rows S → Encodes rows′ (overMark (grammarIn t n start) c S)) →
       StepHolds t n (Token.Mark c) rows depth stack names rows′ depth stack names
   mark-step c rows′ f = record { holds = λ start x h. record { state = f start (x .0) (h .state); saved = h .saved }; steps-open = refl; stack-size = long; names-size = long′ }
 
   -- over an open
   pub open-step : (a : OpenName) (rows′ : List ℕ) → depth < 128 → 32 ≤ length rows →
-      ((start : ℕ) (S : PairState) → Encodes rows S → Encodes rows′ (overOpen (grammarOf t n start) a S)) →
+      ((start : ℕ) (S : PairState) → Encodes rows S → Encodes rows′ (overOpen (grammarIn t n start) a S)) →
       StepHolds t n (Token.Open a) rows depth stack names rows′ (depth + 1) (paste stack (depth * 32) rows 32) (set names depth (a .0))
   open-step a rows′ more all f = record {
     holds = λ start x h. record {
@@ -111,21 +112,21 @@ module _ (t : List ℕ) (n : ℕ) (rows : List ℕ) (depth : ℕ) (stack names :
   -- over a close
   pub close-step : (b : CloseName) (rows′ : List ℕ) → depth ≢ 0 →
       ((start : ℕ) (S S₁ : PairState) → Encodes rows S → Encodes (blockAt stack (depth - 1)) S₁ →
-      Encodes rows′ (overClose (grammarOf t n start) b S S₁ (record { 0 = getD names (depth - 1) 0 }))) →
+      Encodes rows′ (overClose (grammarIn t n start) b S S₁ (record { 0 = getD names (depth - 1) 0 }))) →
       StepHolds t n (Token.Close b) rows depth stack names rows′ (depth - 1) stack names
   close-step b rows′ more f = record { holds = λ start x h. go depth more f start (x .0) (x .1) (h .state) (h .saved); steps-open = refl; stack-size = long; names-size = long′ }
     where
       go : (d : ℕ) → d ≢ 0 →
           ((start : ℕ) (S S₁ : PairState) → Encodes rows S → Encodes (blockAt stack (d - 1)) S₁ →
-          Encodes rows′ (overClose (grammarOf t n start) b S S₁ (record { 0 = getD names (d - 1) 0 }))) →
-          (start : ℕ) (S : PairState) (T : PairStack) → Encodes rows S → Saved stack names d T → Holds rows′ (d - 1) stack names (closed (grammarOf t n start) b S T)
+          Encodes rows′ (overClose (grammarIn t n start) b S S₁ (record { 0 = getD names (d - 1) 0 }))) →
+          (start : ℕ) (S : PairState) (T : PairStack) → Encodes rows S → Saved stack names d T → Holds rows′ (d - 1) stack names (closed (grammarIn t n start) b S T)
       go zero more f start S T x y = absurd (more refl)
       go (suc d) more f start S [] x y = absurd y
       go (suc d) more f start S (p ∷ T) x y =
           let e : suc d - 1 ≡ d = omega arith in
           let a : record { 0 = getD names (suc d - 1) 0 } ≡ p .1 = name-open (ap (λ (k : ℕ). getD names k 0) e ∙ y .1) in
           record {
-            state = subst (λ (o : OpenName). Encodes rows′ (overClose (grammarOf t n start) b S (p .0) o)) a
+            state = subst (λ (o : OpenName). Encodes rows′ (overClose (grammarIn t n start) b S (p .0) o)) a
                 (f start S (p .0) x (subst (λ (k : ℕ). Encodes (blockAt stack k) (p .0)) (sym e) (y .0)));
             saved = subst (λ (k : ℕ). Saved stack names k T) (sym e) (y .2);
           }
@@ -134,6 +135,6 @@ module _ (t : List ℕ) (n : ℕ) (rows : List ℕ) (depth : ℕ) (stack names :
   pub close-none : (b : CloseName) → depth ≡ 0 → StepHolds t n (Token.Close b) rows depth stack names (replicate 32 0) 0 stack names
   close-none b none = record { holds = λ start x h. go start (x .0) (x .1) (subst (λ (d : ℕ). Saved stack names d (x .1)) none (h .saved)); steps-open = rw none; stack-size = long; names-size = long′ }
     where
-      go : (start : ℕ) (S : PairState) (T : PairStack) → Saved stack names 0 T → Holds (replicate 32 0) 0 stack names (closed (grammarOf t n start) b S T)
+      go : (start : ℕ) (S : PairState) (T : PairStack) → Saved stack names 0 T → Holds (replicate 32 0) 0 stack names (closed (grammarIn t n start) b S T)
       go start S [] y = record { state = record { at = λ L₁ L₂ l₁ l₂. ap (λ (m : ℕ). bit m L₂) (getD-replicate 32 L₁ 0 0 l₁) ∙ bit-zero L₂ }; saved = tt }
       go start S (p ∷ T) y = absurd y

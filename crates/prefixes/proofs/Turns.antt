@@ -13,9 +13,9 @@ use Rattle.vpg.specs.Grammar.{Grammar}
 use Rattle.vpg.specs.Pairs.{Configuration, begin, single, derivative, accepts, marksFrom}
 use Rattle.vpg.specs.Sets.{one, stopMarks}
 use Rattle.vpg.proofs.Pairs.{stop-marks-pairs}
-use Rattle.tables.specs.Ready.{Ready}
+use Rattle.tables.specs.Ready.{Ready, grammarIn}
 use Rattle.history_file.specs.HistoryFile.{tokenOf, tokensOf}
-use Rattle.pairs.specs.Encodes.{Encodes, grammarOf}
+use Rattle.pairs.specs.Encodes.{Encodes}
 use Rattle.pairs.proofs.Grammars.{proper}
 use Rattle.prefixes.specs.Stack.{Holds, StepHolds}
 
@@ -46,7 +46,7 @@ depths {w} {i} {depth} u h = go (drop (i + 1) (tokensOf w)) (rw (drop-token w i 
 
 module _ (t : List ℕ) (n start : ℕ) (w out₀ : List ℕ) where
   abbrev g : Grammar
-  g = grammarOf t n start
+  g = grammarIn t n start
 
   pub first-turn : (rows stack names : List ℕ) → Encodes rows (single start start) → Shallow 128 (tokensOf w) 0 → length stack ≡ 4096 → length names ≡ 128 → Turn g w out₀ 0 rows 0 stack names out₀
   first-turn rows stack names x s p q =

@@ -8,7 +8,8 @@ use Rattle.vpg.specs.declared.Token.{Token}
 use Rattle.vpg.specs.Depth.{openAfter}
 use Rattle.vpg.specs.Pairs.{PairStack, Configuration, derivative}
 use Rattle.vpg.specs.Sets.{listed}
-use Rattle.pairs.specs.Encodes.{Encodes, grammarOf}
+use Rattle.tables.specs.Ready.{grammarIn}
+use Rattle.pairs.specs.Encodes.{Encodes}
 
 -- the 32 words of step d
 unfoldable pub blockAt : List ℕ → ℕ → List ℕ
@@ -27,7 +28,7 @@ pub record Holds (rows : List ℕ) (depth : ℕ) (stack names : List ℕ) (x : C
 
 -- a step over the token t: whatever configuration the words were before, they are its derivative by t now, and the arrays are as long as before
 pub record StepHolds (table : List ℕ) (count : ℕ) (t : Token) (rows : List ℕ) (depth : ℕ) (stack names rows′ : List ℕ) (depth′ : ℕ) (stack′ names′ : List ℕ) : Type 0 where
-  pub holds : (start : ℕ) (x : Configuration) → Holds rows depth stack names x → Holds rows′ depth′ stack′ names′ (derivative (grammarOf table count start) t x)
+  pub holds : (start : ℕ) (x : Configuration) → Holds rows depth stack names x → Holds rows′ depth′ stack′ names′ (derivative (grammarIn table count start) t x)
   pub steps-open : depth′ ≡ openAfter t depth
   pub stack-size : length stack′ ≡ 4096
   pub names-size : length names′ ≡ 128

@@ -12,11 +12,10 @@ ghost use lib.Seq.{paste};
 ghost use Rattle.vpg.specs.Depth.{openAfter, Shallow};
 ghost use Rattle.vpg.specs.Pairs.{Configuration, accepts};
 ghost use Rattle.vpg.specs.Sets.{one, stopMarks};
-ghost use Rattle.tables.specs.Ready.{Ready};
+ghost use Rattle.tables.specs.Ready.{Ready, grammarIn};
 ghost use Rattle.history_file.specs.HistoryFile.{tokensOf};
 ghost use Rattle.history_file.specs.HistoryTokens.{Tokens};
 ghost use Rattle.pairs.specs.Words.{emptiesOf};
-ghost use Rattle.pairs.specs.Encodes.{grammarOf};
 ghost use Rattle.prefixes.specs.Stack.{blockAt, Holds, StepHolds};
 
 // A state as 32 words, and how many steps are open.
@@ -71,7 +70,7 @@ fn number(b: bool) -> u8
 
 // The stop mark of a configuration: no step is open, and the top level may be finished.
 fn mark_of(rows: [u32; 32], depth: usize, empties: u32) -> u8
-    ensures { λ r. ⌜ ((t : List ℕ) (n start : ℕ) (stack names : List ℕ) (x : Configuration) → Ready t n → empties ≡ emptiesOf t n → Holds rows depth stack names x → r ≡ one (accepts (grammarOf t n start) x)) ⌝ }
+    ensures { λ r. ⌜ ((t : List ℕ) (n start : ℕ) (stack names : List ℕ) (x : Configuration) → Ready t n → empties ≡ emptiesOf t n → Holds rows depth stack names x → r ≡ one (accepts (grammarIn t n start) x)) ⌝ }
 {
     number(both(depth == 0, pairs::may_end(rows, empties)))
 }
@@ -131,7 +130,7 @@ pub fn marks(table: &[u16; 768], count: usize, start: u16, w: &[u32], out: &mut 
     requires { ⌜ Tokens (now w) ⌝ }
     requires { ⌜ Shallow 128 (tokensOf (now w)) 0 ⌝ }
     requires { ⌜ length (now w) + 1 ≤ length (now out) ⌝ }
-    ensures { λ _. ⌜ now (out .exit) ≡ stopMarks (grammarOf (now (table .entry)) count start) (tokensOf (now (w .entry))) ++ drop (length (now (w .entry)) + 1) (now (out .entry)) ⌝ }
+    ensures { λ _. ⌜ now (out .exit) ≡ stopMarks (grammarIn (now (table .entry)) count start) (tokensOf (now (w .entry))) ++ drop (length (now (w .entry)) + 1) (now (out .entry)) ⌝ }
 {
     let empties = pairs::empties(table, count);
     let mut stack = [0u32; 4096];

@@ -4,7 +4,7 @@ use Prim.Native.Nat.{_-_, _≤_}
 use native.Mathlib.Omega.{arith}
 use mathlib.Core.Path.{_≡_, _∙_}
 use borrow.Author.Needs.{needs}
-use Rattle.pairs.proofs.Gathers.{currents-turn}
+use Rattle.pairs.proofs.Fills.{currents-turn}
 use Rattle.pairs.specs.Words.{currentsOf}
 use Rattle.pairs.proofs.currents.Statement.{statement}
 use Rattle.pairs.proofs.currents.Tie as tie

@@ -6,7 +6,7 @@ use mathlib.Core.Path.{_≡_, refl}
 use borrow.Author.Needs.{needs}
 use lib.Bits.{bitAnd}
 use Rattle.pairs.specs.Words.{diagonalOf}
-use Rattle.pairs.proofs.Gathers.{Filled, fill-turn, fill-all}
+use Rattle.pairs.proofs.Fills.{Filled, fill-turn, fill-all}
 use Rattle.bits.specs.Bit.{addBit}
 use Rattle.pairs.proofs.diagonal.Statement.{statement}
 use Rattle.pairs.proofs.diagonal.Tie as tie

@@ -6,8 +6,9 @@ use mathlib.Core.Bool.{Bool}
 use mathlib.Core.Path.{_≡_, _∙_, ap}
 use borrow.Author.Needs.{needs}
 use lib.ListN.{getD}
-use Rattle.pairs.proofs.Gathers.{gather-turn}
-use Rattle.pairs.specs.Words.{pick, gather, meets}
+use Rattle.rows.proofs.Gathers.{gather-turn}
+use Rattle.rows.specs.Row.{pick, gather}
+use Rattle.pairs.specs.Words.{meets}
 use Rattle.bits.specs.Bit.{addBit}
 use Rattle.pairs.proofs.finished_of.Statement.{statement}
 use Rattle.pairs.proofs.finished_of.Tie as tie

@@ -5,7 +5,7 @@ use native.Mathlib.Omega.{arith}
 use mathlib.Core.Path.{_≡_, refl}
 use borrow.Author.Needs.{needs}
 use lib.ListN.{getD}
-use Rattle.pairs.proofs.Gathers.{Filled, fill-turn, fill-all}
+use Rattle.pairs.proofs.Fills.{Filled, fill-turn, fill-all}
 use Rattle.prefixes.specs.Stack.{blockAt}
 use Rattle.prefixes.proofs.load.Statement.{statement}
 use Rattle.prefixes.proofs.load.Tie as tie

@@ -6,12 +6,12 @@ use mathlib.Core.Path.{_∙_}
 use borrow.Author.Needs.{needs}
 use lib.ListN.{length, replicate, length-replicate, length-set}
 use Rattle.prefixes.proofs.Turns.{Turn, depths, first-turn, next-turn, last-turn}
-use Rattle.pairs.specs.Encodes.{grammarOf}
+use Rattle.tables.specs.Ready.{grammarIn}
 use Rattle.prefixes.proofs.marks.Statement.{statement}
 use Rattle.prefixes.proofs.marks.Tie as tie
 
 abbrev Inv-loop : tie.InvT-loop
-Inv-loop table count start w out₀ empties stack₀ names₀ rows₀ depth₀ i₀ out stack names rows depth i = (i ≤ length w) × Turn (grammarOf table count start) w out₀ i rows depth stack names out
+Inv-loop table count start w out₀ empties stack₀ names₀ rows₀ depth₀ i₀ out stack names rows depth i = (i ≤ length w) × Turn (grammarIn table count start) w out₀ i rows depth stack names out
 
 abbrev μ-loop : tie.MeasureT-loop
 μ-loop table count start w out₀ empties stack₀ names₀ rows₀ depth₀ i₀ out stack names rows depth i = length w - i

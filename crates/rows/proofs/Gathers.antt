@@ -1,4 +1,4 @@
--- What a set that was gathered has, and the turns of the loops that gather it or fill 32 words.
+-- What a set that was gathered has, and a turn of the loop that gathers it.
 -- Assumes nothing.
 use Prim.Native.Nat.{ℕ, zero, suc, _+_, _^_, _<_}
 use native.Mathlib.Numerals.{add-one}
@@ -6,23 +6,18 @@ use native.Mathlib.Omega.{arith}
 use mathlib.Core.Path.{_≡_, refl, sym, _∙_, ap, ap₂}
 use mathlib.Core.Bool.{Bool, true, false, not, _&&_, _||_, false≢true}
 use mathlib.Core.List.{List, [], _∷_, _++_}
-use borrow.Author.Count.{below-more}
 use borrow.Author.Tests.{eqb-true, eq-eqb, ne-eqb}
-use lib.Bits.{bitOr}
 use lib.Dec.{eqb}
-use lib.ListN.{length, getD, set, length-set}
+use lib.ListN.{set}
 use lib.Pow.{pow-pos}
-use lib.Seq.{ext-getD, getD-set-same, getD-set-other}
 use Rattle.bits.specs.Bit.{bit, addBit}
-use Rattle.bits.proofs.Bits.{bit-zero, bit-or, bit-add, add-below, no-member}
+use Rattle.bits.proofs.Bits.{bit-zero, bit-add, add-below, no-member}
 use Rattle.vpg.specs.declared.Rule.{Rule}
 use Rattle.vpg.specs.Any.{any, anyBelow}
-use Rattle.vpg.specs.Sets.{listed}
 use Rattle.vpg.proofs.Any.{below-some, some-below}
-use Rattle.vpg.proofs.Sets.{length-listed, getD-listed}
 use Rattle.tables.specs.Table.{ruleIn, rulesIn}
-use Rattle.pairs.specs.declared.Pattern.{Pattern}
-use Rattle.pairs.specs.Words.{pick, gather, passes, followsBy, rowAfter, currentsOf}
+use Rattle.rows.specs.declared.Pattern.{Pattern}
+use Rattle.rows.specs.Row.{pick, gather, passes, followsBy, rowAfter}
 
 -- ── tests ──
 
@@ -102,11 +97,6 @@ some-member k m h = go (anyBelow k (bit m)) refl
         none b l true p = absurd (false≢true (sym q ∙ some-below k (bit m) b l p))
         none b l false p = p
 
-pub bit-currents : (rows : List ℕ) (n L : ℕ) → bit (currentsOf rows n) L ≡ anyBelow n (λ k. bit (getD rows k 0) L)
-unfolding currentsOf
-bit-currents rows zero L = bit-zero L
-bit-currents rows (suc n) L = bit-or (currentsOf rows n) (getD rows n 0) L ∙ or-comm (bit (currentsOf rows n) L) (bit (getD rows n 0) L) ∙ ap (λ (b : Bool). bit (getD rows n 0) L || b) (bit-currents rows n L)
-
 -- ── turns of loops ──
 
 pub gather-turn : (p : ℕ → Bool) (f : ℕ → ℕ) (r m : ℕ) → m ≡ gather p f r → pick (p r) (addBit m (f r)) m ≡ gather p f (r + 1)
@@ -118,24 +108,3 @@ pub no-row : (p : Pattern) (done : ℕ) (t : List ℕ) (n : ℕ) → rowAfter p 
 unfolding gather
 no-row p done t zero = refl
 no-row p done t (suc n) = rw (bit-zero, no-row p done t n)
-
-pub currents-turn : (rows : List ℕ) (k m : ℕ) → m ≡ currentsOf rows k → bitOr m (getD rows k 0) ≡ currentsOf rows (k + 1)
-unfolding currentsOf
-currents-turn rows k m e = rw (add-one, e)
-
--- the first k elements are those of f
-pub record Filled (n : ℕ) (f : ℕ → ℕ) (k : ℕ) (l : List ℕ) : Type 0 where
-  pub size : length l ≡ n
-  pub at : (i : ℕ) → i < k → getD l i 0 ≡ f i
-
-pub fill-turn : (n : ℕ) (f : ℕ → ℕ) (k : ℕ) (l : List ℕ) (v : ℕ) → Filled n f k l → k < n → v ≡ f k → Filled n f (k + 1) (set l k v)
-fill-turn n f k l v h m e = record {
-  size = length-set l k v ∙ h .size;
-  at = below-more (λ i. getD (set l k v) i 0 ≡ f i) k (λ i j. getD-set-other l k i v 0 (omega arith) ∙ h .at i j)
-      (getD-set-same l k v 0 (omega (arith, h .size)) ∙ e);
-}
-
-pub fill-all : (n : ℕ) (f : ℕ → ℕ) (l : List ℕ) → Filled n f n l → l ≡ listed n f
-fill-all n f l h =
-    ext-getD 0 l (listed n f) (h .size ∙ sym (length-listed n f))
-    (λ i j. let k : i < n = omega (arith, h .size) in h .at i k ∙ sym (getD-listed n f i 0 k))

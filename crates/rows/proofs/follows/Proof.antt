@@ -1,8 +1,8 @@
--- `left_of`: by the form of the rule.
+-- `follows`: by the form of the rule.
 -- Assumes nothing.
 use borrow.Author.Needs.{needs}
-use Rattle.pairs.proofs.left_of.Statement.{statement}
-use Rattle.pairs.proofs.left_of.Tie as tie
+use Rattle.rows.proofs.follows.Statement.{statement}
+use Rattle.rows.proofs.follows.Tie as tie
 
 enum-known-rule : tie.Need-enum-known-rule
 enum-known-rule c = search needs
@@ -19,8 +19,8 @@ wide-requires-2 c κs = search needs
 enum-known-rule-3 : tie.Need-enum-known-rule-3
 enum-known-rule-3 c = search needs
 
-wide-requires-3 : tie.Need-wide-requires-3
-wide-requires-3 c κs = search needs
+step-follows-requires : tie.Need-step-follows-requires
+step-follows-requires c κs = search needs
 
 returns : tie.Need-returns
 returns c = search needs
@@ -29,10 +29,10 @@ returns-2 : tie.Need-returns-2
 returns-2 c = search needs
 
 returns-3 : tie.Need-returns-3
-returns-3 c = simp (c .before .before .rule3 .given .1) (c .wide3 .ensures)
+returns-3 c = simp (c .before .before .rule3 .given .1) (c .step-follows .ensures)
 
-pub left-of-spec : {M : Type 1} → statement M
-left-of-spec =
+pub follows-spec : {M : Type 1} → statement M
+follows-spec =
     tie.close
     (tie.spec
     enum-known-rule
@@ -40,7 +40,7 @@ left-of-spec =
     enum-known-rule-2
     wide-requires-2
     enum-known-rule-3
-    wide-requires-3
+    step-follows-requires
     returns
     returns-2
     returns-3)
