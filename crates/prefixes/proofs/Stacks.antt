@@ -20,7 +20,7 @@ use Rattle.vpg.proofs.Sets.{listed-cong, getD-listed}
 use Rattle.vpg.proofs.Take.{name-open}
 use Rattle.tables.specs.Ready.{grammarIn}
 use Rattle.pairs.specs.Encodes.{Encodes}
-use Rattle.prefixes.specs.Stack.{blockAt, Saved, Holds, StepHolds}
+use Rattle.prefixes.specs.Stack.{blockAt, Saved, Holds, CloseHolds, StepHolds}
 
 -- ── a block that was written ──
 
@@ -88,6 +88,35 @@ saved-bottom stack names (suc d) (y ∷ T) x = eqb·suc-zero d
 
 -- ── one step ──
 
+-- over a close
+module _ (t : List ℕ) (n : ℕ) (rows : List ℕ) (stack names : List ℕ) (b : CloseName) where
+  pub closed-step : (depth : ℕ) (rows′ : List ℕ) → depth ≢ 0 →
+      ((start : ℕ) (S S₁ : PairState) → Encodes rows S → Encodes (blockAt stack (depth - 1)) S₁ →
+      Encodes rows′ (overClose (grammarIn t n start) b S S₁ (record { 0 = getD names (depth - 1) 0 }))) →
+      CloseHolds t n b rows depth stack names rows′ (depth - 1)
+  closed-step zero rows′ more f = absurd (more refl)
+  closed-step (suc d) rows′ more f = record { holds = λ start x h. go start (x .0) (x .1) (h .state) (h .saved); steps-open = refl }
+    where
+      go : (start : ℕ) (S : PairState) (T : PairStack) → Encodes rows S → Saved stack names (suc d) T → Holds rows′ (suc d - 1) stack names (closed (grammarIn t n start) b S T)
+      go start S [] x y = absurd y
+      go start S (p ∷ T) x y =
+          let e : suc d - 1 ≡ d = omega arith in
+          let a : record { 0 = getD names (suc d - 1) 0 } ≡ p .1 = name-open (ap (λ (k : ℕ). getD names k 0) e ∙ y .1) in
+          record {
+            state = subst (λ (o : OpenName). Encodes rows′ (overClose (grammarIn t n start) b S (p .0) o)) a
+                (f start S (p .0) x (subst (λ (k : ℕ). Encodes (blockAt stack k) (p .0)) (sym e) (y .0)));
+            saved = subst (λ (k : ℕ). Saved stack names k T) (sym e) (y .2);
+          }
+
+  -- with no step open
+  pub closed-none : (depth : ℕ) → depth ≡ 0 → CloseHolds t n b rows depth stack names (replicate 32 0) 0
+  closed-none depth none = record { holds = λ start x h. go start (x .0) (x .1) (subst (λ (d : ℕ). Saved stack names d (x .1)) none (h .saved)); steps-open = rw none }
+    where
+      go : (start : ℕ) (S : PairState) (T : PairStack) → Saved stack names 0 T → Holds (replicate 32 0) 0 stack names (closed (grammarIn t n start) b S T)
+      go start S [] y = record { state = record { at = λ L₁ L₂ l₁ l₂. ap (λ (m : ℕ). bit m L₂) (getD-replicate 32 L₁ 0 0 l₁) ∙ bit-zero L₂ }; saved = tt }
+      go start S (p ∷ T) y = absurd y
+
+-- over each kind of token
 module _ (t : List ℕ) (n : ℕ) (rows : List ℕ) (depth : ℕ) (stack names : List ℕ) (long : length stack ≡ 4096) (long′ : length names ≡ 128) where
   -- over a mark
   pub mark-step : (c : MarkName) (rows′ : List ℕ) → ((start : ℕ) (S : PairState) → Encodes rows S → Encodes rows′ (overMark (grammarIn t n start) c S)) →
@@ -109,32 +138,6 @@ module _ (t : List ℕ) (n : ℕ) (rows : List ℕ) (depth : ℕ) (stack names :
     names-size = length-set names depth (a .0) ∙ long′;
   }
 
-  -- over a close
-  pub close-step : (b : CloseName) (rows′ : List ℕ) → depth ≢ 0 →
-      ((start : ℕ) (S S₁ : PairState) → Encodes rows S → Encodes (blockAt stack (depth - 1)) S₁ →
-      Encodes rows′ (overClose (grammarIn t n start) b S S₁ (record { 0 = getD names (depth - 1) 0 }))) →
-      StepHolds t n (Token.Close b) rows depth stack names rows′ (depth - 1) stack names
-  close-step b rows′ more f = record { holds = λ start x h. go depth more f start (x .0) (x .1) (h .state) (h .saved); steps-open = refl; stack-size = long; names-size = long′ }
-    where
-      go : (d : ℕ) → d ≢ 0 →
-          ((start : ℕ) (S S₁ : PairState) → Encodes rows S → Encodes (blockAt stack (d - 1)) S₁ →
-          Encodes rows′ (overClose (grammarIn t n start) b S S₁ (record { 0 = getD names (d - 1) 0 }))) →
-          (start : ℕ) (S : PairState) (T : PairStack) → Encodes rows S → Saved stack names d T → Holds rows′ (d - 1) stack names (closed (grammarIn t n start) b S T)
-      go zero more f start S T x y = absurd (more refl)
-      go (suc d) more f start S [] x y = absurd y
-      go (suc d) more f start S (p ∷ T) x y =
-          let e : suc d - 1 ≡ d = omega arith in
-          let a : record { 0 = getD names (suc d - 1) 0 } ≡ p .1 = name-open (ap (λ (k : ℕ). getD names k 0) e ∙ y .1) in
-          record {
-            state = subst (λ (o : OpenName). Encodes rows′ (overClose (grammarIn t n start) b S (p .0) o)) a
-                (f start S (p .0) x (subst (λ (k : ℕ). Encodes (blockAt stack k) (p .0)) (sym e) (y .0)));
-            saved = subst (λ (k : ℕ). Saved stack names k T) (sym e) (y .2);
-          }
-
-  -- over a close with no step open
-  pub close-none : (b : CloseName) → depth ≡ 0 → StepHolds t n (Token.Close b) rows depth stack names (replicate 32 0) 0 stack names
-  close-none b none = record { holds = λ start x h. go start (x .0) (x .1) (subst (λ (d : ℕ). Saved stack names d (x .1)) none (h .saved)); steps-open = rw none; stack-size = long; names-size = long′ }
-    where
-      go : (start : ℕ) (S : PairState) (T : PairStack) → Saved stack names 0 T → Holds (replicate 32 0) 0 stack names (closed (grammarIn t n start) b S T)
-      go start S [] y = record { state = record { at = λ L₁ L₂ l₁ l₂. ap (λ (m : ℕ). bit m L₂) (getD-replicate 32 L₁ 0 0 l₁) ∙ bit-zero L₂ }; saved = tt }
-      go start S (p ∷ T) y = absurd y
+  pub close-step : (b : CloseName) (rows′ : List ℕ) (depth′ : ℕ) → CloseHolds t n b rows depth stack names rows′ depth′ →
+      StepHolds t n (Token.Close b) rows depth stack names rows′ depth′ stack names
+  close-step b rows′ depth′ h = record { holds = h .holds; steps-open = h .steps-open; stack-size = long; names-size = long′ }

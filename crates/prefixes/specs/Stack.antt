@@ -1,9 +1,10 @@
 -- Which configuration the words of a state and of a stack are.
 -- Assumes nothing.
-use Prim.Native.Nat.{ℕ, zero, suc, _+_, _*_}
+use Prim.Native.Nat.{ℕ, zero, suc, _+_, _-_, _*_}
 use mathlib.Core.Path.{_≡_}
 use mathlib.Core.List.{List, [], _∷_}
 use lib.ListN.{length, getD}
+use Rattle.vpg.specs.declared.CloseName.{CloseName}
 use Rattle.vpg.specs.declared.Token.{Token}
 use Rattle.vpg.specs.Depth.{openAfter}
 use Rattle.vpg.specs.Pairs.{PairStack, Configuration, derivative}
@@ -26,7 +27,12 @@ pub record Holds (rows : List ℕ) (depth : ℕ) (stack names : List ℕ) (x : C
   pub state : Encodes rows (x .0)
   pub saved : Saved stack names depth (x .1)
 
--- a step over the token t: whatever configuration the words were before, they are its derivative by t now, and the arrays are as long as before
+-- over a close: whatever configuration the words were before, they are its derivative now; the stack's words stay
+pub record CloseHolds (table : List ℕ) (count : ℕ) (b : CloseName) (rows : List ℕ) (depth : ℕ) (stack names rows′ : List ℕ) (depth′ : ℕ) : Type 0 where
+  pub holds : (start : ℕ) (x : Configuration) → Holds rows depth stack names x → Holds rows′ depth′ stack names (derivative (grammarIn table count start) (Token.Close b) x)
+  pub steps-open : depth′ ≡ depth - 1
+
+-- over any token t, and the arrays are as long as before
 pub record StepHolds (table : List ℕ) (count : ℕ) (t : Token) (rows : List ℕ) (depth : ℕ) (stack names rows′ : List ℕ) (depth′ : ℕ) (stack′ names′ : List ℕ) : Type 0 where
   pub holds : (start : ℕ) (x : Configuration) → Holds rows depth stack names x → Holds rows′ depth′ stack′ names′ (derivative (grammarIn table count start) t x)
   pub steps-open : depth′ ≡ openAfter t depth

@@ -1,5 +1,6 @@
 // Stop marks (document 01, "Readings"): which beginnings of the tokens have a reading, by the pair states of Definition 4.2 of the paper.
 // One pass from left to right. The stack holds, for each open step, the 32 words of the state before its open, and the open's name.
+use vpg::CloseName;
 use vpg::OpenName;
 use vpg::Token;
 ghost use mathlib.Core.Path.{_≡_};
@@ -16,7 +17,7 @@ ghost use Rattle.tables.specs.Ready.{Ready, grammarIn};
 ghost use Rattle.history_file.specs.HistoryFile.{tokensOf};
 ghost use Rattle.history_file.specs.HistoryTokens.{Tokens};
 ghost use Rattle.pairs.specs.Words.{emptiesOf};
-ghost use Rattle.prefixes.specs.Stack.{blockAt, Holds, StepHolds};
+ghost use Rattle.prefixes.specs.Stack.{blockAt, Holds, CloseHolds, StepHolds};
 
 // A state as 32 words, and how many steps are open.
 struct Top {
@@ -75,6 +76,37 @@ fn mark_of(rows: [u32; 32], depth: usize, empties: u32) -> u8
     number(both(depth == 0, pairs::may_end(rows, empties)))
 }
 
+// Over a close: back to the state before the step's open. With no step open, no pair is left.
+fn closed(
+    table: &[u16; 768],
+    count: usize,
+    empties: u32,
+    b: CloseName,
+    rows: [u32; 32],
+    depth: usize,
+    stack: &[u32; 4096],
+    names: &[u16; 128],
+) -> Top
+    requires { ⌜ Ready (now table) count ⌝ }
+    requires { ⌜ empties ≡ emptiesOf (now table) count ⌝ }
+    requires { ⌜ depth ≤ 128 ⌝ }
+    ensures { λ r. ⌜ CloseHolds (now (table .entry)) count b rows depth (now (stack .entry)) (now (names .entry)) (r .rows) (r .depth) ⌝ }
+{
+    if depth == 0 {
+        return Top {
+            rows: [0; 32],
+            depth: 0,
+        };
+    }
+    let d = depth - 1;
+    let saved = load(stack, d);
+    let a = OpenName(names[d]);
+    Top {
+        rows: pairs::after_close(table, count, empties, b, rows, a, saved),
+        depth: d,
+    }
+}
+
 // Over one token: the words of the derivative of a configuration.
 fn step(
     table: &[u16; 768],
@@ -105,21 +137,7 @@ fn step(
                 depth: depth + 1,
             }
         }
-        Token::Close(b) => {
-            if depth == 0 {
-                return Top {
-                    rows: [0; 32],
-                    depth: 0,
-                };
-            }
-            let d = depth - 1;
-            let saved = load(stack, d);
-            let a = OpenName(names[d]);
-            Top {
-                rows: pairs::after_close(table, count, empties, b, rows, a, saved),
-                depth: d,
-            }
-        }
+        Token::Close(b) => closed(table, count, empties, b, rows, depth, stack, names),
     }
 }
 
