@@ -4,8 +4,8 @@ use Prim.Native.Nat.{_<_}
 use Rattle.vpg.specs.declared.Rule.{Rule}
 use Rattle.vpg.specs.Steps.{left}
 use Rattle.tables.specs.Ready.{Below}
-use Rattle.rows.specs.declared.Pattern.{Pattern}
-use Rattle.rows.specs.Row.{followsBy}
+use Rattle.pair_rows.specs.declared.Pattern.{Pattern}
+use Rattle.pair_rows.specs.Row.{followsBy}
 
 pub left-below : (R : Rule) → Below 32 R → left R < 32
 left-below (Rule.Empty M) h = h

@@ -1,8 +1,8 @@
 -- `is_mark`: by the pattern.
 -- Assumes nothing.
 use borrow.Author.Needs.{needs}
-use Rattle.rows.proofs.is_mark.Statement.{statement}
-use Rattle.rows.proofs.is_mark.Tie as tie
+use Rattle.pair_rows.proofs.is_mark.Statement.{statement}
+use Rattle.pair_rows.proofs.is_mark.Tie as tie
 
 enum-told : tie.Need-enum-told
 enum-told c = search needs

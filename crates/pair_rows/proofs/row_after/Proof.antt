@@ -4,12 +4,12 @@ use Prim.Native.Nat.{_-_, _≤_}
 use native.Mathlib.Omega.{arith}
 use mathlib.Core.Path.{_≡_, sym, _∙_, ap, subst}
 use borrow.Author.Needs.{needs}
-use Rattle.rows.proofs.Gathers.{gather-turn, no-row}
-use Rattle.rows.specs.Row.{gather, passes, gained, followsBy, rowAfter}
+use Rattle.pair_rows.proofs.Gathers.{gather-turn, no-row}
+use Rattle.pair_rows.specs.Row.{gather, passes, gained, followsBy, rowAfter}
 use Rattle.tables.specs.Table.{ruleIn}
 use Rattle.tables.specs.Ready.{Below}
-use Rattle.rows.proofs.row_after.Statement.{statement}
-use Rattle.rows.proofs.row_after.Tie as tie
+use Rattle.pair_rows.proofs.row_after.Statement.{statement}
+use Rattle.pair_rows.proofs.row_after.Tie as tie
 
 abbrev Inv-loop : tie.InvT-loop
 Inv-loop table count p row done m₀ k₀ m k = (k ≤ count) × (m ≡ rowAfter p row done table k)

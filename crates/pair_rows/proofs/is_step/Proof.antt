@@ -4,8 +4,8 @@ use mathlib.Core.Bool.{_&&_}
 use mathlib.Core.Path.{_∙_, ap, ap₂}
 use borrow.Author.Needs.{needs}
 use Rattle.bits.specs.Bit.{bit}
-use Rattle.rows.proofs.is_step.Statement.{statement}
-use Rattle.rows.proofs.is_step.Tie as tie
+use Rattle.pair_rows.proofs.is_step.Statement.{statement}
+use Rattle.pair_rows.proofs.is_step.Tie as tie
 
 enum-told : tie.Need-enum-told
 enum-told c = search needs

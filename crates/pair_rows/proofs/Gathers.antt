@@ -16,8 +16,8 @@ use Rattle.vpg.specs.declared.Rule.{Rule}
 use Rattle.vpg.specs.Any.{any, anyBelow}
 use Rattle.vpg.proofs.Any.{below-some, some-below}
 use Rattle.tables.specs.Table.{ruleIn, rulesIn}
-use Rattle.rows.specs.declared.Pattern.{Pattern}
-use Rattle.rows.specs.Row.{pick, gather, passes, followsBy, rowAfter}
+use Rattle.pair_rows.specs.declared.Pattern.{Pattern}
+use Rattle.pair_rows.specs.Row.{pick, gather, passes, followsBy, rowAfter}
 
 -- ── tests ──
 

@@ -3,8 +3,8 @@
 use mathlib.Core.Path.{subst}
 use borrow.Author.Needs.{needs}
 use Rattle.tables.specs.Ready.{Below}
-use Rattle.rows.proofs.matches_rule.Statement.{statement}
-use Rattle.rows.proofs.matches_rule.Tie as tie
+use Rattle.pair_rows.proofs.matches_rule.Statement.{statement}
+use Rattle.pair_rows.proofs.matches_rule.Tie as tie
 
 enum-told : tie.Need-enum-told
 enum-told c = search needs

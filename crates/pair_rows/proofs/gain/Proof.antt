@@ -2,10 +2,10 @@
 -- Assumes nothing.
 use mathlib.Core.Path.{sym, _∙_, ap}
 use borrow.Author.Needs.{needs}
-use Rattle.rows.proofs.Below.{left-below, follows-below}
+use Rattle.pair_rows.proofs.Below.{left-below, follows-below}
 use Rattle.bits.specs.Bit.{bit, addBit}
-use Rattle.rows.proofs.gain.Statement.{statement}
-use Rattle.rows.proofs.gain.Tie as tie
+use Rattle.pair_rows.proofs.gain.Statement.{statement}
+use Rattle.pair_rows.proofs.gain.Tie as tie
 
 left-of-requires : tie.Need-left-of-requires
 left-of-requires c κs = search needs

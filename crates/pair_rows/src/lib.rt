@@ -9,7 +9,7 @@ ghost use Prim.Native.Nat.{_<_};
 ghost use lib.Dec.{eqb};
 ghost use Rattle.vpg.specs.Steps.{left};
 ghost use Rattle.tables.specs.Ready.{Below, Ready};
-ghost use Rattle.rows.specs.Row.{emptyMatches, markMatches, stepMatches, matchesBy, stepFollows, followsBy, gained, rowAfter};
+ghost use Rattle.pair_rows.specs.Row.{emptyMatches, markMatches, stepMatches, matchesBy, stepFollows, followsBy, gained, rowAfter};
 
 // What rules are looked for: L -> empty; L -> c L1; L -> open a, L1, any close, L2; L -> open a, L1, close b, L2.
 pub enum Pattern {

@@ -11,7 +11,7 @@ use Rattle.vpg.specs.declared.CloseName.{CloseName}
 use Rattle.vpg.specs.declared.Rule.{Rule}
 use Rattle.vpg.specs.Steps.{left}
 use Rattle.tables.specs.Table.{ruleIn}
-use Rattle.rows.specs.declared.Pattern.{Pattern}
+use Rattle.pair_rows.specs.declared.Pattern.{Pattern}
 
 -- is a rule of each form one of those looked for; done: the nonterminals with which the inside of a step may begin
 abbrev pub emptyMatches : Pattern → Bool
