@@ -32,7 +32,7 @@ returns c =
     let a = l .before .args in
     rw (
       l .loop .inv .1,
-      earlier-at (a .rule) (a .table .now) (l .loop .j) (c .before .before .before .loop-test .taken),
+      earlier-at (a .rule) (a .table .now) (l .loop .j) (omega arith),
       ← (c .before .before .rule-of .ensures),
       ← (c .before .same-rule .ensures),
       c .if1 .taken,
@@ -49,7 +49,7 @@ loop-again c =
       omega arith,
       rw (
         l .loop .inv .1,
-        earlier-at (a .rule) (a .table .now) (l .loop .j) (c .before .before .before .loop-test .taken),
+        earlier-at (a .rule) (a .table .now) (l .loop .j) (omega arith),
         ← (c .before .before .rule-of .ensures),
         ← (c .before .same-rule .ensures),
         c .if1 .left,

@@ -1,0 +1,24 @@
+-- Document 01's checked examples hold, each by computing what the definition gives.
+-- Assumes nothing.
+use mathlib.Core.Path.{refl}
+use Rattle.numbers.specs.Number.{numberAt}
+use Rattle.numbers.specs.Field.{fieldAt, countAt}
+use Rattle.rules.specs.Rule.{pairAt, stepAt, bodyAt, ruleAt}
+use Rattle.tables.specs.Table.{sameRule, earlier}
+use Rattle.grammar_file.specs.GrammarFile.{rulesFrom, grammarFrom}
+use Rattle.history_file.specs.HistoryFile.{tokenJudged, tokenAt, depthAfter, tokensFrom, historyFrom}
+use Rattle.examples.specs.Examples.{Examples}
+
+pub examples : Examples
+unfolding numberAt fieldAt countAt pairAt stepAt bodyAt ruleAt sameRule earlier rulesFrom grammarFrom tokenJudged tokenAt depthAfter tokensFrom historyFrom
+examples = record {
+  G-is = refl;
+  history-3-1-0-2 = refl;
+  history-1-2 = refl;
+  history-1-1 = refl;
+  history-1-3 = refl;
+  history-128 = refl;
+  history-128-0 = refl;
+  grammar-1-2-0-0-0-0 = refl;
+  grammar-1-0 = refl;
+}

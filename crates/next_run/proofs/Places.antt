@@ -1,0 +1,47 @@
+-- The backward search, one position at a time.
+-- Assumes nothing.
+use Prim.Native.Nat.{ℕ, zero, suc, _+_, _-_, _<_, _≤_}
+use native.Mathlib.Nat.{eq-or-lt-of-le}
+use native.Mathlib.Omega.{arith}
+use mathlib.Core.Path.{_≡_, refl, sym, _∙_, ap}
+use mathlib.Core.Logic.{⊎-elim}
+use mathlib.Core.Bool.{true, false, _&&_}
+use mathlib.Core.List.{List}
+use lib.Dec.{eqb}
+use lib.ListN.{length, drop, getD}
+use Rattle.vpg.specs.declared.Token.{Token}
+use Rattle.vpg.specs.Steps.{left}
+use Rattle.masks.specs.Walk.{testAt}
+use Rattle.places.specs.declared.Place.{Place}
+use Rattle.tables.specs.Table.{ruleIn, rulesIn}
+use Rattle.levels.specs.Levels.{Leveled, Stands}
+use Rattle.first_run.specs.Fill.{ruleFits}
+use Rattle.next_run.specs.Next.{fitsAt, NoneFrom, LastAt}
+
+-- no rule between the one in the buffer and r fits
+abbrev pub NoneBetween : List ℕ → ℕ → ℕ → Place → ℕ → Type 0
+NoneBetween t b L place r = (s : ℕ) → b < s → s < r → ruleFits (ruleIn t s) L place ≡ false
+
+pub between-more : (t : List ℕ) (b L : ℕ) (place : Place) (r : ℕ) → NoneBetween t b L place r → ruleFits (ruleIn t r) L place ≡ false → NoneBetween t b L place (r + 1)
+between-more t b L place r h q s l k = ⊎-elim (λ e. rw e q) (λ z. h s l z) (eq-or-lt-of-le (step k))
+  where
+    step : s < r + 1 → s ≤ r
+    step z = omega arith
+
+module _ (t : List ℕ) (n : ℕ) (w : List Token) (mask at e : List ℕ) (leveled : Leveled (rulesIn t n) w mask 0) where
+  pub none-end : (p : ℕ) → length w < p → NoneFrom t n w at e p
+  none-end p h q l k = absurd (omega arith)
+
+  module _ (p : ℕ) (place : Place) (stands : Stands w mask p place) where
+    fits-same : (r : ℕ) → fitsAt t n w at p r ≡ ruleFits (ruleIn t r) (getD at p 0) place
+    fits-same r = ap (λ b. eqb (left (ruleIn t r)) (getD at p 0) && b) (sym (stands (rulesIn t n) (λ q h l. leveled q (omega arith) l) (ruleIn t r)))
+
+    pub none-next : (r : ℕ) → n ≤ r → NoneBetween t (getD e p 0) (getD at p 0) place r → NoneFrom t n w at e (suc p) → NoneFrom t n w at e p
+    none-next r h k x q l z s a b = ⊎-elim (λ i. here q i s a b) (λ i. x q i z s a b) (eq-or-lt-of-le l)
+      where
+        here : (q : ℕ) → p ≡ q → (s : ℕ) → getD e q 0 < s → s < n → fitsAt t n w at q s ≡ false
+        here q i s a b = rw (← i) (fits-same s ∙ k s (rw (← i) at a) (omega arith))
+
+    pub found-at : (r : ℕ) → p ≤ length w → getD e p 0 < r → r < n → ruleFits (ruleIn t r) (getD at p 0) place ≡ true → NoneBetween t (getD e p 0) (getD at p 0) place r →
+        NoneFrom t n w at e (suc p) → LastAt t n w at e p r
+    found-at r h l b q k x = record { place = h; larger = l; rule = b; fits = fits-same r ∙ q; least = λ s a z. fits-same s ∙ k s a z; last = x }

@@ -1,0 +1,221 @@
+-- A reading in the buffer: the next one, or that there is no further.
+-- Assumes nothing.
+use Prim.Native.Nat.{ℕ, zero, suc, _+_, _-_, _<_, _≤_}
+use native.Mathlib.Nat.{eq-or-lt-of-le}
+use native.Mathlib.Omega.{arith}
+use mathlib.Core.Path.{_≡_, refl, sym, _∙_, ap, ap₂}
+use mathlib.Core.Logic.{⊎-elim}
+use mathlib.Core.Bool.{true, false, _&&_, false≢true}
+use mathlib.Core.List.{List, [], _∷_, _++_}
+use mathlib.Core.Option.{some, Option·some-injective}
+use borrow.Author.Tests.{eqb-true, eq-eqb}
+use lib.Dec.{eqb}
+use lib.ListN.{length, take, drop, getD, set, getElem?, take-append-drop, drop-of-length-le}
+use lib.Seq.{drop-cons, getD-take, length-take-le, take-take}
+use Rattle.bits.specs.Bit.{bit}
+use Rattle.vpg.specs.declared.Rule.{Rule}
+use Rattle.vpg.specs.declared.Token.{Token}
+use Rattle.vpg.specs.Grammar.{Rules}
+use Rattle.vpg.specs.Extremes.{Least, Next, Last}
+use Rattle.vpg.specs.Listing.{next, written, no-further, refused}
+use Rattle.vpg.specs.Calls.{callOn, overEntries}
+use Rattle.vpg.specs.Runs.{Stack, State, entries}
+use Rattle.vpg.specs.Steps.{left}
+use Rattle.vpg.proofs.Ascends.{entries-ascending}
+use Rattle.vpg.proofs.Basics.{and-left, and-right}
+use Rattle.vpg.proofs.Calls.{next-refused, next-written, next-no-further}
+use Rattle.vpg.proofs.Take.{end}
+use Rattle.masks.specs.Masks.{Outer, finishes, masks, Match, Fits}
+use Rattle.masks.specs.Pending.{pendingAt, closeOf, dueAt}
+use Rattle.masks.specs.Walk.{Run, testAt, inner, later}
+use Rattle.masks.specs.Local.{stateAt}
+use Rattle.masks.proofs.Alive.{Passes, both, run-fits}
+use Rattle.masks.proofs.Pending.{masks-outer}
+use Rattle.masks.proofs.Search.{None, end-last, end-next}
+use Rattle.masks.proofs.Walk.{stored}
+use Rattle.masks.proofs.Local.{Turn, turn, RunFrom, LastFrom, NextFrom, run-left, last-left, next-here, next-all}
+use Rattle.tables.specs.Table.{ruleIn, rulesIn}
+use Rattle.tables.specs.Ready.{grammarIn}
+use Rattle.tables.proofs.Tables.{rules-at, rules-below}
+use Rattle.history_file.specs.HistoryFile.{tokenOf, tokensOf}
+use Rattle.levels.specs.Levels.{Setting}
+use Rattle.levels.proofs.Levels.{tokens-length, tokens-at, close-most, pending-end}
+use Rattle.walk.specs.Walked.{Reads}
+use Rattle.next_run.specs.Next.{fitsAt, NoneFrom, LastAt, Follows, Rewritten}
+
+finish : {g : Rules} {L r : ℕ} → Passes (testAt g []) g L r → Passes finishes g L r
+unfolding testAt
+finish x = record { rule = x .rule; is = x .is; from = x .from; passes = x .passes }
+
+unfinish : {g : Rules} {L r : ℕ} → Passes finishes g L r → Passes (testAt g []) g L r
+unfolding testAt
+unfinish x = record { rule = x .rule; is = x .is; from = x .from; passes = x .passes }
+
+module _ (t : List ℕ) (n : ℕ) (ts m mask : List ℕ) (set-up : Setting t n ts m mask) (start : ℕ) (buf : List ℕ) (long : length ts < length buf) (matched : pendingAt (tokensOf ts) 0 ≡ []) where
+  abbrev W : List Token
+  W = tokensOf ts
+
+  abbrev G : Rules
+  G = rulesIn t n
+
+  -- the numbers of the reading
+  abbrev E : List ℕ
+  E = take (suc (length ts)) buf
+
+  numbers : length E ≡ suc (length ts)
+  numbers = length-take-le (suc (length ts)) buf long
+
+  number : (p : ℕ) → p ≤ length ts → getD E p 0 ≡ getD buf p 0
+  number p h = getD-take (suc (length ts)) buf p 0 (omega arith)
+
+  -- the call is made on these numbers
+  on-numbers : take (suc (length W)) buf ≡ E
+  on-numbers = rw tokens-length
+
+  pub none-refused : (Run G (start, []) W E → ⊥) → (refused 16, buf) ≡ callOn (overEntries (grammarIn t n start) W) next buf
+  none-refused h = sym (next-refused (entries (grammarIn t n start) W) (suc (length W)) buf (λ r. h (rw on-numbers at r)))
+
+  pub start-refused : bit (getD mask 0 0) start ≡ false → (refused 16, buf) ≡ callOn (overEntries (grammarIn t n start) W) next buf
+  start-refused q = none-refused (λ r. false≢true (sym q ∙ (set-up .leveled 0 (omega arith) (omega arith) start ∙ run-fits G W start [] E r .0)))
+
+  pub start-fits : bit (getD mask 0 0) start ≡ true → Fits start [] (masks G W)
+  start-fits q = (sym (set-up .leveled 0 (omega arith) (omega arith) start) ∙ q, none-due (masks G W .1) (masks-outer G W 0 ∙ rw matched))
+    where
+      none-due : (o : Outer) → o ≡ [] → Match [] o
+      none-due o e = rw e tt
+
+  module _ {at f : List ℕ} (k : Reads G W start E at f) where
+    -- ── what the search found, as the theory of runs asks for it ──
+
+    passes-at : (q r : ℕ) → r < n → fitsAt t n W at q r ≡ true → Passes (testAt G (drop q W)) G (getD at q 0) r
+    passes-at q r h x = record { rule = ruleIn t r; is = rules-at t n r h; from = eqb-true _ _ (and-left _ _ x); passes = and-right (eqb (left (ruleIn t r)) (getD at q 0)) _ x }
+
+    none-at : (q : ℕ) (P : ℕ → Type 0) → ((r : ℕ) → r < n → P r → fitsAt t n W at q r ≡ false) → None (testAt G (drop q W)) G (getD at q 0) P
+    none-at q P h r x z =
+        let l = rules-below t n r (z .is) in
+        let e : ruleIn t r ≡ z .rule = Option·some-injective _ _ (sym (rules-at t n r l) ∙ z .is) in
+        false≢true (sym (h r l x) ∙ both (eq-eqb _ _ (ap left e ∙ z .from)) (rw e (z .passes)))
+
+    -- ── runs and last runs from each position ──
+
+    done : drop (length W) W ≡ []
+    done = drop-of-length-le W {i = length W} (omega arith)
+
+    state-end : stateAt W at f (length W) ≡ (getD at (length W) 0, [])
+    state-end = rw (pending-end W (length W) (omega arith))
+
+    last-number : drop (length W) E ≡ getD E (length W) 0 ∷ []
+    last-number = drop-cons E (length W) 0 (omega (arith, numbers, tokens-length ts)) ∙ rw (drop-of-length-le E {i = suc (length W)} (omega (arith, numbers, tokens-length ts)))
+
+    run-end : RunFrom G W at f E (length W)
+    run-end = rw (last-number, state-end, done) (end G (k .ends))
+
+    run-from : (d p : ℕ) → p + d ≡ length W → RunFrom G W at f E p
+    run-from zero p e = let q : p ≡ length W = omega arith in rw q run-end
+    run-from (suc d) p e = run-left G W at f E p (k .leads p (omega arith)) (omega (arith, numbers, tokens-length ts)) (run-from d (suc p) (omega arith))
+
+    pub is-run : Run G (start, []) W E
+    is-run = from-start (stateAt W at f 0) (rw (k .begins, matched)) (run-from (length W) 0 (omega arith))
+      where
+        from-start : (s : State) → s ≡ (start, []) → Run G s W E → Run G (start, []) W E
+        from-start s e h = rw e at h
+
+    larger-none : (p q : ℕ) → NoneFrom t n W at buf p → p ≤ q → q ≤ length W → None (testAt G (drop q W)) G (getD at q 0) (λ r. getD E q 0 < r)
+    larger-none p q x h l = none-at q (λ r. getD E q 0 < r) (λ r b a. x q h l r (rw (number q (omega (arith, tokens-length ts))) at a) b)
+
+    last-end : NoneFrom t n W at buf (length W) → LastFrom G W at f E (length W)
+    last-end x = rw (last-number, state-end, done) (end-last G (getD at (length W) 0) (getD E (length W) 0) (λ r a z. at-end (drop (length W) W) done (larger-none (length W) (length W) x (omega arith) (omega arith)) r a z))
+      where
+        at-end : (v : List Token) → v ≡ [] → None (testAt G v) G (getD at (length W) 0) (λ r. getD E (length W) 0 < r) → None finishes G (getD at (length W) 0) (λ r. getD E (length W) 0 < r)
+        at-end v e h r a z = (rw e at h) r a (unfinish z)
+
+    last-from : (d p : ℕ) → p + d ≡ length W → NoneFrom t n W at buf p → LastFrom G W at f E p
+    last-from zero p e x = let q : p ≡ length W = omega arith in rw q (last-end (rw q at x))
+    last-from (suc d) p e x =
+        last-left G W at f E p (k .leads p (omega arith)) (omega (arith, numbers, tokens-length ts)) (last-from d (suc p) (omega arith) (λ q h. x q (omega arith))) (larger-none p p x (omega arith) (omega arith))
+
+    at-start : (P : State → Type 0) → P (stateAt W at f 0) → P (start, [])
+    at-start P x = go (stateAt W at f 0) (rw (k .begins, matched)) x
+      where
+        go : (s : State) → s ≡ (start, []) → P s → P (start, [])
+        go s e h = rw e at h
+
+    pub no-further-is : NoneFrom t n W at buf 0 → (no-further, buf) ≡ callOn (overEntries (grammarIn t n start) W) next buf
+    no-further-is x =
+        sym (next-no-further (entries (grammarIn t n start) W) (suc (length W)) buf (entries-ascending (grammarIn t n start) W) (rw on-numbers is-run)
+        (rw on-numbers (at-start (λ s. Last (Run G s W) E) (last-from (length W) 0 (omega arith) x))))
+
+    -- ── the place and the rule found ──
+
+    module _ (p r : ℕ) (h : LastAt t n W at buf p r) where
+      last-behind : p < length W → LastFrom G W at f E (suc p)
+      last-behind l = last-from (length W - suc p) (suc p) (omega arith) (h .last)
+
+      above : getD E p 0 < r
+      above = rw (number p (omega (arith, h .place, tokens-length ts))) (h .larger)
+
+      between : None (testAt G (drop p W)) G (getD at p 0) (λ s. (getD E p 0 < s) × (s < r))
+      between = none-at p (λ s. (getD E p 0 < s) × (s < r)) (λ s b a. h .least s (rw (number p (omega (arith, h .place, tokens-length ts))) at (a .0)) (a .1))
+
+      module _ (more : p < length ts) where
+        here : drop p W ≡ tokenOf (getD ts p 0) ∷ drop (suc p) W
+        here = tokens-at ts p more
+
+        closing : getD m p 0 ≡ closeOf (pendingAt W (suc p)) (length W)
+        closing = set-up .matched p (omega arith) (rw tokens-length (omega arith))
+
+        inside : closeOf (pendingAt W (suc p)) (length W) < length f
+        inside = let c = close-most W (suc p) in omega (arith, tokens-length ts, k .room-behind, set-up .tokens .few)
+
+        -- where rule r leads from the state at p
+        found-turn : (u : Token) (e : drop p W ≡ u ∷ drop (suc p) W) → Turn G W (length W) f p u e (getD at p 0) r (ruleIn t r)
+        unfolding passes-at
+        found-turn u e =
+            let x = passes-at p r (h .rule) (h .fits) in
+            turn G W (length W) f p u e (getD at p 0) r (ruleIn t r) inside
+            (run-fits G (drop p W) (getD at p 0) (dueAt f (pendingAt W p)) (drop p E) (run-from (length W - p) p (omega (arith, h .place)))) (x .is) (x .from) (x .passes)
+
+        pub rewrite-fits : Fits (inner (ruleIn t r) (getD f p 0)) (dueAt (set f (getD m p 0) (later (ruleIn t r) (getD f (getD m p 0) 0))) (pendingAt W (suc p))) (masks G (drop (suc p) W))
+        rewrite-fits = rw closing (found-turn (tokenOf (getD ts p 0)) here .fits)
+
+      -- the state behind position p
+      abbrev S : State
+      S = (inner (ruleIn t r) (getD f p 0), dueAt (set f (getD m p 0) (later (ruleIn t r) (getD f (getD m p 0) 0))) (pendingAt W (suc p)))
+
+      next-on : (x : List ℕ) → p < length ts → Least (Run G S (drop (suc p) W)) x → NextFrom G W at f E p (r ∷ x)
+      next-on x more l =
+          next-here G W at f E p (k .leads p (rw tokens-length more)) (omega (arith, numbers)) (length W) r (ruleIn t r) x (last-behind (rw tokens-length more)) above
+          (found-turn more (k .leads p (rw tokens-length more) .token) (k .leads p (rw tokens-length more) .here)) between (rw (closing more) at l)
+
+      next-end : p ≡ length W → NextFrom G W at f E p (r ∷ [])
+      next-end e = go p e (passes-at p r (h .rule) (h .fits)) above between
+        where
+          go : (p : ℕ) → p ≡ length W → Passes (testAt G (drop p W)) G (getD at p 0) r → getD E p 0 < r → None (testAt G (drop p W)) G (getD at p 0) (λ s. (getD E p 0 < s) × (s < r)) → NextFrom G W at f E p (r ∷ [])
+          go p e x a d = rw e (at-end (rw e at x) (rw e at a) (rw e at d))
+            where
+              at-end : Passes (testAt G (drop (length W) W)) G (getD at (length W) 0) r → getD E (length W) 0 < r → None (testAt G (drop (length W) W)) G (getD at (length W) 0) (λ s. (getD E (length W) 0 < s) × (s < r)) → NextFrom G W at f E (length W) (r ∷ [])
+              at-end x a d = rw (last-number, state-end, done) (end-next G (getD at (length W) 0) (getD E (length W) 0) r a (finish (rw done at x)) (λ s b z. (rw done at d) s b (unfinish z)))
+
+      follows-next : (x : List ℕ) → Follows G S (drop p W) x → NextFrom G W at f E p (r ∷ x)
+      follows-next x y = ⊎-elim (λ e. ending e) (λ l. going l) (eq-or-lt-of-le (h .place))
+        where
+          ending : p ≡ length W → NextFrom G W at f E p (r ∷ x)
+          ending e = let z : x ≡ [] = empty (drop p W) (drop-of-length-le W {i = p} (omega arith)) y in rw z (next-end e)
+            where
+              empty : (v : List Token) → v ≡ [] → Follows G S v x → x ≡ []
+              empty v q a = rw q at a
+
+          going : p < length W → NextFrom G W at f E p (r ∷ x)
+          going l = let more : p < length ts = rw tokens-length at l in next-on x more (on (drop p W) (here more) y)
+            where
+              on : (v : List Token) {u : Token} → v ≡ u ∷ drop (suc p) W → Follows G S v x → Least (Run G S (drop (suc p) W)) x
+              on v q a = rw q at a
+
+      pub written-is : (new : List ℕ) → Rewritten G W S p r buf new → (written, new) ≡ callOn (overEntries (grammarIn t n start) W) next buf
+      written-is new x =
+          let y : NextFrom G W at f E 0 (take p E ++ (r ∷ x .rest)) = next-all G W at f E p (r ∷ x .rest) (omega (arith, numbers, h .place, tokens-length ts)) (λ q l. k .leads q (omega (arith, h .place))) (follows-next (x .rest) (x .follows)) in
+          let z : take p E ≡ take p buf = take-take p (suc (length ts)) buf (omega (arith, h .place, tokens-length ts)) in
+          let e : new ≡ (take p E ++ (r ∷ x .rest)) ++ drop (suc (length W)) buf = sym (take-append-drop (suc (length W)) new) ∙ ap₂ _++_ (x .written ∙ ap (λ (b : List ℕ). b ++ (r ∷ x .rest)) (sym z)) (x .kept) in
+          ap (λ (b : List ℕ). (written, b)) e
+          ∙ sym (next-written (entries (grammarIn t n start) W) (suc (length W)) buf (take p E ++ (r ∷ x .rest)) (entries-ascending (grammarIn t n start) W) (rw on-numbers is-run)
+          (rw on-numbers (at-start (λ s. Next (Run G s W) E (take p E ++ (r ∷ x .rest))) y)))

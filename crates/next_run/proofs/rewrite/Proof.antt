@@ -1,0 +1,125 @@
+use Prim.Native.Nat.{suc, _+_, _≤_, _<_}
+use mathlib.Core.Path.{_≡_, refl, sym, _∙_}
+use native.Mathlib.Omega.{arith}
+use native.Mathlib.Numerals.{add-one}
+use lib.ListN.{length, length-set, set}
+use Rattle.tables.specs.Table.{rulesIn}
+use Rattle.history_file.specs.HistoryFile.{tokenOf, tokensOf}
+use Rattle.levels.proofs.Levels.{tokens-length, tokens-at, close-most}
+use Rattle.next_run.proofs.Rewriting.{rewritten-on, rewritten-end}
+use borrow.Author.Needs.{needs}
+use Rattle.next_run.proofs.rewrite.Statement.{statement}
+use Rattle.next_run.proofs.rewrite.Tie as tie
+
+cast-buf : tie.Need-cast-buf
+cast-buf c = search needs
+
+slice-write-buf : tie.Need-slice-write-buf
+slice-write-buf c = search needs
+
+rule-of-requires : tie.Need-rule-of-requires
+rule-of-requires c κs = search needs
+
+mul-j : tie.Need-mul-j
+mul-j c = search needs
+
+element-copy-out-j : tie.Need-element-copy-out-j
+element-copy-out-j c = search needs
+
+mul-inner-of : tie.Need-mul-inner-of
+mul-inner-of c = search needs
+
+array-read-inner-of : tie.Need-array-read-inner-of
+array-read-inner-of c = search needs
+
+inner-of-requires : tie.Need-inner-of-requires
+inner-of-requires c κs = search needs
+
+mul-later-of : tie.Need-mul-later-of
+mul-later-of c =
+    let s = c .before .before .before .before .before .before in
+    let a = s .args in
+    let j = s .pre .0 .matched (a .p) (omega arith) (rw tokens-length (s .pre .1 .0 .0)) in
+    omega (arith, s .pre .0 .tokens .few, j, tokens-length (a .w .now), close-most (tokensOf (a .w .now)) (suc (a .p)))
+
+array-read-later-of : tie.Need-array-read-later-of
+array-read-later-of c =
+    let s = c .before .before .before .before .before .before in
+    let a = s .args in
+    let j = s .pre .0 .matched (a .p) (omega arith) (rw tokens-length (s .pre .1 .0 .0)) in
+    omega (arith, s .pre .0 .tokens .few, j, tokens-length (a .w .now), close-most (tokensOf (a .w .now)) (suc (a .p)))
+
+later-of-requires : tie.Need-later-of-requires
+later-of-requires c κs = search needs
+
+mul-due : tie.Need-mul-due
+mul-due c =
+    let s = c .before .before .before .before .before .before .before in
+    let a = s .args in
+    let j = s .pre .0 .matched (a .p) (omega arith) (rw tokens-length (s .pre .1 .0 .0)) in
+    omega (arith, s .pre .0 .tokens .few, j, tokens-length (a .w .now), close-most (tokensOf (a .w .now)) (suc (a .p)))
+
+array-write-due : tie.Need-array-write-due
+array-write-due c =
+    let s = c .before .before .before .before .before .before .before in
+    let a = s .args in
+    let j = s .pre .0 .matched (a .p) (omega arith) (rw tokens-length (s .pre .1 .0 .0)) in
+    omega (arith, s .pre .0 .tokens .few, j, tokens-length (a .w .now), close-most (tokensOf (a .w .now)) (suc (a .p)))
+
+add-fill : tie.Need-add-fill
+add-fill c = search needs
+
+fill-requires : tie.Need-fill-requires
+fill-requires c κs =
+    let s = c .before .before .before .before .before .before .before .before in
+    let a = s .args in
+    let f = s .pre .1 .1 (c .before .before .before .before .before .if1 .taken) in
+    (s .pre .0, ((omega arith, rw length-set (s .pre .1 .0 .1)), rw (c .before .later-of .ensures, c .before .before .inner-of .ensures, c .before .before .before .before .rule-of .ensures, add-one (a .p)) f))
+
+same-length : tie.Need-same-length
+same-length c =
+    let s = c .before .before .before .before .before .before .before .before .before .before .before in
+    let a = s .args in
+    c .before .buf .given ∙ length-set (a .buf .now) (a .p) (a .r)
+
+returns : tie.Need-returns
+returns c =
+    let s = c .before .before .before .before .before .before .before .before .before .before .before in
+    let a = s .args in
+    let k = c .before .before .before in
+    let here = tokens-at (a .w .now) (a .p) (k .before .before .before .before .before .if1 .taken) in
+    rewritten-on (rulesIn (a .table .now) (a .count)) (tokensOf (a .w .now)) _ (a .p) (a .r) (a .buf .now) (rw tokens-length (s .pre .1 .0 .1)) (tokenOf _) _ (rw tokens-length (k .before .before .before .before .before .if1 .taken)) here
+    (rw (k .before .later-of .ensures, k .before .before .inner-of .ensures, k .before .before .before .before .rule-of .ensures, add-one (a .p)) at (c .before .before .fill .ensures))
+
+same-length-2 : tie.Need-same-length-2
+same-length-2 c = search needs
+
+returns-2 : tie.Need-returns-2
+returns-2 c =
+    let s = c .before .before .before in
+    let a = s .args in
+    rewritten-end (rulesIn (a .table .now) (a .count)) (tokensOf (a .w .now)) _ (a .p) (a .r) (a .buf .now) (rw tokens-length (s .pre .1 .0 .1)) (omega (arith, tokens-length (a .w .now)))
+
+pub rewrite-spec : {M : Type 1} → statement M
+rewrite-spec =
+    tie.close
+    (tie.spec
+    cast-buf
+    slice-write-buf
+    rule-of-requires
+    mul-j
+    element-copy-out-j
+    mul-inner-of
+    array-read-inner-of
+    inner-of-requires
+    mul-later-of
+    array-read-later-of
+    later-of-requires
+    mul-due
+    array-write-due
+    add-fill
+    fill-requires
+    same-length
+    returns
+    same-length-2
+    returns-2)

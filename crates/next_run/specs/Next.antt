@@ -1,0 +1,57 @@
+-- The last place at which a larger rule still leads to a reading (document 01, "Services": "the successor differs first at the last
+-- place at which a larger rule still leads to a reading"), and what is written from there on. Assumes nothing.
+use Prim.Native.Nat.{ℕ, suc, _<_, _≤_}
+use mathlib.Core.Path.{_≡_}
+use mathlib.Core.Bool.{Bool, true, false, _&&_}
+use mathlib.Core.List.{List, [], _∷_, _++_}
+use lib.Dec.{eqb}
+use lib.ListN.{length, take, drop, getD}
+use Rattle.vpg.specs.declared.Token.{Token}
+use Rattle.vpg.specs.Grammar.{Rules}
+use Rattle.vpg.specs.Extremes.{Least}
+use Rattle.vpg.specs.Listing.{Answer, written, no-further, refused}
+use Rattle.vpg.specs.Runs.{State}
+use Rattle.vpg.specs.Steps.{left}
+use Rattle.masks.specs.Walk.{Run, testAt}
+use Rattle.tables.specs.Table.{ruleIn, rulesIn}
+use Rattle.next_run.specs.declared.Found.{Found}
+use Rattle.next_run.specs.declared.NextAnswer.{NextAnswer}
+
+-- rule number r is for the nonterminal at position q and can stand there
+abbrev pub fitsAt : List ℕ → ℕ → List Token → List ℕ → ℕ → ℕ → Bool
+fitsAt t n w at q r = eqb (left (ruleIn t r)) (getD at q 0) && testAt (rulesIn t n) (drop q w) (ruleIn t r)
+
+-- from position p on no rule with a larger number than the one in e fits
+abbrev pub NoneFrom : List ℕ → ℕ → List Token → List ℕ → List ℕ → ℕ → Type 0
+NoneFrom t n w at e p = (q : ℕ) → p ≤ q → q ≤ length w → (r : ℕ) → getD e q 0 < r → r < n → fitsAt t n w at q r ≡ false
+
+-- position p is the last at which a rule with a larger number fits, and r is the smallest such rule there
+pub record LastAt (t : List ℕ) (n : ℕ) (w : List Token) (at e : List ℕ) (p r : ℕ) : Type 0 where
+  pub place : p ≤ length w
+  pub larger : getD e p 0 < r
+  pub rule : r < n
+  pub fits : fitsAt t n w at p r ≡ true
+  pub least : (s : ℕ) → getD e p 0 < s → s < r → fitsAt t n w at p s ≡ false
+  pub last : NoneFrom t n w at e (suc p)
+
+abbrev pub LastPlace : List ℕ → ℕ → List Token → List ℕ → List ℕ → Found → Type 0
+LastPlace t n w at e (Found.At p r) = LastAt t n w at e p r
+LastPlace t n w at e Found.Nothing = NoneFrom t n w at e 0
+
+-- what follows rule number r at the end is nothing, and before that the first run from the state s
+abbrev pub Follows : Rules → State → List Token → List ℕ → Type 0
+Follows g s [] x = x ≡ []
+Follows g s (t ∷ v) x = Least (Run g s v) x
+
+-- the buffer keeps its numbers before p, has r at p and what follows r behind it; all behind the reading is as it was
+pub record Rewritten (g : Rules) (w : List Token) (s : State) (p r : ℕ) (old new : List ℕ) : Type 0 where
+  pub rest : List ℕ
+  pub follows : Follows g s (drop p w) rest
+  pub written : take (suc (length w)) new ≡ take p old ++ (r ∷ rest)
+  pub kept : drop (suc (length w)) new ≡ drop (suc (length w)) old
+
+-- 16: "the first n + 1 bytes handed to next reading are no reading of this history"
+abbrev pub nextSaid : NextAnswer → Answer
+nextSaid NextAnswer.Written = written
+nextSaid NextAnswer.NoFurther = no-further
+nextSaid NextAnswer.NoEntry = refused 16

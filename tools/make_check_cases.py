@@ -1,0 +1,331 @@
+#!/usr/bin/env python3
+"""Writes crates/checks/data/cases.bin and crates/checks/stdout: files for both checks, and the answer due for each.
+
+Run from the repository's root. Every answer here is written out by hand from document 01; no part of the library is run.
+A case: what it is, the file's bytes, the answer.
+"""
+import os
+
+GRAMMAR, HISTORY = 0, 1
+CASES = []
+
+
+def grammar(label, file, answer):
+    CASES.append((GRAMMAR, "grammar, " + label, bytes(file), answer))
+
+
+def history(label, file, answer):
+    CASES.append((HISTORY, "history, " + label, bytes(file), answer))
+
+
+# Shorthands for long files. A number below 128 is its own byte; from 128 on two bytes, low group first.
+def number(n):
+    return [n] if n < 128 else [n % 128 + 128, n // 128]
+
+
+def marks(n):
+    """n form 1 rules, no two equal: names 0 to 63 with L 0, then with L 1, then with L 2."""
+    return [byte for k in range(n) for byte in (1, k // 64, k % 64, 0)]
+
+
+def steps(n):
+    """n form 2 rules that differ in the close name, then in the open name."""
+    return [byte for k in range(n) for byte in (2, 0, k // 64, 0, k % 64, 0)]
+
+
+G = [3, 7, 0, 0, 2, 0, 0, 1, 0, 0, 2, 0, 0, 2, 0, 0, 1, 1, 0, 1, 0, 1, 1, 2, 0, 2, 0, 2]
+OPEN, CLOSE = [1], [2]
+
+# ---- document 01's own examples
+grammar("G", G, "accepted 3 7")
+grammar("1 2 0 0 0 0", [1, 2, 0, 0, 0, 0], "refused 8")
+grammar("1 0", [1, 0], "refused 4")
+grammar("1 1 1 0 0 0", [1, 1, 1, 0, 0, 0], "accepted 1 1")
+history("0", [0], "accepted 0")
+history("3 1 0 2", [3, 1, 0, 2], "accepted 3")
+history("2 1 2", [2, 1, 2], "accepted 2")
+history("4 1 2 1 2", [4, 1, 2, 1, 2], "accepted 4")
+history("1 0", [1, 0], "accepted 1")
+history("1 2", [1, 2], "refused 12")
+history("1 1", [1, 1], "refused 13")
+history("1 3", [1, 3], "refused 11")
+history("128 alone", [128], "refused 1")
+history("128 0", [128, 0], "refused 2")
+history("1,024 tokens", [128, 8] + [0] * 1024, "accepted 1024")
+history("1,025 tokens", [129, 8] + [0] * 1025, "refused 10")
+history("128 nested steps", [128, 2] + OPEN * 128 + CLOSE * 128, "accepted 256")
+history("129 nested steps", [130, 2] + OPEN * 129 + CLOSE * 129, "refused 14")
+
+# ---- grammar, 1: the bytes end inside a number or before one that is due
+grammar("no byte", [], "refused 1")
+grammar("ends inside the stage count", [128], "refused 1")
+grammar("ends before the rule count", [1], "refused 1")
+grammar("ends inside the rule count", [1, 128], "refused 1")
+grammar("ends before a form", [1, 1], "refused 1")
+grammar("ends inside a form", [1, 1, 128], "refused 1")
+grammar("form 0 ends before L", [1, 1, 0], "refused 1")
+grammar("form 0 ends inside L", [1, 1, 0, 128], "refused 1")
+grammar("form 1 ends before L", [1, 1, 1], "refused 1")
+grammar("form 1 ends inside L", [1, 1, 1, 128], "refused 1")
+grammar("form 1 ends before c", [1, 1, 1, 0], "refused 1")
+grammar("form 1 ends inside c", [1, 1, 1, 0, 128], "refused 1")
+grammar("form 1 ends before L1", [1, 1, 1, 0, 0], "refused 1")
+grammar("form 1 ends inside L1", [1, 1, 1, 0, 0, 128], "refused 1")
+grammar("form 2 ends before L", [1, 1, 2], "refused 1")
+grammar("form 2 ends inside L", [1, 1, 2, 128], "refused 1")
+grammar("form 2 ends before a", [1, 1, 2, 0], "refused 1")
+grammar("form 2 ends inside a", [1, 1, 2, 0, 128], "refused 1")
+grammar("form 2 ends before L1", [1, 1, 2, 0, 0], "refused 1")
+grammar("form 2 ends inside L1", [1, 1, 2, 0, 0, 128], "refused 1")
+grammar("form 2 ends before b", [1, 1, 2, 0, 0, 0], "refused 1")
+grammar("form 2 ends inside b", [1, 1, 2, 0, 0, 0, 128], "refused 1")
+grammar("form 2 ends before L2", [1, 1, 2, 0, 0, 0, 0], "refused 1")
+grammar("form 2 ends inside L2", [1, 1, 2, 0, 0, 0, 0, 128], "refused 1")
+grammar("ends before the second rule", [1, 2, 0, 0], "refused 1")
+grammar("ends before the last of 128 rules", [2] + number(128) + marks(127), "refused 1")
+
+# ---- grammar, 2: a second byte that is 0 or has its top bit set
+grammar("stage count 128 0", [128, 0], "refused 2")
+grammar("stage count 1 in two bytes", [129, 0, 1, 0, 0], "refused 2")
+grammar("stage count 128 128", [128, 128], "refused 2")
+grammar("stage count 255 255", [255, 255], "refused 2")
+grammar("rule count 128 0", [1, 128, 0], "refused 2")
+grammar("rule count 1 in two bytes", [1, 129, 0, 0, 0], "refused 2")
+grammar("rule count 128 128", [1, 128, 128], "refused 2")
+grammar("form 128 0", [1, 1, 128, 0, 0], "refused 2")
+grammar("form 128 200", [1, 1, 128, 200, 0], "refused 2")
+grammar("form 0, L 128 0", [1, 1, 0, 128, 0], "refused 2")
+grammar("form 0, L 255 255", [1, 1, 0, 255, 255], "refused 2")
+grammar("form 1, L 128 0", [1, 1, 1, 128, 0, 0, 0], "refused 2")
+grammar("form 1, c 128 0", [1, 1, 1, 0, 128, 0, 0], "refused 2")
+grammar("form 1, c 128 128", [1, 1, 1, 0, 128, 128, 0], "refused 2")
+grammar("form 1, L1 128 0", [1, 1, 1, 0, 0, 128, 0], "refused 2")
+grammar("form 1, L1 128 255", [1, 1, 1, 0, 0, 128, 255], "refused 2")
+grammar("form 2, L 128 128", [1, 1, 2, 128, 128, 0, 0, 0, 0], "refused 2")
+grammar("form 2, a 128 0", [1, 1, 2, 0, 128, 0, 0, 0, 0], "refused 2")
+grammar("form 2, a 128 129", [1, 1, 2, 0, 128, 129, 0, 0, 0], "refused 2")
+grammar("form 2, L1 128 0", [1, 1, 2, 0, 0, 128, 0, 0, 0], "refused 2")
+grammar("form 2, L1 128 128", [1, 1, 2, 0, 0, 128, 128, 0, 0], "refused 2")
+grammar("form 2, b 128 0", [1, 1, 2, 0, 0, 0, 128, 0, 0], "refused 2")
+grammar("form 2, b 128 128", [1, 1, 2, 0, 0, 0, 128, 128, 0], "refused 2")
+grammar("form 2, L2 128 0", [1, 1, 2, 0, 0, 0, 0, 128, 0], "refused 2")
+grammar("form 2, L2 255 128", [1, 1, 2, 0, 0, 0, 0, 255, 128], "refused 2")
+
+# ---- grammar, 3: stage count not 1 to 32
+grammar("0 stages", [0, 1, 0, 0], "refused 3")
+grammar("1 stage", [1, 1, 0, 0], "accepted 1 1")
+grammar("32 stages", [32, 1, 0, 31], "accepted 32 1")
+grammar("33 stages", [33, 1, 0, 0], "refused 3")
+grammar("127 stages", [127, 1, 0, 0], "refused 3")
+grammar("128 stages", [128, 1, 1, 0, 0], "refused 3")
+grammar("16,383 stages", [255, 127, 1, 0, 0], "refused 3")
+
+# ---- grammar, 4: rule count not 1 to 128
+grammar("0 rules", [32, 0], "refused 4")
+grammar("1 rule", [2, 1, 0, 1], "accepted 2 1")
+grammar("127 rules", [2, 127] + marks(127), "accepted 2 127")
+grammar("128 rules", [2, 128, 1] + marks(128), "accepted 2 128")
+grammar("128 rules of the longest form", [1, 128, 1] + steps(128), "accepted 1 128")
+grammar("129 rules", [3, 129, 1] + marks(129), "refused 4")
+grammar("16,383 rules", [3, 255, 127] + marks(128), "refused 4")
+
+# ---- grammar, 5: form above 2
+grammar("form 0", [3, 1, 0, 2], "accepted 3 1")
+grammar("form 1", [3, 1, 1, 2, 5, 1], "accepted 3 1")
+grammar("form 2", [3, 1, 2, 2, 5, 1, 6, 0], "accepted 3 1")
+grammar("form 3", [1, 1, 3, 0, 0, 0, 0, 0], "refused 5")
+grammar("form 4", [1, 1, 4, 0, 0, 0, 0, 0], "refused 5")
+grammar("form 127", [1, 1, 127, 0], "refused 5")
+grammar("form 128", [1, 1, 128, 1, 0], "refused 5")
+grammar("form 3 in the second rule", [1, 2, 0, 0, 3, 0], "refused 5")
+
+# ---- grammar, 6: a stage number not below the stage count
+grammar("form 0, L 1 of 1", [1, 1, 0, 1], "refused 6")
+grammar("form 0, L 2 of 3", [3, 1, 0, 2], "accepted 3 1")
+grammar("form 0, L 3 of 3", [3, 1, 0, 3], "refused 6")
+grammar("form 0, L 32 of 32", [32, 1, 0, 32], "refused 6")
+grammar("form 0, L 128 of 32", [32, 1, 0, 128, 1], "refused 6")
+grammar("form 1, L 1 of 1", [1, 1, 1, 1, 0, 0], "refused 6")
+grammar("form 1, L1 1 of 1", [1, 1, 1, 0, 0, 1], "refused 6")
+grammar("form 1, L1 1 of 2", [2, 1, 1, 0, 0, 1], "accepted 2 1")
+grammar("form 2, L 1 of 1", [1, 1, 2, 1, 0, 0, 0, 0], "refused 6")
+grammar("form 2, L1 1 of 1", [1, 1, 2, 0, 0, 1, 0, 0], "refused 6")
+grammar("form 2, L2 1 of 1", [1, 1, 2, 0, 0, 0, 0, 1], "refused 6")
+grammar("form 2, L2 2 of 2", [2, 1, 2, 1, 0, 1, 0, 2], "refused 6")
+grammar("form 2, L2 1 of 2", [2, 1, 2, 1, 0, 1, 0, 1], "accepted 2 1")
+
+# ---- grammar, 7: a name above 63
+grammar("mark name 63", [1, 1, 1, 0, 63, 0], "accepted 1 1")
+grammar("mark name 64", [1, 1, 1, 0, 64, 0], "refused 7")
+grammar("mark name 128", [1, 1, 1, 0, 128, 1, 0], "refused 7")
+grammar("open and close name 63", [1, 1, 2, 0, 63, 0, 63, 0], "accepted 1 1")
+grammar("open name 64", [1, 1, 2, 0, 64, 0, 0, 0], "refused 7")
+grammar("open name 127", [1, 1, 2, 0, 127, 0, 0, 0], "refused 7")
+grammar("close name 64", [1, 1, 2, 0, 0, 0, 64, 0], "refused 7")
+grammar("close name 16,383", [1, 1, 2, 0, 0, 0, 255, 127, 0], "refused 7")
+
+# ---- grammar, 8: a rule equal in form and all fields to an earlier rule
+grammar("form 1 twice", [2, 2, 1, 1, 5, 0, 1, 1, 5, 0], "refused 8")
+grammar("form 2 twice", [2, 2, 2, 1, 5, 0, 6, 1, 2, 1, 5, 0, 6, 1], "refused 8")
+grammar("the first again after another", [1, 3, 0, 0, 1, 0, 0, 0, 0, 0], "refused 8")
+grammar("the second again", [1, 3, 0, 0, 1, 0, 0, 0, 1, 0, 0, 0], "refused 8")
+grammar("the first again as the 128th", [2, 128, 1] + marks(127) + marks(1), "refused 8")
+grammar("the 127th again as the 128th", [2, 128, 1] + marks(127) + marks(127)[-4:], "refused 8")
+grammar("form 0, two stages", [2, 2, 0, 0, 0, 1], "accepted 2 2")
+grammar("form 1, only L differs", [2, 2, 1, 0, 5, 0, 1, 1, 5, 0], "accepted 2 2")
+grammar("form 1, only c differs", [2, 2, 1, 0, 5, 0, 1, 0, 6, 0], "accepted 2 2")
+grammar("form 1, only L1 differs", [2, 2, 1, 0, 5, 0, 1, 0, 5, 1], "accepted 2 2")
+grammar("form 2, only L differs", [2, 2, 2, 0, 5, 0, 6, 0, 2, 1, 5, 0, 6, 0], "accepted 2 2")
+grammar("form 2, only a differs", [2, 2, 2, 0, 5, 0, 6, 0, 2, 0, 6, 0, 6, 0], "accepted 2 2")
+grammar("form 2, only L1 differs", [2, 2, 2, 0, 5, 0, 6, 0, 2, 0, 5, 1, 6, 0], "accepted 2 2")
+grammar("form 2, only b differs", [2, 2, 2, 0, 5, 0, 6, 0, 2, 0, 5, 0, 7, 0], "accepted 2 2")
+grammar("form 2, only L2 differs", [2, 2, 2, 0, 5, 0, 6, 0, 2, 0, 5, 0, 6, 1], "accepted 2 2")
+grammar("three forms, all fields 0", [1, 3, 0, 0, 1, 0, 0, 0, 2, 0, 0, 0, 0, 0], "accepted 1 3")
+
+# ---- grammar, 9: bytes follow the last rule
+grammar("a byte after the last rule", [1, 1, 0, 0, 0], "refused 9")
+grammar("a rule too many", [1, 1, 0, 0, 1, 0, 0, 0], "refused 9")
+grammar("128 after the last rule", [1, 1, 0, 0, 128], "refused 9")
+grammar("G and a byte", G + [0], "refused 9")
+grammar("128 rules and a byte", [2, 128, 1] + marks(128) + [255], "refused 9")
+
+# ---- grammar, the order: 1 or 2 before the range, the fields one after another, 8 after the last field, 8 before 9
+grammar("2 before 3: 0 stages in two bytes", [128, 0, 1, 0, 0], "refused 2")
+grammar("2 before 3: 33 stages in two bytes with 0", [161, 0, 1, 0, 0], "refused 2")
+grammar("1 before 3", [255], "refused 1")
+grammar("2 before 4: 0 rules in two bytes", [1, 128, 0, 0, 0], "refused 2")
+grammar("1 before 4", [1, 255], "refused 1")
+grammar("2 before 5", [1, 1, 131, 0, 0], "refused 2")
+grammar("1 before 5", [1, 1, 255], "refused 1")
+grammar("2 before 6", [1, 1, 0, 129, 0], "refused 2")
+grammar("1 before 6", [1, 1, 0, 255], "refused 1")
+grammar("2 before 7", [1, 1, 1, 0, 192, 0, 0], "refused 2")
+grammar("1 before 7", [1, 1, 1, 0, 255], "refused 1")
+grammar("3 before 4", [0, 0], "refused 3")
+grammar("3 before a missing rule count", [33], "refused 3")
+grammar("4 before a missing rule", [1, 129, 1], "refused 4")
+grammar("4 before a fault of a rule", [1, 0, 3], "refused 4")
+grammar("5 before 6", [1, 1, 3, 1], "refused 5")
+grammar("5 before a missing L", [1, 1, 3], "refused 5")
+grammar("form 1: 6 of L before 7", [1, 1, 1, 1, 64, 1], "refused 6")
+grammar("form 1: 7 before 6 of L1", [1, 1, 1, 0, 64, 1], "refused 7")
+grammar("form 1: 7 before a missing L1", [1, 1, 1, 0, 64], "refused 7")
+grammar("form 2: 6 of L before 7 of a", [1, 1, 2, 1, 64, 1, 64, 1], "refused 6")
+grammar("form 2: 7 of a before 6 of L1", [1, 1, 2, 0, 64, 1, 64, 1], "refused 7")
+grammar("form 2: 6 of L1 before 7 of b", [1, 1, 2, 0, 0, 1, 64, 1], "refused 6")
+grammar("form 2: 7 of b before 6 of L2", [1, 1, 2, 0, 0, 0, 64, 1], "refused 7")
+grammar("form 2: 7 of b before a missing L2", [1, 1, 2, 0, 0, 0, 64], "refused 7")
+grammar("1 before 8: equal but for a missing L2", [1, 2, 2, 0, 0, 0, 0, 0, 2, 0, 0, 0, 0], "refused 1")
+grammar("2 before 8: equal but for L2 128 0", [1, 2, 2, 0, 0, 0, 0, 0, 2, 0, 0, 0, 0, 128, 0], "refused 2")
+grammar("6 before 8: equal but for L2 out of range", [1, 2, 2, 0, 0, 0, 0, 0, 2, 0, 0, 0, 0, 1], "refused 6")
+grammar("8 before a fault of a later rule", [1, 3, 0, 0, 0, 0, 3], "refused 8")
+grammar("8 before a missing rule", [1, 3, 0, 0, 0, 0], "refused 8")
+grammar("a fault of a rule before a later 8", [1, 3, 0, 0, 3, 0, 0, 0], "refused 5")
+grammar("8 before 9", [1, 2, 0, 0, 0, 0, 7], "refused 8")
+grammar("7 before 9", [1, 1, 1, 0, 64, 0, 7], "refused 7")
+
+# ---- history, 1 and 2
+history("no byte", [], "refused 1")
+history("ends inside the count", [255], "refused 1")
+history("ends before the first token", [1], "refused 1")
+history("ends inside the first token", [1, 128], "refused 1")
+history("ends before the second token", [2, 0], "refused 1")
+history("ends inside the second token", [2, 0, 255], "refused 1")
+history("ends before the last of 1,024 tokens", [128, 8] + [0] * 1023, "refused 1")
+history("count 3 in two bytes", [131, 0, 0, 0, 0], "refused 2")
+history("count 128 128", [128, 128], "refused 2")
+history("count 255 255", [255, 255, 127], "refused 2")
+history("token 128 0", [1, 128, 0], "refused 2")
+history("token 128 128", [1, 128, 128], "refused 2")
+history("token 255 255", [1, 255, 255], "refused 2")
+history("second token 128 0", [2, 0, 128, 0], "refused 2")
+
+# ---- history, 10: token count above 1,024
+history("128 tokens", [128, 1] + [0] * 128, "accepted 128")
+history("1,023 tokens", [255, 7] + [0] * 1023, "accepted 1023")
+history("1,024 tokens of two bytes each", [128, 8] + [252, 1] * 1024, "accepted 1024")
+history("1,026 tokens", [130, 8] + [0] * 1026, "refused 10")
+history("16,383 tokens", [255, 127], "refused 10")
+
+# ---- history, 11: a token number above 255, or one that leaves 3 when divided by 4
+history("mark name 63 (252)", [1, 252, 1], "accepted 1")
+history("open and close name 63 (253, 254)", [2, 253, 1, 254, 1], "accepted 2")
+history("token 255", [1, 255, 1], "refused 11")
+history("token 256", [1, 128, 2], "refused 11")
+history("token 257", [1, 129, 2], "refused 11")
+history("token 258", [1, 130, 2], "refused 11")
+history("token 259", [1, 131, 2], "refused 11")
+history("token 16,383", [1, 255, 127], "refused 11")
+history("token 7", [1, 7], "refused 11")
+history("token 127", [1, 127], "refused 11")
+history("token 128", [1, 128, 1], "accepted 1")
+history("kind 3 inside a step", [3, 1, 3, 2], "refused 11")
+
+# ---- history, 12: a close with no step open
+history("a close after a step", [3, 1, 2, 2], "refused 12")
+history("a close after a mark", [2, 0, 2], "refused 12")
+history("close name 63 first (254)", [1, 254, 1], "refused 12")
+history("a close of another name", [2, 1, 6], "accepted 2")
+
+# ---- history, 13: a step still open after the last token
+history("two steps left open", [2, 1, 1], "refused 13")
+history("one of two steps left open", [3, 1, 1, 2], "refused 13")
+history("a step open after a mark", [3, 0, 1, 0], "refused 13")
+history("128 steps left open", [128, 1] + OPEN * 128, "refused 13")
+
+# ---- history, 14: an open while 128 steps are open
+history("129 opens", [129, 1] + OPEN * 129, "refused 14")
+history("128 open, one closed, one opened", [130, 2] + OPEN * 128 + CLOSE + OPEN + CLOSE * 128, "accepted 258")
+history("a mark while 128 are open", [129, 2] + OPEN * 128 + [0] + CLOSE * 128, "accepted 257")
+history("512 steps one after another", [128, 8] + (OPEN + CLOSE) * 512, "accepted 1024")
+
+# ---- history, 9: bytes follow the last token
+history("a byte after no token", [0, 0], "refused 9")
+history("128 after no token", [0, 128], "refused 9")
+history("a byte after a token", [1, 0, 0], "refused 9")
+history("3 1 0 2 and a byte", [3, 1, 0, 2, 0], "refused 9")
+history("1,024 tokens and a byte", [128, 8] + [0] * 1025, "refused 9")
+
+# ---- history, the order: 1 or 2 before the range, 12 and 14 at the token, 13 before 9
+history("1 before 10", [129], "refused 1")
+history("2 before 10", [255, 128], "refused 2")
+history("10 before a missing token", [129, 8], "refused 10")
+history("10 before a fault of a token", [129, 8, 3], "refused 10")
+history("1 before 11", [1, 131], "refused 1")
+history("2 before 11", [1, 131, 0], "refused 2")
+history("2 before 12", [1, 130, 0], "refused 2")
+history("11 before 12 at one token", [1, 130, 2], "refused 11")
+history("11 before 14 at one token", [129, 1] + OPEN * 128 + [129, 2], "refused 11")
+history("12 before a later 11", [2, 2, 3], "refused 12")
+history("11 before a later 12", [2, 3, 2], "refused 11")
+history("12 before a missing token", [2, 2], "refused 12")
+history("12 before a later 2", [2, 2, 128, 0], "refused 12")
+history("12 before a later open", [2, 2, 1], "refused 12")
+history("12 before 9", [1, 2, 0], "refused 12")
+history("14 before a missing token", [130, 1] + OPEN * 129, "refused 14")
+history("14 before a later 11", [130, 1] + OPEN * 129 + [3], "refused 14")
+history("14 before 13 and 9", [129, 1] + OPEN * 129 + [0], "refused 14")
+history("1 before 13", [2, 1], "refused 1")
+history("2 before 13", [2, 1, 128, 0], "refused 2")
+history("11 before 13", [2, 1, 3], "refused 11")
+history("11 before 9", [1, 3, 0], "refused 11")
+history("13 before 9", [1, 1, 0], "refused 13")
+history("13 before 9: the close stands after the last token", [1, 1, 2], "refused 13")
+
+
+def main():
+    labels = [label for _, label, _, _ in CASES]
+    assert len(labels) == len(set(labels)), "a label stands twice"
+    assert all(len(label) < 256 and len(file) <= 4096 for _, label, file, _ in CASES)
+    here = os.path.join("crates", "checks")
+    os.makedirs(os.path.join(here, "data"), exist_ok=True)
+    with open(os.path.join(here, "data", "cases.bin"), "wb") as packed:
+        for kind, label, file, _ in CASES:
+            packed.write(bytes([kind, len(label), len(file) % 256, len(file) // 256]) + label.encode("ascii") + file)
+    with open(os.path.join(here, "stdout"), "w", encoding="ascii") as lines:
+        for _, label, _, answer in CASES:
+            lines.write(label + ": " + answer + "\n")
+    print(len(CASES), "cases")
+
+
+main()
