@@ -32,8 +32,8 @@ returns c =
     let a = s .args in
     rw (c .refusal-of .ensures, c .before .enum-told .given .1, served-refused due overEntries suc (length (a .reading .now)) (filesIn (a .grammar .now) (a .history .now)) _ (files-refused (a .grammar .now) (a .history .now) (c .before .before .before .read-files .ensures) _ (c .before .enum-told .given .1)))
 
-cast-n : tie.Need-cast-n
-cast-n c = search needs
+cast-size : tie.Need-cast-size
+cast-size c = search needs
 
 returns-2 : tie.Need-returns-2
 returns-2 c =
@@ -42,7 +42,7 @@ returns-2 c =
     let k = files-passed (a .grammar .now) (a .history .now) (c .before .before .before .before .read-files .ensures) _ _ _ _ (c .before .before .answer .given .1) in
     rw (served-short due overEntries suc (length (a .reading .now)) (filesIn (a .grammar .now) (a .history .now)) (k .g) (k .ts) (k .is) (omega (arith, k .count-is)))
 
-cast-next-on : tie.Need-cast-next-on
+cast-next-on : tie.Need-cast-sizeext-on
 cast-next-on c = search needs
 
 array-share-prefix-tokens : tie.Need-array-share-prefix-tokens
@@ -85,7 +85,7 @@ next-reading-spec =
     enum-told
     refusal-of-requires
     returns
-    cast-n
+    cast-size
     returns-2
     cast-next-on
     array-share-prefix-tokens
