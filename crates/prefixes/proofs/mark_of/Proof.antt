@@ -1,6 +1,5 @@
 -- `mark_of`: no step is open exactly where the stack is empty.
 -- Assumes nothing.
-use mathlib.Core.Bool.{_&&_}
 use mathlib.Core.Path.{_∙_, ap, ap₂}
 use borrow.Author.Needs.{needs}
 use Rattle.prefixes.proofs.Stacks.{saved-bottom}

@@ -1,6 +1,5 @@
 -- `is_step`: by the pattern.
 -- Assumes nothing.
-use mathlib.Core.Bool.{_&&_}
 use mathlib.Core.Path.{_∙_, ap, ap₂}
 use borrow.Author.Needs.{needs}
 use Rattle.bits.specs.Bit.{bit}
