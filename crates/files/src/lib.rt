@@ -6,7 +6,7 @@ ghost use Rattle.grammar_file.specs.GrammarFile.{grammarOf};
 ghost use Rattle.history_file.specs.HistoryFile.{historyOf};
 ghost use Rattle.files.specs.Checks.{grammarSaid, grammarDue, historySaid, historyDue};
 ghost use Rattle.files.specs.Files.{filesOf};
-ghost use Rattle.files.specs.FilesRead.{refusedRead, filesRead};
+ghost use Rattle.files.specs.FilesRead.{refusalOfFiles, refusedRead, filesRead};
 
 // The number of nonterminals (document 01: stages) and of rules; or document 01's number of the refusal.
 pub enum GrammarCheck {
@@ -56,6 +56,16 @@ pub struct FilesRead {
     pub answer: FilesAnswer,
     pub table: [u16; 768],
     pub tokens: [u32; 1024],
+}
+
+// The number of the refusal; 0 where there is none.
+pub fn refusal_of(r: FilesAnswer) -> u8
+    ensures { λ e. ⌜ e ≡ refusalOfFiles r ⌝ }
+{
+    match r {
+        FilesAnswer::Accepted(_, _, _, _) => 0,
+        FilesAnswer::Refused(e) => e,
+    }
 }
 
 fn refused(e: u8) -> FilesRead

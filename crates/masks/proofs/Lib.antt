@@ -1,4 +1,5 @@
 pub mod Alive
+pub mod Kept
 pub mod Local
 pub mod Pending
 pub mod Search

@@ -25,7 +25,7 @@ Close = CloseName × ℕ
 abbrev pub From : ℕ → Closes → Type 0
 From p l = (d : Close) → List·Memᴰ d l → p ≤ d .1
 
-rest-in : {d : Close} (l : Closes) → List·Memᴰ d (rest l) → List·Memᴰ d l
+pub rest-in : {d : Close} (l : Closes) → List·Memᴰ d (rest l) → List·Memᴰ d l
 rest-in [] m = m
 rest-in (x ∷ l) m = List·Memᴰ·tail m
 

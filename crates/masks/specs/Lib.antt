@@ -1,3 +1,4 @@
+pub mod Kept
 pub mod Local
 pub mod Masks
 pub mod Pending

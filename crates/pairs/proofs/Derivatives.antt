@@ -23,10 +23,10 @@ use Rattle.vpg.proofs.Basics.{and-left, and-right}
 use Rattle.vpg.proofs.Sets.{getD-listed}
 use Rattle.tables.specs.Ready.{Below, Ready, grammarIn}
 use Rattle.tables.specs.Table.{ruleIn, rulesIn}
-use Rattle.rows.specs.declared.Pattern.{Pattern}
-use Rattle.rows.specs.Row.{followsBy, passes, rowAfter}
-use Rattle.rows.proofs.Below.{follows-below}
-use Rattle.rows.proofs.Gathers.{same-test, below-cong, any-rules, bit-gather, gather-below, gathers, some-member}
+use Rattle.pair_rows.specs.declared.Pattern.{Pattern}
+use Rattle.pair_rows.specs.Row.{followsBy, passes, rowAfter}
+use Rattle.pair_rows.proofs.Below.{follows-below}
+use Rattle.pair_rows.proofs.Gathers.{same-test, below-cong, any-rules, bit-gather, gather-below, gathers, some-member}
 use Rattle.pairs.specs.Words.{rowsAfter, currentsOf, diagonalOf, meets, finishedOf, emptiesOf}
 use Rattle.pairs.specs.Encodes.{Encodes}
 use Rattle.pairs.proofs.Fills.{bit-currents}

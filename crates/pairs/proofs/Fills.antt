@@ -15,7 +15,7 @@ use Rattle.bits.proofs.Bits.{bit-zero, bit-or}
 use Rattle.vpg.specs.Any.{anyBelow}
 use Rattle.vpg.specs.Sets.{listed}
 use Rattle.vpg.proofs.Sets.{length-listed, getD-listed}
-use Rattle.rows.proofs.Gathers.{or-comm}
+use Rattle.pair_rows.proofs.Gathers.{or-comm}
 use Rattle.pairs.specs.Words.{currentsOf}
 
 pub bit-currents : (rows : List ℕ) (n L : ℕ) → bit (currentsOf rows n) L ≡ anyBelow n (λ k. bit (getD rows k 0) L)

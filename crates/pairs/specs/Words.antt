@@ -8,8 +8,8 @@ use lib.Dec.{eqb}
 use lib.ListN.{getD}
 use Rattle.bits.specs.Bit.{addBit}
 use Rattle.vpg.specs.Sets.{listed}
-use Rattle.rows.specs.declared.Pattern.{Pattern}
-use Rattle.rows.specs.Row.{gather, rowAfter}
+use Rattle.pair_rows.specs.declared.Pattern.{Pattern}
+use Rattle.pair_rows.specs.Row.{gather, rowAfter}
 
 unfoldable pub rowsAfter : Pattern → ℕ → List ℕ → ℕ → List ℕ → List ℕ
 rowsAfter p done t n rows = listed 32 (λ k. rowAfter p (getD rows k 0) done t n)

@@ -1,6 +1,6 @@
 // States of pairs of nonterminals (Definition 4.1 of the paper) as 32 words, and their derivatives by a token (Definition 4.2).
 // Digit L2 of word L1 is 1 where the pair (L1, L2), of context and current nonterminal, is in the state.
-use rows::Pattern;
+use pair_rows::Pattern;
 use vpg::CloseName;
 use vpg::MarkName;
 use vpg::OpenName;
@@ -12,7 +12,7 @@ ghost use Rattle.bits.specs.Bit.{addBit};
 ghost use Rattle.vpg.specs.Any.{anyBelow};
 ghost use Rattle.vpg.specs.Pairs.{PairState, single, overMark, overOpen, overClose, finished};
 ghost use Rattle.tables.specs.Ready.{Ready, grammarIn};
-ghost use Rattle.rows.specs.Row.{pick};
+ghost use Rattle.pair_rows.specs.Row.{pick};
 ghost use Rattle.pairs.specs.Encodes.{Encodes};
 ghost use Rattle.pairs.specs.Words.{rowsAfter, currentsOf, diagonalOf, meets, finishedOf, emptiesOf};
 
@@ -29,7 +29,7 @@ fn rows_after(table: &[u16; 768], count: usize, p: Pattern, rows: [u32; 32], don
     let mut out = [0u32; 32];
     let mut k: usize = 0;
     while k < 32 {
-        out[k] = rows::row_after(table, count, p, rows[k], done);
+        out[k] = pair_rows::row_after(table, count, p, rows[k], done);
         k += 1;
     }
     out
@@ -102,7 +102,7 @@ pub fn empties(table: &[u16; 768], count: usize) -> u32
     requires { ⌜ Ready (now table) count ⌝ }
     ensures { λ r. ⌜ r ≡ emptiesOf (now (table .entry)) count ⌝ }
 {
-    rows::row_after(table, count, Pattern::Empty, 4294967295, 0)
+    pair_rows::row_after(table, count, Pattern::Empty, 4294967295, 0)
 }
 
 // Whether the level of some context may be finished.
@@ -133,7 +133,7 @@ pub fn after_open(table: &[u16; 768], count: usize, a: OpenName, rows: [u32; 32]
     requires { ⌜ Ready (now table) count ⌝ }
     ensures { λ r. ⌜ ((start : ℕ) (S : PairState) → Encodes rows S → Encodes r (overOpen (grammarIn (now (table .entry)) count start) a S)) ⌝ }
 {
-    diagonal(rows::row_after(table, count, Pattern::Open(a), currents(rows), 0))
+    diagonal(pair_rows::row_after(table, count, Pattern::Open(a), currents(rows), 0))
 }
 
 // Definition 4.2 (3): the words of the derivative by the close b; saved is the state before the step's open, a the open's name.

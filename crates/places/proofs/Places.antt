@@ -22,14 +22,14 @@ below-left n (Rule.Empty l) h = h
 below-left n (Rule.Mark l c l1) h = h .0
 below-left n (Rule.Step l a l1 b l2) h = h .0
 
-eqb-comm : (x y : ℕ) → eqb x y ≡ eqb y x
+pub eqb-comm : (x y : ℕ) → eqb x y ≡ eqb y x
 eqb-comm x y = go (eqb y x) refl
   where
     go : (b : Bool) → eqb y x ≡ b → eqb x y ≡ b
     go true e = eq-eqb x y (sym (eqb-true y x e))
     go false e = ne-eqb x y (λ q. eqb-false y x e (sym q))
 
-any-snoc : (p : Rule → Bool) (g : Rules) (R : Rule) → any p (g ++ (R ∷ [])) ≡ (any p g || p R)
+pub any-snoc : (p : Rule → Bool) (g : Rules) (R : Rule) → any p (g ++ (R ∷ [])) ≡ (any p g || p R)
 any-snoc p [] R = or-false (p R)
 any-snoc p (x ∷ g) R = rw (any-snoc p g R) (sym (or-assoc (p x) (any p g) (p R)))
 

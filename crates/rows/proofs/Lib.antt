@@ -1,2 +1,2 @@
-pub mod Below
-pub mod Gathers
+pub mod Rows
+pub mod Words

@@ -27,7 +27,7 @@ Proper (due k) = Unit
 Proper (over l n) = Ascending l × ((e : List ℕ) → List·Memᴰ e l → length e ≡ n)
 
 -- the states that occur, if the buffer was first lent as buf
-abbrev Occurs : Subject → List ℕ → Shown → Type 0
+abbrev pub Occurs : Subject → List ℕ → Shown → Type 0
 Occurs (due k) buf none = Unit
 Occurs (due k) buf (some i) = ⊥
 Occurs (over l n) buf none = find (take n buf) l ≡ none
@@ -78,7 +78,7 @@ call-agrees (over l n) p buf next (some (suc j)) h =
     rw (take-entry l n (p .1) j (drop n buf) h, find-at l j (p .0) h)
     (onward-agrees l n buf j h (drop-entry l n (p .1) j (drop n buf) h) (ltb (suc j) (length l)) refl)
 
-start-agrees : (x : Subject) (buf : List ℕ) → (shows x buf (start x buf) ≡ buf) × Occurs x buf (start x buf)
+pub start-agrees : (x : Subject) (buf : List ℕ) → (shows x buf (start x buf) ≡ buf) × Occurs x buf (start x buf)
 start-agrees (due k) buf = (refl, tt)
 start-agrees (over l n) buf = go (find (take n buf) l) refl
   where

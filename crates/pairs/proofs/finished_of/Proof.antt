@@ -6,8 +6,8 @@ use mathlib.Core.Bool.{Bool}
 use mathlib.Core.Path.{_≡_, _∙_, ap}
 use borrow.Author.Needs.{needs}
 use lib.ListN.{getD}
-use Rattle.rows.proofs.Gathers.{gather-turn}
-use Rattle.rows.specs.Row.{pick, gather}
+use Rattle.pair_rows.proofs.Gathers.{gather-turn}
+use Rattle.pair_rows.specs.Row.{pick, gather}
 use Rattle.pairs.specs.Words.{meets}
 use Rattle.bits.specs.Bit.{addBit}
 use Rattle.pairs.proofs.finished_of.Statement.{statement}

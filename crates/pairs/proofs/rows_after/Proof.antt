@@ -6,7 +6,7 @@ use mathlib.Core.Path.{_≡_, refl}
 use borrow.Author.Needs.{needs}
 use lib.ListN.{getD}
 use Rattle.pairs.proofs.Fills.{Filled, fill-turn, fill-all}
-use Rattle.rows.specs.Row.{rowAfter}
+use Rattle.pair_rows.specs.Row.{rowAfter}
 use Rattle.pairs.specs.Words.{rowsAfter}
 use Rattle.pairs.proofs.rows_after.Statement.{statement}
 use Rattle.pairs.proofs.rows_after.Tie as tie

@@ -1,0 +1,3 @@
+pub mod Doubts
+pub mod Fronts
+pub mod Written

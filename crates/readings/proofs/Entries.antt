@@ -1,0 +1,17 @@
+-- The entries by the table and by the grammar are the same.
+-- Assumes nothing.
+use Prim.Native.Nat.{ℕ, suc}
+use mathlib.Core.Path.{_≡_, refl, sym, _∙_}
+use mathlib.Core.List.{List, []}
+use lib.ListN.{length, take}
+use Rattle.vpg.specs.Listing.{Subject, over}
+use Rattle.vpg.specs.Calls.{overEntries}
+use Rattle.vpg.specs.Runs.{runs}
+use Rattle.tables.specs.Ready.{grammarIn}
+use Rattle.history_file.specs.HistoryFile.{tokensOf}
+use Rattle.files.specs.declared.FilesRead.{FilesRead}
+use Rattle.frame.proofs.Passed.{Passed}
+
+pub same-entries : (grammar history : List ℕ) (r : FilesRead) (start rules count : ℕ) (k : Passed grammar history r start rules count) →
+    overEntries (grammarIn (r .table) rules start) (tokensOf (take count (r .tokens))) ≡ overEntries (k .g) (tokensOf (k .ts))
+same-entries grammar history r start rules count k = rw (k .rules-are, k .numbers-are, k .start-is)

@@ -1,0 +1,20 @@
+-- What first reading and next reading answer, and what a list of their calls is about.
+-- Assumes nothing.
+use Prim.Native.Nat.{ℕ, suc}
+use mathlib.Core.List.{List}
+use Rattle.vpg.specs.Listing.{written, no-reading, no-further, Subject, due}
+use Rattle.vpg.specs.Listing as model
+use Rattle.vpg.specs.Calls.{overEntries}
+use Rattle.frame.specs.Frame.{filesIn, served}
+use Rattle.readings.specs.declared.Answer.{Answer}
+
+-- each case of the enum: a reading written, "none", "no further", or the number
+abbrev pub said : Answer → model.Answer
+said Answer.Written = written
+said Answer.NoReading = no-reading
+said Answer.NoFurther = no-further
+said (Answer.Refused k) = model.refused k
+
+-- from the bytes of both files and the length of the buffer; a reading is n + 1 bytes
+abbrev pub subject : List ℕ → List ℕ → ℕ → Subject
+subject grammar history size = served due overEntries suc size (filesIn grammar history)
