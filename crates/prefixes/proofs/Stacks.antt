@@ -15,6 +15,7 @@ use Rattle.vpg.specs.declared.MarkName.{MarkName}
 use Rattle.vpg.specs.declared.OpenName.{OpenName}
 use Rattle.vpg.specs.declared.CloseName.{CloseName}
 use Rattle.vpg.specs.declared.Token.{Token}
+use Rattle.vpg.specs.Depth.{openAfter}
 use Rattle.vpg.specs.Pairs.{PairState, PairStack, overMark, overOpen, overClose, closed, bottom}
 use Rattle.vpg.proofs.Sets.{listed-cong, getD-listed}
 use Rattle.vpg.proofs.Take.{name-open}
@@ -87,6 +88,10 @@ saved-bottom stack names (suc d) [] x = absurd x
 saved-bottom stack names (suc d) (y ∷ T) x = eqb·suc-zero d
 
 -- ── one step ──
+
+-- before an open fewer than 128 steps are open
+pub room : (t : Token) (a : OpenName) (d : ℕ) → t ≡ Token.Open a → openAfter t d ≤ 128 → d < 128
+room t a d e h = let l : openAfter (Token.Open a) d ≤ 128 = rw e at h in omega arith
 
 -- over a close
 module _ (t : List ℕ) (n : ℕ) (rows : List ℕ) (stack names : List ℕ) (b : CloseName) where

@@ -100,7 +100,8 @@ fn closed(
     }
     let d = depth - 1;
     let saved = load(stack, d);
-    let a = OpenName(names[d]);
+    let name = names[d];
+    let a = OpenName(name);
     Top {
         rows: pairs::after_close(table, count, empties, b, rows, a, saved),
         depth: d,

@@ -1,7 +1,7 @@
 -- `is_step`: by the pattern.
 -- Assumes nothing.
-use mathlib.Core.Bool.{_&&_}
 use mathlib.Core.Path.{_∙_, ap, ap₂}
+use mathlib.Core.Bool.{_&&_}
 use borrow.Author.Needs.{needs}
 use Rattle.bits.specs.Bit.{bit}
 use Rattle.pair_rows.proofs.is_step.Statement.{statement}

@@ -14,11 +14,11 @@ sub-d c = search needs
 load-requires : tie.Need-load-requires
 load-requires c κs = search needs
 
-mul-t14 : tie.Need-mul-t14
-mul-t14 c = search needs
+mul-name : tie.Need-mul-name
+mul-name c = search needs
 
-element-copy-out-t17 : tie.Need-element-copy-out-t17
-element-copy-out-t17 c = search needs
+element-copy-out-name : tie.Need-element-copy-out-name
+element-copy-out-name c = search needs
 
 after-close-requires : tie.Need-after-close-requires
 after-close-requires c κs = search needs
@@ -36,7 +36,7 @@ closed-spec =
     returns
     sub-d
     load-requires
-    mul-t14
-    element-copy-out-t17
+    mul-name
+    element-copy-out-name
     after-close-requires
     returns-2)

@@ -1,7 +1,7 @@
 -- `mark_of`: no step is open exactly where the stack is empty.
 -- Assumes nothing.
-use mathlib.Core.Bool.{_&&_}
 use mathlib.Core.Path.{_∙_, ap, ap₂}
+use mathlib.Core.Bool.{_&&_}
 use borrow.Author.Needs.{needs}
 use Rattle.prefixes.proofs.Stacks.{saved-bottom}
 use Rattle.vpg.specs.Sets.{one}

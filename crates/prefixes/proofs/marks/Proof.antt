@@ -25,8 +25,11 @@ begin-requires c κs = search needs
 loop-holds : tie.Need-loop-holds Inv-loop μ-loop
 loop-holds c =
     let s = c .before .before .before .before in
-    let a = s .args in
-    (omega arith, first-turn (a .table .now) (a .count) (a .start) (a .w .now) (a .out .now) (c .begin .result) (replicate 4096 0) (replicate 128 0) (c .begin .ensures) (s .pre .1 .1 .1 .0) (length-replicate {A = ℕ} 4096 0) (length-replicate {A = ℕ} 128 0))
+    let a = s .args in (
+      omega arith,
+      first-turn (a .table .now) (a .count) (a .start) (a .w .now) (a .out .now)
+          (c .begin .result) (replicate 4096 0) (replicate 128 0) (c .begin .ensures) (s .pre .1 .1 .1 .0) (length-replicate {A = ℕ} 4096 0) (length-replicate {A = ℕ} 128 0),
+    )
 
 mark-of-requires : tie.Need-mark-of-requires Inv-loop μ-loop
 mark-of-requires c κs = search needs
@@ -68,9 +71,11 @@ loop-again c =
     let s = c .before .before .before .before .before .before .before .before .before .before .before .before .before in
     let a = s .args in
     let u = l .inv .1 in
-    let is = c .before .before .before .before .before .before .mark-of .ensures (a .table .now) (a .count) (a .start) (l .stack) (l .names) (u .configuration) (s .pre .0) (c .before .before .before .before .before .before .before .before .before .before .empties .ensures) (u .holds) in (
+    let is = c .before .before .before .before .before .before .mark-of .ensures (a .table .now) (a .count) (a .start) (l .stack) (l .names) (u .configuration)
+    (s .pre .0) (c .before .before .before .before .before .before .before .before .before .before .empties .ensures) (u .holds) in (
       omega arith,
-      next-turn (a .table .now) (a .count) (a .start) (a .w .now) (a .out .now) (l .i) (l .rows) (l .depth) (l .stack) (l .names) (l .out) (c .before .before .before .before .before .before .mark-of .result) (s .pre .1 .1 .1 .1) u is
+      next-turn (a .table .now) (a .count) (a .start) (a .w .now) (a .out .now)
+          (l .i) (l .rows) (l .depth) (l .stack) (l .names) (l .out) (c .before .before .before .before .before .before .mark-of .result) (s .pre .1 .1 .1 .1) u is
           (c .before .step .result .rows) (c .before .step .result .depth) _ _ (c .before .before .before .before .before .before .before .loop-test .taken) (rw (c .before .before .before .before .token-of .ensures) at (c .before .step .ensures)),
     )
 
@@ -97,8 +102,10 @@ returns c =
     let s = c .before .before .before .before .before .before .before in
     let a = s .args in
     let u = l .inv .1 in
-    let is = c .mark-of2 .ensures (a .table .now) (a .count) (a .start) (l .stack) (l .names) (u .configuration) (s .pre .0) (c .before .before .before .before .empties .ensures) (u .holds) in
-    last-turn (a .table .now) (a .count) (a .start) (a .w .now) (a .out .now) (l .i) (l .rows) (l .depth) (l .stack) (l .names) (l .out) (c .mark-of2 .result) (s .pre .1 .1 .1 .1) u is
+    let is = c .mark-of2 .ensures (a .table .now) (a .count) (a .start) (l .stack) (l .names) (u .configuration)
+    (s .pre .0) (c .before .before .before .before .empties .ensures) (u .holds) in
+    last-turn (a .table .now) (a .count) (a .start) (a .w .now) (a .out .now)
+    (l .i) (l .rows) (l .depth) (l .stack) (l .names) (l .out) (c .mark-of2 .result) (s .pre .1 .1 .1 .1) u is
     (s .pre .0) (s .pre .1 .0) (omega arith)
 
 pub marks-spec : {M : Type 1} → statement M
