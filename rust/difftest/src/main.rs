@@ -21,7 +21,7 @@ use std::time::Instant;
 const CASES: u64 = 200_000;
 const LONG: u64 = 10_000_000;
 /// One case in so many stands at a limit.
-const LIMIT_EVERY: usize = 400;
+const LIMIT_EVERY: usize = 200;
 /// The reference is held against itself in one case of so many.
 const SELF_EVERY: u64 = 8;
 

@@ -163,12 +163,12 @@ impl Maker<'_> {
             let ends = of_stage
                 .iter()
                 .any(|rule| matches!(rule, Rule::Ends { .. }));
-            if out.len() + 2 > most || (ends && self.random.percent(12)) {
+            if out.len() + 2 > most || (ends && self.random.percent(5)) {
                 return;
             }
             match *self.random.one(&of_stage) {
                 Rule::Ends { .. } => {
-                    if self.random.percent(50) {
+                    if self.random.percent(10) {
                         return;
                     }
                 }
@@ -219,6 +219,14 @@ impl Maker<'_> {
         for _ in 0..open {
             tokens.push(Token::Close(self.name(names)));
         }
+        tokens
+    }
+
+    /// Steps one inside the other, as many as may be open together, or one less or more.
+    fn nested(&mut self) -> Vec<Token> {
+        let deep = self.random.one(&[127, 128, 128, 129]);
+        let mut tokens = vec![Token::Open(0); deep];
+        tokens.extend(vec![Token::Close(0); deep]);
         tokens
     }
 
@@ -300,12 +308,20 @@ impl Maker<'_> {
 
     fn size(&mut self) -> Size {
         match self.random.below(10) {
-            0..=5 => Size {
+            0 | 1 => Size {
                 stages: self.random.within(1, 3),
                 rules: self.random.within(1, 9),
                 names: self.random.within(1, 2),
                 tokens: self.random.below(14),
                 ends_percent: 85,
+            },
+            // many rules for few names: many readings
+            2..=5 => Size {
+                stages: self.random.within(1, 4),
+                rules: self.random.within(6, 20),
+                names: 1,
+                tokens: self.random.within(1, 24),
+                ends_percent: 100,
             },
             6..=8 => Size {
                 stages: self.random.within(1, 8),
@@ -333,8 +349,9 @@ impl Maker<'_> {
         let (grammar_damaged, history_damaged) = (damage < 22, (15..42).contains(&damage));
         let size = self.size();
         let mut rules = self.rules(&size);
-        let tokens = match self.random.below(4) {
-            0 => self.matched(size.tokens, size.names),
+        let tokens = match self.random.below(200) {
+            0 => self.nested(),
+            1..=40 => self.matched(size.tokens, size.names),
             _ => self.derived(&rules, size.tokens),
         };
         if grammar_damaged && self.random.percent(15) && rules.len() < 128 {
@@ -381,13 +398,7 @@ impl Maker<'_> {
                     _ => Token::Close(0),
                 })
                 .collect(),
-            // steps one inside the other
-            2 => {
-                let deep = self.random.one(&[127, 128, 128, 129]);
-                let mut tokens = vec![Token::Open(0); deep];
-                tokens.extend(vec![Token::Close(0); deep]);
-                tokens
-            }
+            2 => self.nested(),
             // steps of G, with a mark in each
             3 | 4 => {
                 grammar = G.to_vec();
@@ -430,7 +441,7 @@ impl Maker<'_> {
         let near = Big::new(self.random.below(4) as u32);
         let last = total.minus(&Big::new(1));
         match self.random.below(4) {
-            0 if near < *total => near,
+            0 | 3 if near < *total => near,
             1 if near < *total => last.minus(&near),
             2 => total.divided(&Big::new(self.random.within(2, 5) as u32)).0,
             _ => last,

@@ -120,9 +120,7 @@ impl Refusal {
             Refusal::RuleTwice => "a rule equal in form and all fields to an earlier rule",
             Refusal::BytesFollow => "bytes follow the last rule or token",
             Refusal::TokenCount => "token count above 1,024",
-            Refusal::Token => {
-                "a token number above 255, or one that leaves 3 when divided by 4"
-            }
+            Refusal::Token => "a token number above 255, or one that leaves 3 when divided by 4",
             Refusal::CloseWithoutOpen => "a close with no step open",
             Refusal::StillOpen => "a step still open after the last token",
             Refusal::TooDeep => "an open while 128 steps are open",

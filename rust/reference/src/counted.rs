@@ -109,6 +109,15 @@ impl Counter {
         self.ways(0, 0, self.tokens.len())
     }
 
+    /// Whether no part of the history has more derivations than `most` from any stage that was looked at for the total.
+    pub fn few(&self, most: u64) -> bool {
+        self.total();
+        let known = self.known.borrow();
+        known
+            .values()
+            .all(|ways| ways.small().is_some_and(|ways| ways <= most))
+    }
+
     /// The reading at a place of the order, counted from 0 and below the total.
     pub fn reading_at(&self, place: &Big) -> Vec<u8> {
         let mut out = Vec::new();

@@ -60,6 +60,9 @@ impl Lister<'_> {
                         let shut = self.partner[start];
                         if self.tokens[shut] == Token::Close(close) {
                             let insides = self.from(inside, start + 1, shut);
+                            if insides.is_empty() {
+                                continue;
+                            }
                             let rests = self.from(then, shut + 1, end);
                             for inner in insides.iter() {
                                 for rest in rests.iter() {

@@ -15,7 +15,7 @@ pub fn history_check(bytes: &[u8]) -> Result<u16, u8> {
     parse_history(bytes).map(|tokens| tokens.len() as u16)
 }
 
-/// Readings are written down where there are at most this many.
+/// Readings are written down where each part of the history has at most this many.
 const FEW: u64 = 48;
 
 /// Two files, read once for several calls.
@@ -191,8 +191,7 @@ impl Served {
     fn few(&self) -> Option<&Vec<Vec<u8>>> {
         self.few
             .get_or_init(|| {
-                let total = self.counter.total().small()?;
-                (total <= FEW && self.positions() <= 64)
+                (self.positions() <= 64 && self.counter.few(FEW))
                     .then(|| listed::readings(self.counter.grammar(), self.counter.tokens()))
             })
             .as_ref()
