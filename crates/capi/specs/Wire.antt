@@ -7,6 +7,8 @@ use lib.ListN.{getD}
 use Rattle.files.specs.Checks.{Verdict, accepted, refused}
 use Rattle.sets.specs.Sets.{Given}
 use Rattle.sets.specs.Sets
+use Rattle.stops.specs.Stops.{Given as Marked}
+use Rattle.stops.specs.Stops
 use Rattle.calls.specs.CallList.{Outcome, made, refused-by}
 use Rattle.capi.specs.declared.GrammarReply.{GrammarReply}
 use Rattle.capi.specs.declared.HistoryReply.{HistoryReply}
@@ -32,6 +34,10 @@ givenCode Given.written = 0
 givenCode (Given.counted n) = 0
 givenCode (Given.refused k) = k
 
+abbrev pub markedCode : Marked → ℕ
+markedCode Marked.written = 0
+markedCode (Marked.refused k) = k
+
 abbrev pub outcomeCode : Outcome → ℕ
 outcomeCode made = 0
 outcomeCode (refused-by k) = k
@@ -39,6 +45,10 @@ outcomeCode (refused-by k) = k
 -- an answer as a number, with what the call leaves in the words
 abbrev pub setsWire : Given × List ℕ → ℕ × List ℕ
 setsWire p = (givenCode (p .0), p .1)
+
+-- an answer as a number, with what the call leaves in the marks
+abbrev pub marksWire : Marked × List ℕ → ℕ × List ℕ
+marksWire p = (markedCode (p .0), p .1)
 
 -- an answer as a number, with the answers and the buffer that the calls leave
 abbrev pub callsWire : Outcome × List ℕ × List ℕ → ℕ × List ℕ × List ℕ

@@ -5,6 +5,7 @@ use files::GrammarCheck;
 use files::HistoryCheck;
 use sets::CountAnswer;
 use sets::SetsAnswer;
+use stops::MarksAnswer;
 ghost use mathlib.Core.Path.{_≡_};
 ghost use lib.ListN.{length};
 ghost use Rattle.vpg.specs.Listing.{first, next};
@@ -15,7 +16,8 @@ ghost use Rattle.files.specs.Checks.{grammarDue, historyDue};
 ghost use Rattle.readings.specs.Answers.{subject};
 ghost use Rattle.calls.specs.CallList.{coded, callsDue};
 ghost use Rattle.sets.specs.Sets.{setsDue, countDue};
-ghost use Rattle.capi.specs.Wire.{grammarWire, historyWire, countWire, setsWire, callsWire};
+ghost use Rattle.stops.specs.Stops.{marksDue};
+ghost use Rattle.capi.specs.Wire.{grammarWire, historyWire, countWire, setsWire, marksWire, callsWire};
 
 // 0 and the counts of an accepted grammar; or the number of the refusal, and zeros.
 #[repr(C)]
@@ -131,5 +133,17 @@ pub extern "C" fn gaffmedlar_doubtful_count(grammar: &[u8], history: &[u8]) -> C
             answer: k,
             count: 0,
         },
+    }
+}
+
+// Writes n + 1 bytes: byte i is 1 where the first i tokens alone have a reading, else 0.
+#[no_mangle]
+pub extern "C" fn gaffmedlar_stop_marks(grammar: &[u8], history: &[u8], marks: &mut [u8]) -> u8
+    ensures { λ r. ⌜ (r, now (marks .exit)) ≡ marksWire (marksDue (now (grammar .entry)) (now (history .entry)) (now (marks .entry))) ⌝ }
+{
+    let given = stops::stop_marks(grammar, history, marks);
+    match given {
+        MarksAnswer::Written => 0,
+        MarksAnswer::Refused(k) => k,
     }
 }

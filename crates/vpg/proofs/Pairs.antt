@@ -438,4 +438,5 @@ module _ (g : Grammar) where
   pub stop-marks-pairs : Proper g → (w : List Token) → stopMarks g w ≡ marksFrom g (begin g) w
   unfolding stopMarks
   stop-marks-pairs p w =
-      listed-cong (suc (length w)) (stopMark g w) (λ i. one (accepts g (after g (begin g) (take i w)))) (stop-mark-pairs p w) ∙ sym (marks-listed (begin g) w)
+      listed-cong (suc (length w)) (stopMark g w) (λ i. one (accepts g (after g (begin g) (take i w)))) (λ i l. stop-mark-pairs p w i)
+      ∙ sym (marks-listed (begin g) w)
