@@ -30,9 +30,10 @@ pub enum Service {
     RunCalls,
     Sets,
     DoubtfulCount,
+    StopMarks,
 }
 
-pub const SERVICES: [Service; 7] = [
+pub const SERVICES: [Service; 8] = [
     Service::GrammarCheck,
     Service::HistoryCheck,
     Service::FirstReading,
@@ -40,6 +41,7 @@ pub const SERVICES: [Service; 7] = [
     Service::RunCalls,
     Service::Sets,
     Service::DoubtfulCount,
+    Service::StopMarks,
 ];
 
 /// A wrong library, planted to see that it is found.
@@ -53,17 +55,20 @@ pub enum Fault {
     WritesOneMore,
     /// The last rule of a set with two or more is lost.
     SetLoses,
+    /// A mark at the end alone.
+    MarksTheEndOnly,
     /// 14 answered as 13.
     FourteenAsThirteen,
     /// 15 only where the buffer is two elements short.
     FifteenLate,
 }
 
-pub const FAULTS: [Fault; 6] = [
+pub const FAULTS: [Fault; 7] = [
     Fault::StopsAfterTwo,
     Fault::NoneAsWritten,
     Fault::WritesOneMore,
     Fault::SetLoses,
+    Fault::MarksTheEndOnly,
     Fault::FourteenAsThirteen,
     Fault::FifteenLate,
 ];
@@ -189,6 +194,11 @@ pub fn library(case: &Case, service: Service) -> Outcome {
             let reply = raw::doubtful_count(grammar, history);
             Outcome::of(reply.answer, &[reply.count], &[], &[])
         }
+        Service::StopMarks => {
+            let mut lent = Lent::new(&case.marks, BYTE);
+            let answer = raw::stop_marks(grammar, history, lent.part());
+            Outcome::of(answer, &[], &[&lent.checked(BYTE)], &[])
+        }
     }
 }
 
@@ -227,6 +237,11 @@ pub fn due(case: &Case, work: &Work, service: Service) -> Outcome {
             Ok(count) => Outcome::of(0, &[count], &[], &[]),
             Err(number) => Outcome::of(number, &[0], &[], &[]),
         },
+        Service::StopMarks => {
+            let mut lent = case.marks.clone();
+            let answer = work.stop_marks(&mut lent);
+            Outcome::of(answer, &[], &[&lent], &[])
+        }
     }
 }
 
@@ -257,6 +272,11 @@ fn spoiled(fault: Fault, case: &Case, service: Service, outcome: Outcome) -> Out
                     *word &= *word - 1;
                     break;
                 }
+            }
+        }
+        (Fault::MarksTheEndOnly, Service::StopMarks) if wrong.answer == 0 => {
+            if let Some(n) = Work::new(&case.grammar, &case.history).positions() {
+                wrong.lent[0][..n - 1].fill(0);
             }
         }
         (Fault::FourteenAsThirteen, Service::HistoryCheck) if wrong.answer == 14 => {

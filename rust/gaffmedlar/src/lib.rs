@@ -276,6 +276,11 @@ pub fn doubtful_count(grammar: &[u8], history: &[u8]) -> Result<usize, Refusal> 
     Ok(reply.count as usize)
 }
 
+/// Writes n + 1 bytes: byte i is 1 where the first i tokens alone have a reading, else 0.
+pub fn stop_marks(grammar: &[u8], history: &[u8], marks: &mut [u8]) -> Result<(), Refusal> {
+    done(wire::stop_marks(grammar, history, marks))
+}
+
 /// The readings of a history in their order, each by one call.
 ///
 /// ```no_run
@@ -324,4 +329,80 @@ impl Iterator for Readings<'_> {
 /// uses these, so that no number is lost on the way.
 pub mod raw {
     pub use crate::wire::*;
+}
+
+#[cfg(test)]
+mod tests {
+    use super::*;
+
+    /// Document 01's grammar G.
+    const G: [u8; 28] = [
+        3, 7, 0, 0, 2, 0, 0, 1, 0, 0, 2, 0, 0, 2, 0, 0, 1, 1, 0, 1, 0, 1, 1, 2, 0, 2, 0, 2,
+    ];
+
+    #[test]
+    fn numbers_and_words() {
+        for (place, refusal) in REFUSALS.into_iter().enumerate() {
+            assert_eq!(usize::from(refusal.number()), place + 1);
+            assert_eq!(Refusal::of_number(refusal.number()), Some(refusal));
+        }
+        for number in [0, 17, 100, 101, 255] {
+            assert_eq!(Refusal::of_number(number), None);
+        }
+        assert_eq!(
+            Refusal::StillOpen.to_string(),
+            "a step still open after the last token (13)"
+        );
+        assert_eq!(Refusal::StillOpen.whose(), "whoever wrote the history");
+    }
+
+    #[test]
+    fn services() {
+        let history = [3, 1, 0, 2];
+        let counts = GrammarCounts {
+            stages: 3,
+            rules: 7,
+        };
+        assert_eq!(grammar_check(&G), Ok(counts));
+        assert_eq!(history_check(&history), Ok(3));
+        let all: Vec<Vec<u8>> = readings(&G, &history).unwrap().collect();
+        assert_eq!(all, [vec![1, 3, 4, 0], vec![2, 5, 6, 0]]);
+        let mut words = [9; 16];
+        assert_eq!(sets(&G, &history, &mut words), Ok(()));
+        assert_eq!(words, [6, 0, 0, 0, 40, 0, 0, 0, 80, 0, 0, 0, 1, 0, 0, 0]);
+        assert_eq!(doubtful_count(&G, &history), Ok(3));
+        let mut marks = [9; 5];
+        assert_eq!(stop_marks(&G, &history, &mut marks), Ok(()));
+        assert_eq!(marks, [1, 0, 0, 1, 9]);
+    }
+
+    #[test]
+    fn refusals_and_other_answers() {
+        let mut buffer = [7; 2];
+        assert_eq!(
+            first_reading(&G, &[1, 0], &mut buffer),
+            Ok(First::NoReading)
+        );
+        assert_eq!(
+            first_reading(&G, &[1, 0], &mut buffer[..1]),
+            Err(Refusal::BufferShort)
+        );
+        assert_eq!(
+            first_reading(&[1, 0], &[1, 1], &mut []),
+            Err(Refusal::RuleCount)
+        );
+        assert_eq!(sets(&G, &[1, 1], &mut []), Err(Refusal::StillOpen));
+        assert_eq!(buffer, [7; 2]);
+        let mut buffer = [9];
+        let calls = [Call::Next, Call::First, Call::Next];
+        assert_eq!(
+            run_calls(&G, &[0], &calls, &mut buffer),
+            [
+                CallAnswer::Refused(Refusal::NotAReading),
+                CallAnswer::Written,
+                CallAnswer::NoFurther
+            ]
+        );
+        assert_eq!(buffer, [0]);
+    }
 }

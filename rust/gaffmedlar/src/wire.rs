@@ -73,6 +73,14 @@ mod linked {
             history: *const u8,
             history_len: usize,
         ) -> CountReply;
+        pub fn gaffmedlar_stop_marks(
+            grammar: *const u8,
+            grammar_len: usize,
+            history: *const u8,
+            history_len: usize,
+            marks: *mut u8,
+            marks_len: usize,
+        ) -> u8;
     }
 }
 
@@ -157,6 +165,19 @@ pub fn doubtful_count(grammar: &[u8], history: &[u8]) -> CountReply {
             grammar.len(),
             history.as_ptr(),
             history.len(),
+        )
+    }
+}
+
+pub fn stop_marks(grammar: &[u8], history: &[u8], marks: &mut [u8]) -> u8 {
+    unsafe {
+        linked::gaffmedlar_stop_marks(
+            grammar.as_ptr(),
+            grammar.len(),
+            history.as_ptr(),
+            history.len(),
+            marks.as_mut_ptr(),
+            marks.len(),
         )
     }
 }

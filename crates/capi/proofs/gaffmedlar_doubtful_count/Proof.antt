@@ -1,3 +1,5 @@
+-- `capi::gaffmedlar_doubtful_count` meets its contract.
+-- Assumes nothing.
 use mathlib.Core.Path.{_≡_, sym, _∙_, ap}
 use Rattle.sets.specs.Sets.{countSaid}
 use Rattle.capi.specs.Wire.{countWire}

@@ -1,3 +1,5 @@
+-- `capi::gaffmedlar_first_reading` meets its contract.
+-- Assumes nothing.
 use mathlib.Core.Path.{_≡_, ap}
 use Rattle.calls.specs.CallList.{coded}
 use borrow.Author.Needs.{needs}

@@ -1,3 +1,5 @@
+-- `capi::gaffmedlar_run_calls` meets its contract.
+-- Assumes nothing.
 use mathlib.Core.Path.{_≡_, sym, _∙_, ap}
 use Rattle.calls.specs.CallList.{callsSaid}
 use Rattle.capi.specs.Wire.{callsWire}

@@ -1,3 +1,5 @@
+-- `capi::gaffmedlar_sets` meets its contract.
+-- Assumes nothing.
 use mathlib.Core.Path.{_≡_, sym, _∙_, ap}
 use Rattle.sets.specs.Sets.{setsSaid}
 use Rattle.capi.specs.Wire.{setsWire}

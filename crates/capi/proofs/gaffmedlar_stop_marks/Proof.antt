@@ -1,3 +1,5 @@
+-- `capi::gaffmedlar_stop_marks` meets its contract.
+-- Assumes nothing.
 use mathlib.Core.Path.{_≡_, sym, _∙_, ap}
 use Rattle.stops.specs.Stops.{marksSaid}
 use Rattle.capi.specs.Wire.{marksWire}
