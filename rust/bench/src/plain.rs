@@ -103,14 +103,15 @@ impl Levels {
 
     fn fill(&self, stage: u16, from: usize, behind: &mut [u16], out: &mut [u8]) {
         let mut stage = stage;
-        for place in from..=self.read.tokens.len() {
+        let end = self.read.tokens.len() + 1;
+        for (place, byte) in out.iter_mut().enumerate().take(end).skip(from) {
             let smallest = self
                 .read
                 .rules
                 .iter()
                 .position(|rule| self.fits(rule, stage, place))
                 .expect("the stage derives the rest");
-            out[place] = smallest as u8;
+            *byte = smallest as u8;
             stage = self.go_on(&self.read.rules[smallest], place, behind);
         }
     }
@@ -194,10 +195,11 @@ pub fn next_reading(grammar: &[u8], history: &[u8], out: &mut [u8]) -> u8 {
         }
     }
     for place in (0..=n).rev() {
-        for larger in usize::from(out[place]) + 1..rules.len() {
-            if levels.fits(&rules[larger], at[place], place) {
-                out[place] = larger as u8;
-                let stage = levels.go_on(&rules[larger], place, &mut behind);
+        let larger = usize::from(out[place]) + 1;
+        for (number, rule) in rules.iter().enumerate().skip(larger) {
+            if levels.fits(rule, at[place], place) {
+                out[place] = number as u8;
+                let stage = levels.go_on(rule, place, &mut behind);
                 levels.fill(stage, place + 1, &mut behind, out);
                 return 0;
             }

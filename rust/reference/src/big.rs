@@ -111,19 +111,8 @@ impl PartialOrd for Big {
 
 impl Ord for Big {
     fn cmp(&self, other: &Big) -> Ordering {
-        (self.0.len(), self.0.iter().rev()).cmp_with(&(other.0.len(), other.0.iter().rev()))
-    }
-}
-
-trait CmpWith {
-    fn cmp_with(&self, other: &Self) -> Ordering;
-}
-
-impl<'a> CmpWith for (usize, std::iter::Rev<std::slice::Iter<'a, u32>>) {
-    fn cmp_with(&self, other: &Self) -> Ordering {
-        self.0
-            .cmp(&other.0)
-            .then_with(|| self.1.clone().cmp(other.1.clone()))
+        let lengths = self.0.len().cmp(&other.0.len());
+        lengths.then_with(|| self.0.iter().rev().cmp(other.0.iter().rev()))
     }
 }
 
