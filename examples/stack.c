@@ -1,5 +1,5 @@
 /* Measures how much stack each function uses: it is called on a stack of its own that was painted before, on files at
- * every limit, and the deepest byte that changed is looked for.
+ * every limit, and the deepest byte that changed is looked for. Fails where more is used than gaffmedlar.h states.
  *
  * Build, in the repository's root:
  *     rt staticlib capi
@@ -109,10 +109,11 @@ int main(void)
     struct {
         const char *name;
         void (*function)(void);
-    } all[] = {{"gaffmedlar_grammar_check", grammar_check}, {"gaffmedlar_history_check", history_check},
-               {"gaffmedlar_first_reading", first},         {"gaffmedlar_next_reading", next},
-               {"gaffmedlar_run_calls", run_calls},         {"gaffmedlar_sets", sets},
-               {"gaffmedlar_doubtful_count", doubtful},     {"gaffmedlar_stop_marks", stop_marks}};
+        size_t stated; /* KiB */
+    } all[] = {{"gaffmedlar_grammar_check", grammar_check, 8}, {"gaffmedlar_history_check", history_check, 16},
+               {"gaffmedlar_first_reading", first, 40},        {"gaffmedlar_next_reading", next, 48},
+               {"gaffmedlar_run_calls", run_calls, 48},        {"gaffmedlar_sets", sets, 40},
+               {"gaffmedlar_doubtful_count", doubtful, 40},    {"gaffmedlar_stop_marks", stop_marks, 40}};
     int faults = 0;
     stack = malloc(STACK);
     if (stack == NULL)
@@ -128,8 +129,8 @@ int main(void)
                 most = bytes;
         }
         most -= used(nothing);
-        printf("%-26s %6zu bytes\n", all[i].name, most);
-        if (most >= 1 << 20)
+        printf("%-26s %6zu bytes of stack, stated %zu KiB\n", all[i].name, most, all[i].stated);
+        if (most > all[i].stated << 10)
             faults = 1;
     }
     free(stack);

@@ -2,9 +2,10 @@
 //!
 //!     bench [--quick] [--out DIR]
 //!
-//! Prints a table, and writes bench.csv and bench.svg into DIR (docs/ of the repository unless given). A time is the
-//! best of several rounds; the two sides take turns. `--quick` makes the rounds short.
+//! Prints a table, and writes bench.csv and bench.svg into DIR (docs/ of the repository unless given). A time is
+//! processor time, the best of several rounds; the two sides take turns. `--quick` makes the rounds short.
 
+mod clock;
 mod plain;
 mod plot;
 
@@ -14,7 +15,7 @@ use reference::{Rule, Token};
 use std::fmt::Write;
 use std::hint::black_box;
 use std::path::PathBuf;
-use std::time::{Duration, Instant};
+use std::time::Duration;
 
 #[derive(Clone, Copy, PartialEq, Eq)]
 enum Service {
@@ -213,15 +214,18 @@ fn timed(service: Service, files: &Files, round: Duration, rounds: usize) -> (f6
     assert!(one == other && left == right, "both sides give the same");
 
     let side = |call: fn(Service, &Files, &mut Buffers) -> u32, lent: &mut Buffers| {
-        let start = Instant::now();
+        let start = clock::now();
         let mut calls = 0u32;
-        while start.elapsed() < round || calls == 0 {
-            for _ in 0..8 {
+        loop {
+            for _ in 0..4 {
                 black_box(call(service, black_box(files), lent));
             }
-            calls += 8;
+            calls += 4;
+            let taken = clock::now() - start;
+            if taken >= round {
+                return taken.as_secs_f64() * 1e6 / f64::from(calls);
+            }
         }
-        start.elapsed().as_secs_f64() * 1e6 / f64::from(calls)
     };
     let mut best = (f64::INFINITY, f64::INFINITY);
     for _ in 0..rounds {

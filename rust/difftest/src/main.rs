@@ -22,6 +22,8 @@ const CASES: u64 = 200_000;
 const LONG: u64 = 10_000_000;
 /// One case in so many stands at a limit.
 const LIMIT_EVERY: usize = 200;
+/// Every length of every buffer is tried on so many files.
+const LENGTHS: u64 = 60;
 /// The reference is held against itself in one case of so many.
 const SELF_EVERY: u64 = 8;
 
@@ -184,9 +186,38 @@ fn short_files() -> Option<(Case, Difference)> {
     None
 }
 
+/// Every length of every buffer from nothing to a few elements more than needed, for some files.
+fn all_lengths(seed: u64) -> Option<(Case, Difference)> {
+    for number in 0..LENGTHS {
+        let mut random = Random::new(seed.wrapping_mul(0x1000_0000_0000) ^ !number);
+        let whole = make::case(&mut random, usize::MAX);
+        let positions = Work::new(&whole.grammar, &whole.history).positions();
+        let positions = positions.unwrap_or(4);
+        for length in 0..4 * positions + 7 {
+            let mut case = whole.clone();
+            let bytes = [
+                &mut case.first,
+                &mut case.next,
+                &mut case.marks,
+                &mut case.buffer,
+            ];
+            for bytes in bytes {
+                bytes.resize(length.min(positions + 5), length as u8);
+            }
+            case.words.resize(length, 0x1234_5678);
+            case.answers.resize(length.min(case.calls.len() + 5), 77);
+            if let Some(difference) = compare(&case, None, |_, _| {}) {
+                return Some((case, difference));
+            }
+        }
+    }
+    None
+}
+
 fn compare_all(options: &Options) -> bool {
     let start = Instant::now();
-    if let Some((case, difference)) = short_files() {
+    let found = short_files().or_else(|| all_lengths(options.seed));
+    if let Some((case, difference)) = found {
         tell(&case, &difference, None);
         return false;
     }
@@ -223,7 +254,7 @@ fn compare_all(options: &Options) -> bool {
     }
     let whole = seen.report();
     println!(
-        "{} cases, {calls} calls and all files of two bytes at most, seed {}: no difference, {:.1} s",
+        "{} cases, {calls} calls, all files of two bytes at most, {LENGTHS} files at all lengths of buffers, seed {}: no difference, {:.1} s",
         options.cases,
         options.seed,
         start.elapsed().as_secs_f64()

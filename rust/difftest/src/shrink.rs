@@ -1,8 +1,9 @@
 //! Makes a case smaller as long as both sides still differ on it.
 use crate::case::{compare, Case, Fault};
 use crate::make::{grammar_file, history_file, tokens_without};
+use reference::big::Big;
 use reference::files::partners;
-use reference::{parse_grammar, parse_history, Token};
+use reference::{parse_grammar, parse_history, Token, Work};
 use std::time::{Duration, Instant};
 
 /// At most this long.
@@ -89,7 +90,7 @@ fn rules_dropped(case: &Case, all: &mut Vec<Case>) {
                 }
             }
         }
-        all.push(smaller);
+        with_readings(smaller, all);
     }
 }
 
@@ -129,8 +130,25 @@ fn tokens_dropped(case: &Case, all: &mut Vec<Case>) {
                     }
                 }
             }
-            all.push(smaller);
+            with_readings(smaller, all);
         }
+    }
+}
+
+/// The case, and the same with one of the first readings of its files in the buffers that hold one.
+fn with_readings(case: Case, all: &mut Vec<Case>) {
+    let work = Work::new(&case.grammar, &case.history);
+    let total = work.total();
+    all.push(case.clone());
+    for place in (0..3).map(Big::new).take_while(|place| *place < total) {
+        let reading = work.reading_at(&place).expect("both files pass");
+        let mut held = case.clone();
+        for bytes in [&mut held.next, &mut held.buffer] {
+            if !bytes.is_empty() {
+                bytes.clone_from(&reading);
+            }
+        }
+        all.push(held);
     }
 }
 
