@@ -42,7 +42,7 @@ returns-2 c =
     let k = files-passed (a .grammar .now) (a .history .now) (c .before .before .before .before .read-files .ensures) _ _ _ _ (c .before .before .answer .given .1) in
     rw (served-short due overEntries suc (length (a .reading .now)) (filesIn (a .grammar .now) (a .history .now)) (k .g) (k .ts) (k .is) (omega (arith, k .count-is)))
 
-cast-next-on : tie.Need-cast-sizeext-on
+cast-next-on : tie.Need-cast-next-on
 cast-next-on c = search needs
 
 array-share-prefix-tokens : tie.Need-array-share-prefix-tokens
