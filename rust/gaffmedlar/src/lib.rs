@@ -12,7 +12,7 @@ use std::fmt;
 
 /// Why a file or a buffer was turned down. [`Refusal::number`] is document 01's number, and the text of the error says
 /// the same in words.
-#[derive(Clone, Copy, Debug, PartialEq, Eq, Hash, PartialOrd, Ord)]
+#[derive(Clone, Copy, PartialEq, Eq, Hash, PartialOrd, Ord)]
 pub enum Refusal {
     /// 1: the bytes end inside a number or before one that is due.
     BytesEnd,
@@ -135,6 +135,13 @@ impl Refusal {
 impl fmt::Display for Refusal {
     fn fmt(&self, f: &mut fmt::Formatter<'_>) -> fmt::Result {
         write!(f, "{} ({})", self.words(), self.number())
+    }
+}
+
+/// The same words, since this is what a program prints whose `main` gives the error back.
+impl fmt::Debug for Refusal {
+    fn fmt(&self, f: &mut fmt::Formatter<'_>) -> fmt::Result {
+        fmt::Display::fmt(self, f)
     }
 }
 
