@@ -1,0 +1,138 @@
+// The lines of a listing, written to a buffer that is a window on the text. Each answers the place behind its line.
+ghost use mathlib.Core.Path.{_≡_};
+ghost use mathlib.Core.List.{_++_, _∷_, []};
+ghost use Prim.Native.Nat.{ℕ};
+ghost use Rattle.lines.specs.Laid.{put, laid};
+ghost use Rattle.lines.specs.Text.{decimal, readingText, tokensLine, doubtfulLine, noneLine, readingLine, endLine, moreLine, refusedGrammarLine, refusedHistoryLine};
+
+// How many bytes of the text are still to be passed over, and where in the buffer the next one goes.
+pub struct Place {
+    pub skip: usize,
+    pub at: usize,
+}
+
+// One byte, where it is not passed over and there is room.
+pub fn put_byte(out: &mut [u8], p: Place, b: u8) -> Place
+    ensures { λ r. ⌜ (r, now (out .exit)) ≡ put (p, now (out .entry)) b ⌝ }
+{
+    let skip = p.skip;
+    let at = p.at;
+    if skip > 0 {
+        return Place { skip: skip - 1, at };
+    }
+    if at < out.len() {
+        out[at] = b;
+        return Place { skip, at: at + 1 };
+    }
+    p
+}
+
+pub fn put_bytes(out: &mut [u8], p: Place, bytes: &[u8]) -> Place
+    ensures { λ r. ⌜ (r, now (out .exit)) ≡ laid (p, now (out .entry)) (now (bytes .entry)) ⌝ }
+{
+    let mut place = p;
+    let mut i: usize = 0;
+    while i < bytes.len() {
+        place = put_byte(out, place, bytes[i]);
+        i += 1;
+    }
+    place
+}
+
+// A number in decimal.
+pub fn put_number(out: &mut [u8], p: Place, n: u64) -> Place
+    ensures { λ r. ⌜ (r, now (out .exit)) ≡ laid (p, now (out .entry)) (decimal n) ⌝ }
+{
+    let mut digits = [0u8; 20];
+    let k = io::decimal(n, &mut digits);
+    put_bytes(out, p, &digits[..k])
+}
+
+// A word, a number and the line's end.
+fn number_line(out: &mut [u8], p: Place, word: &[u8], n: u64) -> Place
+    ensures { λ r. ⌜ (r, now (out .exit)) ≡ laid (p, now (out .entry)) (now (word .entry) ++ decimal n ++ (10 ∷ [])) ⌝ }
+{
+    let behind = put_bytes(out, p, word);
+    let end = put_number(out, behind, n);
+    put_byte(out, end, 10)
+}
+
+// How many tokens the history has.
+pub fn tokens_line(out: &mut [u8], p: Place, n: u64) -> Place
+    ensures { λ r. ⌜ (r, now (out .exit)) ≡ laid (p, now (out .entry)) (tokensLine n) ⌝ }
+{
+    number_line(out, p, b"tokens ", n)
+}
+
+// How many positions are doubtful.
+pub fn doubtful_line(out: &mut [u8], p: Place, d: u64) -> Place
+    ensures { λ r. ⌜ (r, now (out .exit)) ≡ laid (p, now (out .entry)) (doubtfulLine d) ⌝ }
+{
+    number_line(out, p, b"doubtful ", d)
+}
+
+// There is no reading.
+pub fn none_line(out: &mut [u8], p: Place) -> Place
+    ensures { λ r. ⌜ (r, now (out .exit)) ≡ laid (p, now (out .entry)) noneLine ⌝ }
+{
+    put_bytes(out, p, b"none\n")
+}
+
+// All k readings were listed.
+pub fn end_line(out: &mut [u8], p: Place, k: u64) -> Place
+    ensures { λ r. ⌜ (r, now (out .exit)) ≡ laid (p, now (out .entry)) (endLine k) ⌝ }
+{
+    number_line(out, p, b"end ", k)
+}
+
+// k readings were listed, and another follows.
+pub fn more_line(out: &mut [u8], p: Place, k: u64) -> Place
+    ensures { λ r. ⌜ (r, now (out .exit)) ≡ laid (p, now (out .entry)) (moreLine k) ⌝ }
+{
+    number_line(out, p, b"more ", k)
+}
+
+// The grammar file is refused by the number k.
+pub fn refused_grammar_line(out: &mut [u8], p: Place, k: u64) -> Place
+    ensures { λ r. ⌜ (r, now (out .exit)) ≡ laid (p, now (out .entry)) (refusedGrammarLine k) ⌝ }
+{
+    number_line(out, p, b"refused grammar ", k)
+}
+
+// The history file is refused by the number k.
+pub fn refused_history_line(out: &mut [u8], p: Place, k: u64) -> Place
+    ensures { λ r. ⌜ (r, now (out .exit)) ≡ laid (p, now (out .entry)) (refusedHistoryLine k) ⌝ }
+{
+    number_line(out, p, b"refused history ", k)
+}
+
+// One rule number of a reading, with the blank before it.
+fn put_rule(out: &mut [u8], p: Place, x: u8) -> Place
+    ensures { λ r. ⌜ (r, now (out .exit)) ≡ laid (p, now (out .entry)) (32 ∷ decimal x) ⌝ }
+{
+    let behind = put_byte(out, p, 32);
+    put_number(out, behind, x as u64)
+}
+
+// The rule numbers of a reading, each with a blank before it.
+fn put_rules(out: &mut [u8], p: Place, reading: &[u8]) -> Place
+    ensures { λ r. ⌜ (r, now (out .exit)) ≡ laid (p, now (out .entry)) (readingText (now (reading .entry))) ⌝ }
+{
+    let mut place = p;
+    let mut i: usize = 0;
+    while i < reading.len() {
+        place = put_rule(out, place, reading[i]);
+        i += 1;
+    }
+    place
+}
+
+// The reading number k.
+pub fn reading_line(out: &mut [u8], p: Place, k: u64, reading: &[u8]) -> Place
+    ensures { λ r. ⌜ (r, now (out .exit)) ≡ laid (p, now (out .entry)) (readingLine k (now (reading .entry))) ⌝ }
+{
+    let behind = put_number(out, p, k);
+    let colon = put_byte(out, behind, 58);
+    let end = put_rules(out, colon, reading);
+    put_byte(out, end, 10)
+}
