@@ -1,14 +1,15 @@
 -- The laws of `bit` and `addBit`, over every width.
 -- Assumes nothing.
-use Prim.Native.Nat.{ℕ, zero, suc, _+_, _/_, _%_, _^_, _<_, _≤_}
-use mathlib.Core.Bool.{false, _||_}
-use mathlib.Core.Path.{_≡_, refl, sym, _∙_}
-use native.Mathlib.Nat.{zero-div, div-one, div-eq-of-lt, lt-of-lt-of-le, mod-lt, pow-suc, mul-div-cancel, mul-mod-left}
+use Prim.Native.Nat.{ℕ, zero, suc, _+_, _-_, _/_, _%_, _^_, _<_, _≤_}
+use mathlib.Core.Bool.{true, false, _||_, _&&_}
+use mathlib.Core.Path.{_≡_, refl, sym, _∙_, ap}
+use native.Mathlib.Nat.{zero-div, div-one, div-eq-of-lt, lt-of-lt-of-le, mod-lt, pow-suc, mul-div-cancel, mul-mod-left, mod-eq-of-lt}
 use native.Mathlib.Omega.{arith}
+use borrow.Author.Tests.{eq-eqb}
 use lib.Dec.{eqb, lit<, eqb·zero-suc, eqb·suc-zero, eqb·suc-suc}
 use lib.Arith.{lt-one}
-use lib.Bits.{bitOr, or-shr, or-mod, or-lt}
-use lib.Pow.{pow-lt, pow-mono, shr-shr, shr-lt}
+use lib.Bits.{bitAnd, bitOr, and-shr, and-mod, and-mask, or-shr, or-mod, or-lt}
+use lib.Pow.{pow-pos, pow-lt, pow-mono, shr-shr, shr-lt}
 use Rattle.bits.specs.Bit.{bit, addBit}
 
 -- the empty set has no member
@@ -76,3 +77,30 @@ bit-add m b k = bit-or m (2 ^ b) k ∙ rw bit-pow
 -- and stays within the width
 pub add-below : (k m b : ℕ) → m < 2 ^ k → b < k → addBit m b < 2 ^ k
 add-below k m b h l = or-lt k m (2 ^ b) h (pow-lt l)
+
+and-digit : (x y : ℕ) → x < 2 → y < 2 → eqb (bitAnd x y) 1 ≡ (eqb x 1 && eqb y 1)
+and-digit zero zero h h′ = refl
+and-digit zero (suc zero) h h′ = refl
+and-digit (suc zero) zero h h′ = refl
+and-digit (suc zero) (suc zero) h h′ = refl
+and-digit (suc (suc x)) y h h′ = absurd (omega arith)
+and-digit zero (suc (suc y)) h h′ = absurd (omega arith)
+and-digit (suc zero) (suc (suc y)) h h′ = absurd (omega arith)
+
+-- the members in common
+pub bit-and : (m n b : ℕ) → bit (bitAnd m n) b ≡ (bit m b && bit n b)
+bit-and m n b =
+    rw (and-shr m n b, and-mod (m / 2 ^ b) (n / 2 ^ b) 1)
+    (and-digit (m / 2 ^ b % 2) (n / 2 ^ b % 2) (mod-lt (m / 2 ^ b) (lit< tt)) (mod-lt (n / 2 ^ b) (lit< tt)))
+
+-- the set of all numbers below k
+pub bit-all : (k b : ℕ) → b < k → bit (2 ^ k - 1) b ≡ true
+bit-all k b l =
+    let at-b : bit (2 ^ b) b ≡ true = bit-pow b b ∙ eq-eqb b b refl in
+    let both : (bit (2 ^ b) b && bit (2 ^ k - 1) b) ≡ true =
+    sym (bit-and (2 ^ b) (2 ^ k - 1) b) ∙ ap (λ (m : ℕ). bit m b) (and-mask (2 ^ b) k ∙ mod-eq-of-lt (pow-lt l)) ∙ at-b in
+    rw at-b at both
+
+-- a set within a width that has no member is empty
+pub no-member : (k m : ℕ) → m < 2 ^ k → ((b : ℕ) → b < k → bit m b ≡ false) → m ≡ 0
+no-member k m h e = same k m 0 h (pow-pos k) (λ b l. e b l ∙ sym (bit-zero b))

@@ -6,11 +6,13 @@ use Rattle.numbers.specs.Field.{fieldAt, countAt}
 use Rattle.rules.specs.Rule.{pairAt, stepAt, bodyAt, ruleAt}
 use Rattle.tables.specs.Table.{sameRule, earlier}
 use Rattle.grammar_file.specs.GrammarFile.{rulesFrom, grammarFrom}
-use Rattle.history_file.specs.HistoryFile.{tokenJudged, tokenAt, depthAfter, tokensFrom, historyFrom}
+use Rattle.history_file.specs.HistoryFile.{tokenOf, tokenJudged, tokenAt, depthAfter, tokensFrom, historyFrom}
+use Rattle.vpg.specs.Runs.{runs}
+use Rattle.vpg.specs.Sets.{kept, count, doubtful, doubtfulCount, stopMark, stopMarks}
 use Rattle.examples.specs.Examples.{Examples}
 
 pub examples : Examples
-unfolding numberAt fieldAt countAt pairAt stepAt bodyAt ruleAt sameRule earlier rulesFrom grammarFrom tokenJudged tokenAt depthAfter tokensFrom historyFrom
+unfolding numberAt fieldAt countAt pairAt stepAt bodyAt ruleAt sameRule earlier rulesFrom grammarFrom tokenJudged tokenAt depthAfter tokensFrom historyFrom tokenOf runs kept count doubtful doubtfulCount stopMark stopMarks
 examples = record {
   G-is = refl;
   history-3-1-0-2 = refl;
@@ -21,4 +23,16 @@ examples = record {
   history-128-0 = refl;
   grammar-1-2-0-0-0-0 = refl;
   grammar-1-0 = refl;
+  history-0 = refl;
+  history-0-marks = refl;
+  step = refl;
+  step-doubtful = refl;
+  step-marks = refl;
+  empty-step = refl;
+  two-steps = refl;
+  after-last = refl;
+  after-none = refl;
+  mark = refl;
+  mark-marks = refl;
+  no-end = refl;
 }

@@ -1,13 +1,21 @@
--- Document 01's checked examples, those marked there with a star, as far as the two files go: `examples` in proofs/ has them all.
+-- Document 01's checked examples, those marked there with a star: `examples` in proofs/ has them all.
 -- Assumes nothing.
 use Prim.Native.Nat.{ℕ}
 use mathlib.Core.Path.{_≡_}
 use mathlib.Core.List.{List, [], _∷_}
 use Rattle.vpg.specs.declared.Rule.{Rule}
 use Rattle.vpg.specs.Grammar.{Grammar}
+use Rattle.vpg.specs.Listing.{first, next, no-reading, no-further, refused}
+use Rattle.vpg.specs.Calls.{callOn}
+use Rattle.vpg.specs.Runs.{entries}
+use Rattle.vpg.specs.Sets.{doubtfulCount, stopMarks}
+use Rattle.files.specs.Files.{Files}
+use Rattle.files.specs.Files
+use Rattle.frame.specs.Frame.{filesIn}
+use Rattle.readings.specs.Answers.{subject}
 use Rattle.grammar_file.specs.GrammarFile.{GrammarFile, grammarOf}
 use Rattle.grammar_file.specs.GrammarFile
-use Rattle.history_file.specs.HistoryFile.{HistoryFile, historyOf}
+use Rattle.history_file.specs.HistoryFile.{HistoryFile, historyOf, tokensOf}
 use Rattle.history_file.specs.HistoryFile
 
 -- "G below is the 28 bytes 3 7 / 0 0 / 2 0 0 1 0 0 / 2 0 0 2 0 0 / 1 1 0 1 / 0 1 / 1 2 0 2 / 0 2 (decimal)"
@@ -30,6 +38,19 @@ grammarG = record {
       ∷ [];
 }
 
+-- of two files that pass: every reading in order, the doubtful count, the stop marks
+abbrev pub readingsOf : Files → List (List ℕ)
+readingsOf (Files.accepted g ts) = entries g (tokensOf ts)
+readingsOf (Files.refused e) = []
+
+abbrev pub doubtfulOf : Files → List ℕ
+doubtfulOf (Files.accepted g ts) = doubtfulCount g (tokensOf ts) ∷ []
+doubtfulOf (Files.refused e) = []
+
+abbrev pub marksOf : Files → List ℕ
+marksOf (Files.accepted g ts) = stopMarks g (tokensOf ts)
+marksOf (Files.refused e) = []
+
 pub record Examples : Type 0 where
   pub G-is : grammarOf G ≡ GrammarFile.accepted grammarG
   pub history-3-1-0-2 : historyOf (3 ∷ 1 ∷ 0 ∷ 2 ∷ []) ≡ HistoryFile.accepted (1 ∷ 0 ∷ 2 ∷ [])
@@ -40,3 +61,26 @@ pub record Examples : Type 0 where
   pub history-128-0 : historyOf (128 ∷ 0 ∷ []) ≡ HistoryFile.refused 2
   pub grammar-1-2-0-0-0-0 : grammarOf (1 ∷ 2 ∷ 0 ∷ 0 ∷ 0 ∷ 0 ∷ []) ≡ GrammarFile.refused 8
   pub grammar-1-0 : grammarOf (1 ∷ 0 ∷ []) ≡ GrammarFile.refused 4
+  -- "G, history 0: reading 0; marks 1"
+  pub history-0 : readingsOf (filesIn G (0 ∷ [])) ≡ (0 ∷ []) ∷ []
+  pub history-0-marks : marksOf (filesIn G (0 ∷ [])) ≡ 1 ∷ []
+  -- "G, 3 1 0 2: as above; marks 1 0 0 1"
+  pub step : readingsOf (filesIn G (3 ∷ 1 ∷ 0 ∷ 2 ∷ [])) ≡ (1 ∷ 3 ∷ 4 ∷ 0 ∷ []) ∷ (2 ∷ 5 ∷ 6 ∷ 0 ∷ []) ∷ []
+  pub step-doubtful : doubtfulOf (filesIn G (3 ∷ 1 ∷ 0 ∷ 2 ∷ [])) ≡ 3 ∷ []
+  pub step-marks : marksOf (filesIn G (3 ∷ 1 ∷ 0 ∷ 2 ∷ [])) ≡ 1 ∷ 0 ∷ 0 ∷ 1 ∷ []
+  -- "G, 2 1 2: 1 4 0, then 2 6 0"
+  pub empty-step : readingsOf (filesIn G (2 ∷ 1 ∷ 2 ∷ [])) ≡ (1 ∷ 4 ∷ 0 ∷ []) ∷ (2 ∷ 6 ∷ 0 ∷ []) ∷ []
+  -- "G, 4 1 2 1 2: 1 4 1 4 0; 1 4 2 6 0; 2 6 1 4 0; 2 6 2 6 0"
+  pub two-steps :
+      readingsOf (filesIn G (4 ∷ 1 ∷ 2 ∷ 1 ∷ 2 ∷ []))
+      ≡ (1 ∷ 4 ∷ 1 ∷ 4 ∷ 0 ∷ []) ∷ (1 ∷ 4 ∷ 2 ∷ 6 ∷ 0 ∷ []) ∷ (2 ∷ 6 ∷ 1 ∷ 4 ∷ 0 ∷ []) ∷ (2 ∷ 6 ∷ 2 ∷ 6 ∷ 0 ∷ []) ∷ []
+  -- "Next after 2 6 2 6 0: no further", "Next after 1 4 1 4 1: 16"
+  pub after-last :
+      callOn (subject G (4 ∷ 1 ∷ 2 ∷ 1 ∷ 2 ∷ []) 5) next (2 ∷ 6 ∷ 2 ∷ 6 ∷ 0 ∷ []) ≡ (no-further, 2 ∷ 6 ∷ 2 ∷ 6 ∷ 0 ∷ [])
+  pub after-none :
+      callOn (subject G (4 ∷ 1 ∷ 2 ∷ 1 ∷ 2 ∷ []) 5) next (1 ∷ 4 ∷ 1 ∷ 4 ∷ 1 ∷ []) ≡ (refused 16, 1 ∷ 4 ∷ 1 ∷ 4 ∷ 1 ∷ [])
+  -- "G, 1 0: none; marks 1 0"
+  pub mark : callOn (subject G (1 ∷ 0 ∷ []) 2) first (9 ∷ 9 ∷ []) ≡ (no-reading, 9 ∷ 9 ∷ [])
+  pub mark-marks : marksOf (filesIn G (1 ∷ 0 ∷ [])) ≡ 1 ∷ 0 ∷ []
+  -- "Grammar 1 1 1 0 0 0, history 0: none"
+  pub no-end : callOn (subject (1 ∷ 1 ∷ 1 ∷ 0 ∷ 0 ∷ 0 ∷ []) (0 ∷ []) 1) first (9 ∷ []) ≡ (no-reading, 9 ∷ [])

@@ -17,10 +17,11 @@ use Rattle.vpg.specs.Grammar.{Rules}
 use Rattle.vpg.specs.Runs.{Stack}
 use Rattle.vpg.specs.Steps.{left}
 use Rattle.vpg.proofs.Basics.{and-left, and-right}
-use Rattle.masks.specs.Masks.{lefts, masks, Fits}
+use Rattle.masks.specs.Masks.{masks, Fits}
 use Rattle.masks.specs.Walk.{testAt}
 use Rattle.masks.proofs.Alive.{Passes, both, lefts-some}
 use Rattle.masks.proofs.Search.{None}
+use Rattle.masks.proofs.Walk.{level-test}
 use Rattle.places.specs.declared.Place.{Place}
 use Rattle.places.specs.Place.{appliesTo}
 use Rattle.tables.specs.Table.{ruleIn, rulesIn}
@@ -34,11 +35,6 @@ below-more P n h x q l = ⊎-elim (λ e. rw e x) (λ k. h q k) (eq-or-lt-of-le (
   where
     step : q < n + 1 → q ≤ n
     step k = omega arith
-
-masks-test : (g : Rules) (v : List Token) (L : ℕ) → masks g v .0 L ≡ true → lefts (testAt g v) g L ≡ true
-unfolding masks testAt
-masks-test g [] L h = h
-masks-test g (t ∷ v) L h = h
 
 module _ (t : List ℕ) (n : ℕ) (w : List Token) (mask : List ℕ) (p L : ℕ) (place : Place) (stands : Stands w mask p place) (leveled : Leveled (rulesIn t n) w mask (suc p)) where
   abbrev G : Rules
@@ -65,7 +61,7 @@ module _ (t : List ℕ) (n : ℕ) (w : List Token) (mask : List ℕ) (p L : ℕ)
 
   -- where the state fits there is one
   pub found : (s : Stack) (r : ℕ) → Fits L s (masks G (drop p w)) → Smallest t n L place r → r < n
-  found s r f k = go (ltb r n) refl (lefts-some (testAt G (drop p w)) G L (masks-test G (drop p w) L (f .0)))
+  found s r f k = go (ltb r n) refl (lefts-some (testAt G (drop p w)) G L (level-test G (drop p w) L ∙ f .0))
     where
       go : (b : Bool) → ltb r n ≡ b → (q : ℕ) × Passes (testAt G (drop p w)) G L q → r < n
       go true e x = ltb-true r n e

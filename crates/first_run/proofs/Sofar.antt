@@ -14,13 +14,13 @@ use Rattle.vpg.specs.declared.Token.{Token}
 use Rattle.vpg.specs.Grammar.{Rules}
 use Rattle.vpg.specs.Extremes.{Least}
 use Rattle.vpg.specs.Runs.{Stack, State}
-use Rattle.masks.specs.Masks.{finishes, masks, Fits}
+use Rattle.masks.specs.Masks.{masks, Fits}
 use Rattle.masks.specs.Pending.{pendingAt, closeOf, dueAt}
 use Rattle.masks.specs.Walk.{Run, testAt, inner, later}
 use Rattle.masks.proofs.Alive.{Passes}
 use Rattle.masks.proofs.Search.{None, end-first}
 use Rattle.masks.proofs.Local.{Turn, turn, first-turn}
-use Rattle.masks.proofs.Walk.{stored}
+use Rattle.masks.proofs.Walk.{passes-end, end-passes, stored}
 use Rattle.vpg.specs.Steps.{left}
 use Rattle.vpg.proofs.Basics.{and-left, and-right}
 use Rattle.places.specs.declared.Place.{Place}
@@ -59,7 +59,6 @@ module _ (g : Rules) (w : List Token) (s₀ : State) (from : ℕ) (old : List �
   pub filled-end : (f : List ℕ) (L r : ℕ) (new : List ℕ) → length w < length new → pendingAt w (length w) ≡ [] → Passes (testAt g (drop (length w) w)) g L r →
       None (testAt g (drop (length w) w)) g L (λ q. q < r) → Sofar g w s₀ from (L, dueAt f (pendingAt w (length w))) (length w) old new →
       drop (suc (length w)) new ≡ drop (suc (length w)) old → Filled g w s₀ from old (set new (length w) r)
-  unfolding testAt
   filled-end f L r new h e p d k q = record {
     run = k .run ++ (r ∷ []);
     least = k .least (r ∷ []) (ending (dueAt f (pendingAt w (length w))) (ap (dueAt f) e));
@@ -71,13 +70,7 @@ module _ (g : Rules) (w : List Token) (s₀ : State) (from : ℕ) (old : List �
       done = drop-of-length-le w {i = length w} (omega arith)
 
       at-end : (v : List Token) → drop (length w) w ≡ v → v ≡ [] → Passes (testAt g v) g L r → None (testAt g v) g L (λ q. q < r) → Least (Run g (L, []) v) (r ∷ [])
-      at-end v a b x y = rw b (end-first g L r (finish (rw b at x)) (λ q l z. (rw b at y) q l (unfinish z)))
-        where
-          finish : {q : ℕ} → Passes (testAt g []) g L q → Passes finishes g L q
-          finish z = record { rule = z .rule; is = z .is; from = z .from; passes = z .passes }
-
-          unfinish : {q : ℕ} → Passes finishes g L q → Passes (testAt g []) g L q
-          unfinish z = record { rule = z .rule; is = z .is; from = z .from; passes = z .passes }
+      at-end v a b x y = rw b (end-first g L r (passes-end (rw b at x)) (λ q l z. (rw b at y) q l (end-passes z)))
 
       ending : (s : Stack) → s ≡ [] → Least (Run g (L, s) (drop (length w) w)) (r ∷ [])
       ending s z = rw z (at-end (drop (length w) w) refl done p d)

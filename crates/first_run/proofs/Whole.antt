@@ -16,7 +16,7 @@ use Rattle.vpg.specs.Runs.{Stack, entries}
 use Rattle.vpg.proofs.Ascends.{entries-ascending}
 use Rattle.vpg.proofs.Calls.{first-written, first-nothing}
 use Rattle.masks.specs.Masks.{Outer, masks, Match, Fits}
-use Rattle.masks.specs.Pending.{Closes, pendingAt, dueAt}
+use Rattle.masks.specs.Pending.{pendingAt, dueAt}
 use Rattle.masks.specs.Walk.{Run}
 use Rattle.masks.proofs.Alive.{run-fits}
 use Rattle.masks.proofs.Pending.{masks-outer}
@@ -27,12 +27,19 @@ module _ (g : Grammar) (w : List Token) (mask : List ℕ) (leveled : Leveled (g 
   no-outer : masks (g .rules) w .1 ≡ []
   no-outer = masks-outer (g .rules) w 0 ∙ rw matched
 
-  -- where the start is in the level of position 0, the state at 0 fits
-  pub start-fits : (f : List ℕ) → bit (getD mask 0 0) (g .start) ≡ true → Fits (g .start) (dueAt f (pendingAt w 0)) (masks (g .rules) w)
-  start-fits f h = (sym (leveled 0 (omega arith) (omega arith) (g .start)) ∙ h, empty (pendingAt w 0) matched (masks (g .rules) w .1) no-outer)
+  -- where the start is in the level of position 0, it fits with nothing due
+  pub start-fits : bit (getD mask 0 0) (g .start) ≡ true → Fits (g .start) [] (masks (g .rules) w)
+  start-fits h = (sym (leveled 0 (omega arith) (omega arith) (g .start)) ∙ h, none-due (masks (g .rules) w .1) no-outer)
     where
-      empty : (l : Closes) → l ≡ [] → (o : Outer) → o ≡ [] → Match (dueAt f l) o
-      empty l a o b = rw (a, b) tt
+      none-due : (o : Outer) → o ≡ [] → Match [] o
+      none-due o e = rw e tt
+
+  -- and so it does with what any array says is due
+  pub state-fits : (f : List ℕ) → bit (getD mask 0 0) (g .start) ≡ true → Fits (g .start) (dueAt f (pendingAt w 0)) (masks (g .rules) w)
+  state-fits f h = at-start (dueAt f (pendingAt w 0)) (ap (dueAt f) matched)
+    where
+      at-start : (s : Stack) → s ≡ [] → Fits (g .start) s (masks (g .rules) w)
+      at-start s e = rw e (start-fits h)
 
   pub first-is : (f old new : List ℕ) → Filled (g .rules) w (g .start, dueAt f (pendingAt w 0)) 0 old new → (written, new) ≡ callOn (overEntries g w) first old
   first-is f old new k =

@@ -42,10 +42,6 @@ judged (NumberRefused e) depth = TokenRefused e
 unfoldable pub tokenAt : (ℕ → NumberRead) → ℕ → ℕ → TokenRead
 tokenAt number at depth = judged (number at) depth
 
-abbrev pub refusalOfToken : TokenRead → ℕ
-refusalOfToken (TokenIs t next) = 0
-refusalOfToken (TokenRefused e) = e
-
 -- how many steps are open after a token
 unfoldable pub depthAfter : ℕ → ℕ → ℕ
 depthAfter t depth = pick (eqb (kind t) 1) (depth + 1) (pick (eqb (kind t) 2) (depth - 1) depth)

@@ -1,3 +1,4 @@
 pub mod HistoryFile
 pub mod HistoryTokens
+pub mod Refusals
 pub mod Wellformed

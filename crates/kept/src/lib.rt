@@ -81,10 +81,11 @@ pub fn sets(
     requires { ⌜ (start < 32) × (pendingAt (tokensOf (now w)) 0 ≡ []) × (4 * (length (now w) + 1) ≤ length (now words)) ⌝ }
     ensures { λ _. ⌜ now (words .exit) ≡ setWords (grammarIn (now (table .entry)) count start) (tokensOf (now (w .entry))) ++ drop (4 * (length (now (w .entry)) + 1)) (now (words .entry)) ⌝ }
 {
+    let n = w.len();
     let mut behind = [0u32; 1025];
     let mut here = start_set(mask[0], start);
     let mut p: usize = 0;
-    while p <= w.len() {
+    while p <= n {
         let row = row_of(table, count, w, m, mask, here, p);
         let rules = row.words;
         put(words, p, rules);

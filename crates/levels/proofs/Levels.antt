@@ -20,6 +20,7 @@ use Rattle.vpg.specs.Grammar.{Rules}
 use Rattle.masks.specs.Masks.{Masks, behind, applies, lefts, masks}
 use Rattle.masks.specs.Pending.{Closes, rest, pending, pendingAt, closeOf}
 use Rattle.masks.specs.Walk.{testAt}
+use Rattle.masks.proofs.Walk.{level-test}
 use Rattle.masks.proofs.Pending.{pending-from, pending-next, pending-close, pending-rest, masks-outer}
 use Rattle.places.specs.declared.Place.{Place}
 use Rattle.places.specs.Place.{appliesTo, endPlace, levelIn}
@@ -197,11 +198,6 @@ module _ (ts : List ℕ) where
       then : (k : ℕ) → k ≤ length Words → i < k → getD (set m i top) k 0 ≡ closeOf (pendingAt Words (suc k)) (length Words)
       then k l f = rw (getD-set-other m i k top 0 (λ e. omega arith)) (q k f l)
 
-masks-test : (g : Rules) (v : List Token) (L : ℕ) → lefts (testAt g v) g L ≡ masks g v .0 L
-unfolding masks testAt
-masks-test g [] L = refl
-masks-test g (t ∷ v) L = refl
-
 module _ (t : List ℕ) (count : ℕ) (w : List Token) where
   abbrev G : Rules
   G = rulesIn t count
@@ -222,7 +218,7 @@ module _ (t : List ℕ) (count : ℕ) (w : List Token) where
           rw (← f, getD-set-same mask i v 0 h, e)
           (level-bit t place count L
           ∙ ap (λ (p : Rule → Bool). lefts p G L) (fun-ext ((rw q at s) G l))
-          ∙ masks-test G (drop i w) L)
+          ∙ level-test G (drop i w) L)
 
       then : (k : ℕ) → k ≤ length w → (L : ℕ) → i < k → bit (getD (set mask i v) k 0) L ≡ masks G (drop k w) .0 L
       then k r L f = rw (getD-set-other mask i k v 0 (λ e. omega arith)) (l k f r L)

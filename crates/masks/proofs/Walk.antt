@@ -16,11 +16,26 @@ use Rattle.vpg.specs.Grammar.{Rules}
 use Rattle.vpg.specs.Runs.{Stack}
 use Rattle.vpg.specs.Steps.{left}
 use Rattle.vpg.proofs.Take.{Move, by-empty, by-mark, by-step}
-use Rattle.masks.specs.Masks.{Masks, Outer, applies, outer, masks, Match, Fits}
+use Rattle.masks.specs.Masks.{applies, finishes, lefts, outer, masks, Match, Fits}
 use Rattle.masks.specs.Pending.{Closes, rest, pendingOver, pendingAt, closeOf, dueAt}
-use Rattle.masks.specs.Walk.{inner, later}
-use Rattle.masks.proofs.Alive.{Goes, applies-goes}
+use Rattle.masks.specs.Walk.{testAt, inner, later}
+use Rattle.masks.proofs.Alive.{Passes, applies-goes}
 use Rattle.masks.proofs.Pending.{pending-next, close-fresh, masks-outer, due-set}
+
+-- the level of a position holds the nonterminals of the rules that can stand there
+pub level-test : (g : Rules) (v : List Token) (L : ℕ) → lefts (testAt g v) g L ≡ masks g v .0 L
+unfolding masks testAt
+level-test g [] L = refl
+level-test g (t ∷ v) L = refl
+
+-- at the end the rules that can stand are those that finish
+pub passes-end : {g : Rules} {L r : ℕ} → Passes (testAt g []) g L r → Passes finishes g L r
+unfolding testAt
+passes-end x = record { rule = x .rule; is = x .is; from = x .from; passes = x .passes }
+
+pub end-passes : {g : Rules} {L r : ℕ} → Passes finishes g L r → Passes (testAt g []) g L r
+unfolding testAt
+end-passes x = record { rule = x .rule; is = x .is; from = x .from; passes = x .passes }
 
 module _ (g : Rules) (w : List Token) (p n : ℕ) (f : List ℕ) where
   -- the pending closes behind position p

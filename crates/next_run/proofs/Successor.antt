@@ -25,14 +25,13 @@ use Rattle.vpg.proofs.Ascends.{entries-ascending}
 use Rattle.vpg.proofs.Basics.{and-left, and-right}
 use Rattle.vpg.proofs.Calls.{next-refused, next-written, next-no-further}
 use Rattle.vpg.proofs.Take.{end}
-use Rattle.masks.specs.Masks.{Outer, finishes, masks, Match, Fits}
+use Rattle.masks.specs.Masks.{finishes, masks, Fits}
 use Rattle.masks.specs.Pending.{pendingAt, closeOf, dueAt}
 use Rattle.masks.specs.Walk.{Run, testAt, inner, later}
 use Rattle.masks.specs.Local.{stateAt}
 use Rattle.masks.proofs.Alive.{Passes, both, run-fits}
-use Rattle.masks.proofs.Pending.{masks-outer}
 use Rattle.masks.proofs.Search.{None, end-last, end-next}
-use Rattle.masks.proofs.Walk.{stored}
+use Rattle.masks.proofs.Walk.{passes-end, end-passes}
 use Rattle.masks.proofs.Local.{Turn, turn, RunFrom, LastFrom, NextFrom, run-left, last-left, next-here, next-all}
 use Rattle.tables.specs.Table.{ruleIn, rulesIn}
 use Rattle.tables.specs.Ready.{grammarIn}
@@ -42,14 +41,6 @@ use Rattle.levels.specs.Levels.{Setting}
 use Rattle.levels.proofs.Levels.{tokens-length, tokens-at, close-most, pending-end}
 use Rattle.walk.specs.Walked.{Reads}
 use Rattle.next_run.specs.Next.{fitsAt, NoneFrom, LastAt, Follows, Rewritten}
-
-finish : {g : Rules} {L r : ℕ} → Passes (testAt g []) g L r → Passes finishes g L r
-unfolding testAt
-finish x = record { rule = x .rule; is = x .is; from = x .from; passes = x .passes }
-
-unfinish : {g : Rules} {L r : ℕ} → Passes finishes g L r → Passes (testAt g []) g L r
-unfolding testAt
-unfinish x = record { rule = x .rule; is = x .is; from = x .from; passes = x .passes }
 
 module _ (t : List ℕ) (n : ℕ) (ts m mask : List ℕ) (set-up : Setting t n ts m mask) (start : ℕ) (buf : List ℕ) (long : length ts < length buf) (matched : pendingAt (tokensOf ts) 0 ≡ []) where
   abbrev W : List Token
@@ -77,12 +68,6 @@ module _ (t : List ℕ) (n : ℕ) (ts m mask : List ℕ) (set-up : Setting t n t
 
   pub start-refused : bit (getD mask 0 0) start ≡ false → (refused 16, buf) ≡ callOn (overEntries (grammarIn t n start) W) next buf
   start-refused q = none-refused (λ r. false≢true (sym q ∙ (set-up .leveled 0 (omega arith) (omega arith) start ∙ run-fits G W start [] E r .0)))
-
-  pub start-fits : bit (getD mask 0 0) start ≡ true → Fits start [] (masks G W)
-  start-fits q = (sym (set-up .leveled 0 (omega arith) (omega arith) start) ∙ q, none-due (masks G W .1) (masks-outer G W 0 ∙ rw matched))
-    where
-      none-due : (o : Outer) → o ≡ [] → Match [] o
-      none-due o e = rw e tt
 
   module _ {at f : List ℕ} (k : Reads G W start E at f) where
     -- ── what the search found, as the theory of runs asks for it ──
@@ -127,7 +112,7 @@ module _ (t : List ℕ) (n : ℕ) (ts m mask : List ℕ) (set-up : Setting t n t
     last-end x = rw (last-number, state-end, done) (end-last G (getD at (length W) 0) (getD E (length W) 0) (λ r a z. at-end (drop (length W) W) done (larger-none (length W) (length W) x (omega arith) (omega arith)) r a z))
       where
         at-end : (v : List Token) → v ≡ [] → None (testAt G v) G (getD at (length W) 0) (λ r. getD E (length W) 0 < r) → None finishes G (getD at (length W) 0) (λ r. getD E (length W) 0 < r)
-        at-end v e h r a z = (rw e at h) r a (unfinish z)
+        at-end v e h r a z = (rw e at h) r a (end-passes z)
 
     last-from : (d p : ℕ) → p + d ≡ length W → NoneFrom t n W at buf p → LastFrom G W at f E p
     last-from zero p e x = let q : p ≡ length W = omega arith in rw q (last-end (rw q at x))
@@ -194,7 +179,7 @@ module _ (t : List ℕ) (n : ℕ) (ts m mask : List ℕ) (set-up : Setting t n t
           go p e x a d = rw e (at-end (rw e at x) (rw e at a) (rw e at d))
             where
               at-end : Passes (testAt G (drop (length W) W)) G (getD at (length W) 0) r → getD E (length W) 0 < r → None (testAt G (drop (length W) W)) G (getD at (length W) 0) (λ s. (getD E (length W) 0 < s) × (s < r)) → NextFrom G W at f E (length W) (r ∷ [])
-              at-end x a d = rw (last-number, state-end, done) (end-next G (getD at (length W) 0) (getD E (length W) 0) r a (finish (rw done at x)) (λ s b z. (rw done at d) s b (unfinish z)))
+              at-end x a d = rw (last-number, state-end, done) (end-next G (getD at (length W) 0) (getD E (length W) 0) r a (passes-end (rw done at x)) (λ s b z. (rw done at d) s b (end-passes z)))
 
       follows-next : (x : List ℕ) → Follows G S (drop p W) x → NextFrom G W at f E p (r ∷ x)
       follows-next x y = ⊎-elim (λ e. ending e) (λ l. going l) (eq-or-lt-of-le (h .place))

@@ -8,14 +8,6 @@ use Rattle.numbers.specs.declared.FieldRead.{FieldRead}
 use Rattle.numbers.specs.declared.FieldRead.the-variants.{Field, Refused as FieldRefused}
 use Rattle.numbers.specs.Number.{pick}
 
-abbrev pub refusalOfNumber : NumberRead → ℕ
-refusalOfNumber (Number n p) = 0
-refusalOfNumber (NumberRefused e) = e
-
-abbrev pub refusalOfField : FieldRead → ℕ
-refusalOfField (Field n p) = 0
-refusalOfField (FieldRefused e) = e
-
 abbrev pub limited : NumberRead → ℕ → ℕ → FieldRead
 limited (Number n p) limit refusal = pick (ltb n limit) (Field n p) (FieldRefused refusal)
 limited (NumberRefused e) limit refusal = FieldRefused e

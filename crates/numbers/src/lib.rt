@@ -2,7 +2,8 @@
 ghost use mathlib.Core.Path.{_≡_};
 ghost use Prim.Native.Nat.{_≤_};
 ghost use Rattle.numbers.specs.Number.{numberAt};
-ghost use Rattle.numbers.specs.Field.{refusalOfNumber, refusalOfField, fieldAt, countAt};
+ghost use Rattle.numbers.specs.Refusals.{refusalOfNumber, refusalOfField};
+ghost use Rattle.numbers.specs.Field.{fieldAt, countAt};
 
 // What reading a number finds: the number and the place after it, or document 01's number of the refusal.
 pub enum NumberRead {

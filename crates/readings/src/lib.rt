@@ -81,11 +81,11 @@ pub fn next_reading(grammar: &[u8], history: &[u8], reading: &mut [u8]) -> Answe
     let FilesAnswer::Accepted(_, start, rules, count) = answer else {
         return Answer::Refused(files::refusal_of(answer));
     };
-    let n = count as usize;
-    if reading.len() <= n {
+    let size = count as usize;
+    if reading.len() <= size {
         return Answer::Refused(15);
     }
     let table = read.table;
     let tokens = read.tokens;
-    next_on(&table, rules as usize, start, &tokens[..n], reading)
+    next_on(&table, rules as usize, start, &tokens[..size], reading)
 }

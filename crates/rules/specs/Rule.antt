@@ -13,14 +13,6 @@ use Rattle.rules.specs.declared.PairRead.the-variants.{Pair, Refused as 
 use Rattle.rules.specs.declared.RuleRead.{RuleRead}
 use Rattle.rules.specs.declared.RuleRead.the-variants.{Read, Refused as RuleRefused}
 
-abbrev pub refusalOfPair : PairRead → ℕ
-refusalOfPair (Pair a b p) = 0
-refusalOfPair (PairRefused e) = e
-
-abbrev pub refusalOfRule : RuleRead → ℕ
-refusalOfRule (Read r p) = 0
-refusalOfRule (RuleRefused e) = e
-
 -- 7: "a name above 63"
 abbrev pub names : ℕ
 names = 64

@@ -7,6 +7,7 @@ pub mod Find
 pub mod Inject
 pub mod Listing
 pub mod Order
+pub mod PairExample
 pub mod Pairs
 pub mod Positions
 pub mod Sets

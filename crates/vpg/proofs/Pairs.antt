@@ -1,7 +1,7 @@
 -- The paper's Theorem 4.1: the derivative of a configuration by a token takes w exactly when the configuration takes the token and then w.
 -- So the configuration after some tokens accepts exactly when they have a reading (Theorem 4.2), and stop marks are what it accepts.
 -- Assumes nothing.
-use Prim.Native.Nat.{ℕ, zero, suc, _<_}
+use Prim.Native.Nat.{ℕ, suc}
 use native.Mathlib.Omega.{arith}
 use mathlib.Core.Path.{_≡_, refl, sym, _∙_, ap}
 use mathlib.Core.Logic.{_↔_}
@@ -16,11 +16,11 @@ use Rattle.vpg.specs.declared.OpenName.{OpenName}
 use Rattle.vpg.specs.declared.CloseName.{CloseName}
 use Rattle.vpg.specs.declared.Rule.{Rule}
 use Rattle.vpg.specs.declared.Token.{Token}
-use Rattle.vpg.specs.Any.{any, anyBelow}
-use Rattle.vpg.specs.Grammar.{Rules, Grammar, Tree, leaf, mark, step, code, Derives, by-empty, by-mark, by-step, Reading}
+use Rattle.vpg.specs.Any.{anyBelow}
+use Rattle.vpg.specs.Grammar.{Rules, Grammar, Tree, mark, step, code, Derives, by-empty, by-mark, by-step, Reading}
 use Rattle.vpg.specs.Pairs.{PairState, PairStack, Configuration, single, begin, markTo, overMark, openTo, overOpen, endsFrom, finished, closeTo, overClose, closed, derivative, after, bottom, accepts, marksFrom, Takes, at-bottom, in-step, Proper, Contexts, Stacked, Within}
 use Rattle.vpg.specs.Sets.{one, stopMark, listed, stopMarks}
-use Rattle.vpg.proofs.Any.{both, eqb-refl, Some, any-some, some-any, Below, below-some, some-below}
+use Rattle.vpg.proofs.Any.{both, eqb-refl, any-some, some-any, below-some, some-below}
 use Rattle.vpg.proofs.Basics.{and-left, and-right}
 use Rattle.vpg.proofs.Sets.{stop-mark-is, listed-cong}
 use Rattle.vpg.proofs.Take.{name-mark, name-open, name-close}
@@ -158,7 +158,12 @@ narrow : (g : Rules) (S : PairState) (T : PairStack) (w : List Token) → Takes 
 narrow g S T w k = go (split g k)
   where
     go : Split g S T w → OneTakes g S T w
-    go h = record { context = h .context; current = h .current; pair = h .pair; takes = rw (h .tokens) (joined g (single (h .context) (h .current)) T (h .context) (h .current) (h .level) (h .others) (only-pair (h .context) (h .current)) (h .derives) (h .goes)) }
+    go h = record {
+      context = h .context;
+      current = h .current;
+      pair = h .pair;
+      takes = rw (h .tokens) (joined g (single (h .context) (h .current)) T (h .context) (h .current) (h .level) (h .others) (only-pair (h .context) (h .current)) (h .derives) (h .goes));
+    }
 
 -- ── Theorem 4.1 ──
 
@@ -438,4 +443,5 @@ module _ (g : Grammar) where
   pub stop-marks-pairs : Proper g → (w : List Token) → stopMarks g w ≡ marksFrom g (begin g) w
   unfolding stopMarks
   stop-marks-pairs p w =
-      listed-cong (suc (length w)) (stopMark g w) (λ i. one (accepts g (after g (begin g) (take i w)))) (stop-mark-pairs p w) ∙ sym (marks-listed (begin g) w)
+      listed-cong (suc (length w)) (stopMark g w) (λ i. one (accepts g (after g (begin g) (take i w)))) (λ i l. stop-mark-pairs p w i)
+      ∙ sym (marks-listed (begin g) w)

@@ -160,9 +160,9 @@ getD-listed zero f i d h = absurd (omega arith)
 getD-listed (suc n) f zero d h = refl
 getD-listed (suc n) f (suc i) d h = getD-listed n (λ i. f (suc i)) i d (le-of-suc-le-suc h)
 
-pub listed-cong : {A : Type 0} (n : ℕ) (f f′ : ℕ → A) → ((i : ℕ) → f i ≡ f′ i) → listed n f ≡ listed n f′
+pub listed-cong : {A : Type 0} (n : ℕ) (f f′ : ℕ → A) → ((i : ℕ) → i < n → f i ≡ f′ i) → listed n f ≡ listed n f′
 listed-cong zero f f′ h = refl
-listed-cong (suc n) f f′ h = ap₂ _∷_ (h 0) (listed-cong n (λ i. f (suc i)) (λ i. f′ (suc i)) (λ i. h (suc i)))
+listed-cong (suc n) f f′ h = ap₂ _∷_ (h 0 (omega arith)) (listed-cong n (λ i. f (suc i)) (λ i. f′ (suc i)) (λ i l. h (suc i) (omega arith)))
 
 pub length-stop-marks : (g : Grammar) (w : List Token) → length (stopMarks g w) ≡ suc (length w)
 unfolding stopMarks

@@ -1,6 +1,7 @@
 pub mod Any
 pub mod Calls
 pub mod Counted
+pub mod Depth
 pub mod Extremes
 pub mod Grammar
 pub mod Listing

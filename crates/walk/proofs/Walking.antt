@@ -24,6 +24,7 @@ use Rattle.masks.specs.Walk.{Run, testAt, inner, later}
 use Rattle.masks.specs.Local.{stateAt, LeadsTo}
 use Rattle.masks.proofs.Alive.{Passes, ends-empty}
 use Rattle.masks.proofs.Search.{live}
+use Rattle.masks.proofs.Walk.{passes-end}
 use Rattle.masks.proofs.Local.{Turn, turn, run-at, leads-next, fits-next}
 use Rattle.places.specs.declared.Place.{Place}
 use Rattle.places.specs.Place.{appliesTo}
@@ -53,10 +54,6 @@ run-passes g (t ∷ v) L s r x e q h =
   where
     heads : {a b : ℕ} {x y : List ℕ} → a ∷ x ≡ b ∷ y → a ≡ b
     heads p = cc
-
-finish : {g : Rules} {L r : ℕ} → Passes (testAt g []) g L r → Passes finishes g L r
-unfolding testAt
-finish x = record { rule = x .rule; is = x .is; from = x .from; passes = x .passes }
 
 -- the walk has come to position p
 pub record Walking (t : List ℕ) (n : ℕ) (ts : List ℕ) (start : ℕ) (e at f : List ℕ) (p : ℕ) : Type 0 where
@@ -143,7 +140,7 @@ module _ (t : List ℕ) (n : ℕ) (ts m mask : List ℕ) (set-up : Setting t n t
       }
         where
           finished : (v : List Token) → v ≡ [] → Passes (testAt G v) G (getD at p 0) (getD buf p 0) → Passes finishes G (getD at p 0) (getD buf p 0)
-          finished v z x = finish (rw z at x)
+          finished v z x = passes-end (rw z at x)
 
       module _ (more : p < length ts) where
         here : drop p W ≡ tokenOf (getD ts p 0) ∷ drop (suc p) W

@@ -1,3 +1,5 @@
+-- `files::grammar_check` meets its contract.
+-- Assumes nothing.
 use Rattle.grammar_file.specs.GrammarFile.{grammarOf}
 use Rattle.grammar_file.proofs.Answers.{grammar-accepted, grammar-refused}
 use borrow.Author.Needs.{needs}

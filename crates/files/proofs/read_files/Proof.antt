@@ -1,3 +1,5 @@
+-- `files::read_files` meets its contract.
+-- Assumes nothing.
 use Rattle.grammar_file.specs.GrammarFile.{grammarOf}
 use Rattle.history_file.specs.HistoryFile.{historyOf}
 use Rattle.grammar_file.proofs.Answers.{grammar-accepted, grammar-refused}

@@ -1,9 +1,11 @@
+-- `first_run::first` meets its contract.
+-- Assumes nothing.
 use mathlib.Core.Path.{_≡_, sym, _∙_}
 use native.Mathlib.Omega.{arith}
 use lib.ListN.{replicate}
 use Rattle.tables.specs.Ready.{grammarIn}
 use Rattle.history_file.specs.HistoryFile.{tokensOf}
-use Rattle.first_run.proofs.Whole.{start-fits, first-is, none-is}
+use Rattle.first_run.proofs.Whole.{state-fits, first-is, none-is}
 use borrow.Author.Needs.{needs}
 use Rattle.first_run.proofs.first.Statement.{statement}
 use Rattle.first_run.proofs.first.Tie as tie
@@ -19,7 +21,7 @@ fill-requires c κs =
     let s = c .before .before .before .before .before .before in
     let a = s .args in
     let h = sym (c .before .before .has .ensures) ∙ c .before .if1 .taken in
-    (s .pre .0, ((omega arith, s .pre .1 .1), start-fits (grammarIn (a .table .now) (a .count) (a .start)) (tokensOf (a .w .now)) (a .mask .now) (s .pre .0 .leveled) (s .pre .1 .2) (replicate 1025 0) h))
+    (s .pre .0, ((omega arith, s .pre .1 .1), state-fits (grammarIn (a .table .now) (a .count) (a .start)) (tokensOf (a .w .now)) (a .mask .now) (s .pre .0 .leveled) (s .pre .1 .2) (replicate 1025 0) h))
 
 same-length : tie.Need-same-length
 same-length c = search needs

@@ -1,3 +1,5 @@
+-- `first_run::inner_of` meets its contract.
+-- Assumes nothing.
 use borrow.Author.Needs.{needs}
 use Rattle.first_run.proofs.inner_of.Statement.{statement}
 use Rattle.first_run.proofs.inner_of.Tie as tie

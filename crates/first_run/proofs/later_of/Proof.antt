@@ -1,3 +1,5 @@
+-- `first_run::later_of` meets its contract.
+-- Assumes nothing.
 use borrow.Author.Needs.{needs}
 use Rattle.first_run.proofs.later_of.Statement.{statement}
 use Rattle.first_run.proofs.later_of.Tie as tie

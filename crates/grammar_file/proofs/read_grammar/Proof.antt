@@ -1,3 +1,5 @@
+-- `grammar_file::read_grammar` meets its contract.
+-- Assumes nothing.
 use mathlib.Core.Path.{sym, _∙_}
 use Rattle.numbers.proofs.Fields.{count-most}
 use Rattle.grammar_file.specs.GrammarFile.{grammarFrom}

@@ -1,3 +1,5 @@
+-- `history_file::depth_after` meets its contract.
+-- Assumes nothing.
 use borrow.Author.Tests.{eq-eqb, ne-eqb}
 use Rattle.history_file.specs.HistoryFile.{depthAfter}
 use borrow.Author.Needs.{needs}

@@ -1,3 +1,5 @@
+-- `history_file::read_history` meets its contract.
+-- Assumes nothing.
 use mathlib.Core.Path.{sym, _∙_}
 use native.Mathlib.Omega.{arith}
 use Rattle.numbers.proofs.Fields.{field-read}

@@ -1,3 +1,5 @@
+-- `history_file::token_at` meets its contract.
+-- Assumes nothing.
 use Rattle.history_file.specs.HistoryFile.{tokenAt}
 use borrow.Author.Needs.{needs}
 use Rattle.history_file.proofs.token_at.Statement.{statement}

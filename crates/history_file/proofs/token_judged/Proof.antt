@@ -1,3 +1,5 @@
+-- `history_file::token_judged` meets its contract.
+-- Assumes nothing.
 use borrow.Author.Tests.{le-leb, lt-leb, eq-eqb, ne-eqb}
 use Rattle.history_file.specs.HistoryFile.{tokenJudged}
 use Rattle.history_file.proofs.token_judged.Statement.{statement}

@@ -1,3 +1,5 @@
+-- `history_file::token_of` meets its contract.
+-- Assumes nothing.
 use borrow.Author.Tests.{ne-eqb}
 use Rattle.history_file.specs.HistoryFile.{tokenOf}
 use borrow.Author.Needs.{needs}

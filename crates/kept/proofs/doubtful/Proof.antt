@@ -53,7 +53,7 @@ onward-requires c κs =
     let s = c .before .before .before .before .before .before .before .before .before in
     let a = s .args in
     let l = c .before .before .before .before .before .loop in
-    let h : l .p ≤ length (a .w .now) = c .before .before .before .before .loop-test .taken in
+    let h : l .p ≤ length (a .w .now) = omega (arith, c .before .before .before .before .loop-test .taken) in
     (l .inv .0 .long, omega (arith, s .pre .0 .tokens .few), close-room (a .table .now) (a .count) (a .start) (a .w .now) (a .m .now) (a .mask .now) (s .pre .0) (l .p) h)
 
 add-p : tie.Need-add-p Inv-loop μ-loop
@@ -67,7 +67,7 @@ loop-again c =
     let s = c .before .before .before .before .before .before .before .before .before .before in
     let a = s .args in
     let l = c .before .before .before .before .before .before .loop in
-    let h : l .p ≤ length (a .w .now) = c .before .before .before .before .before .loop-test .taken in
+    let h : l .p ≤ length (a .w .now) = omega (arith, c .before .before .before .before .before .loop-test .taken) in
     let g = grammarIn (a .table .now) (a .count) (a .start) in
     let row = c .before .before .before .before .row-of in
     let d = doubtful-here (a .table .now) (a .count) (a .start) (a .w .now) (a .m .now) (a .mask .now) (s .pre .0) (l .here) (l .p) (l .behind) (l .inv .0 .front h) (row .result) (row .ensures) in (

@@ -14,10 +14,10 @@ use Rattle.kept.proofs.sets.Statement.{statement}
 use Rattle.kept.proofs.sets.Tie as tie
 
 abbrev Inv-loop : tie.InvT-loop
-Inv-loop table count start w m mask words₀ behind₀ here₀ p₀ words behind here p = Going table count start w p here behind × Written (grammarIn table count start) (tokensOf w) words₀ p words
+Inv-loop table count start w m mask words₀ n behind₀ here₀ p₀ words behind here p = Going table count start w p here behind × Written (grammarIn table count start) (tokensOf w) words₀ p words
 
 abbrev μ-loop : tie.MeasureT-loop
-μ-loop table count start w m mask words₀ behind₀ here₀ p₀ words behind here p = length w + 1 - p
+μ-loop table count start w m mask words₀ n behind₀ here₀ p₀ words behind here p = length w + 1 - p
 
 element-copy-out-start-set : tie.Need-element-copy-out-start-set Inv-loop μ-loop
 element-copy-out-start-set c = search needs
@@ -52,7 +52,7 @@ onward-requires c κs =
     let s = c .before .before .before .before .before .before .before .before .before .before .before .before .before .before in
     let a = s .args in
     let l = c .before .before .before .before .before .before .before .before .before .loop in
-    let h : l .p ≤ length (a .w .now) = c .before .before .before .before .before .before .before .before .loop-test .taken in
+    let h : l .p ≤ length (a .w .now) = omega (arith, c .before .before .before .before .before .before .before .before .loop-test .taken) in
     (l .inv .0 .long, omega (arith, s .pre .0 .tokens .few), close-room (a .table .now) (a .count) (a .start) (a .w .now) (a .m .now) (a .mask .now) (s .pre .0) (l .p) h)
 
 add-p : tie.Need-add-p Inv-loop μ-loop
@@ -66,7 +66,7 @@ loop-again c =
     let s = c .before .before .before .before .before .before .before .before .before .before .before .before .before .before .before in
     let a = s .args in
     let l = c .before .before .before .before .before .before .before .before .before .before .loop in
-    let h : l .p ≤ length (a .w .now) = c .before .before .before .before .before .before .before .before .before .loop-test .taken in
+    let h : l .p ≤ length (a .w .now) = omega (arith, c .before .before .before .before .before .before .before .before .before .loop-test .taken) in
     let g = grammarIn (a .table .now) (a .count) (a .start) in
     let row = c .before .before .before .before .before .before .before .before .row-of in
     let set = words-here (a .table .now) (a .count) (a .start) (a .w .now) (a .m .now) (a .mask .now) (s .pre .0) (l .here) (l .p) (l .behind) (l .inv .0 .front h) (row .result) (row .ensures) in (

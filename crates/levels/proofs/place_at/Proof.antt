@@ -1,3 +1,5 @@
+-- `levels::place_at` meets its contract.
+-- Assumes nothing.
 use Prim.Native.Nat.{_<_, _≤_}
 use mathlib.Core.Path.{_≡_, refl, sym, _∙_}
 use native.Mathlib.Omega.{arith}

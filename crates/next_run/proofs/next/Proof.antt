@@ -1,9 +1,14 @@
+-- `next_run::next` meets its contract.
+-- Assumes nothing.
 use Prim.Native.Nat.{_<_}
 use mathlib.Core.Path.{_≡_, refl, sym, _∙_, subst}
 use native.Mathlib.Omega.{arith}
 use lib.ListN.{length}
 use Rattle.levels.proofs.Levels.{tokens-length}
-use Rattle.next_run.proofs.Successor.{none-refused, start-refused, start-fits, no-further-is, rewrite-fits, written-is}
+use Rattle.tables.specs.Ready.{grammarIn}
+use Rattle.history_file.specs.HistoryFile.{tokensOf}
+use Rattle.first_run.proofs.Whole.{start-fits}
+use Rattle.next_run.proofs.Successor.{none-refused, start-refused, no-further-is, rewrite-fits, written-is}
 use borrow.Author.Needs.{needs}
 use Rattle.next_run.proofs.next.Statement.{statement}
 use Rattle.next_run.proofs.next.Tie as tie
@@ -19,7 +24,7 @@ walk-requires : tie.Need-walk-requires
 walk-requires c κs =
     let s = c .before .before .before .before .before .before in
     let a = s .args in
-    (s .pre .0, ((s .pre .1 .1, s .pre .1 .2), start-fits (a .table .now) (a .count) (a .w .now) (a .m .now) (a .mask .now) (s .pre .0) (a .start) (a .buf .now) (s .pre .1 .1) (s .pre .1 .2) (sym (c .before .before .has .ensures) ∙ c .before .if1 .taken)))
+    (s .pre .0, ((s .pre .1 .1, s .pre .1 .2), start-fits (grammarIn (a .table .now) (a .count) (a .start)) (tokensOf (a .w .now)) (a .mask .now) (s .pre .0 .leveled) (s .pre .1 .2) (sym (c .before .before .has .ensures) ∙ c .before .if1 .taken)))
 
 last-place-requires : tie.Need-last-place-requires
 last-place-requires c κs =

@@ -1,3 +1,5 @@
+-- `next_run::rewrite` meets its contract.
+-- Assumes nothing.
 use Prim.Native.Nat.{suc, _+_, _≤_, _<_}
 use mathlib.Core.Path.{_≡_, refl, sym, _∙_}
 use native.Mathlib.Omega.{arith}

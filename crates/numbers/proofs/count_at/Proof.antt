@@ -1,3 +1,5 @@
+-- `numbers::count_at` meets its contract.
+-- Assumes nothing.
 use borrow.Author.Needs.{needs}
 use borrow.Author.Tests.{eq-eqb, ne-eqb}
 use Rattle.numbers.specs.Field.{countAt}

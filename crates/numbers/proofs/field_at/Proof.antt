@@ -1,3 +1,5 @@
+-- `numbers::field_at` meets its contract.
+-- Assumes nothing.
 use borrow.Author.Needs.{needs}
 use borrow.Author.Tests.{le-ltb, lt-ltb}
 use Rattle.numbers.specs.Field.{fieldAt}

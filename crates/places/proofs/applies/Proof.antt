@@ -1,3 +1,5 @@
+-- `places::applies` meets its contract.
+-- Assumes nothing.
 use borrow.Author.Needs.{needs}
 use Rattle.places.proofs.applies.Statement.{statement}
 use Rattle.places.proofs.applies.Tie as tie

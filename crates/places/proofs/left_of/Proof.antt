@@ -1,3 +1,5 @@
+-- `places::left_of` meets its contract.
+-- Assumes nothing.
 use borrow.Author.Needs.{needs}
 use Rattle.places.proofs.left_of.Statement.{statement}
 use Rattle.places.proofs.left_of.Tie as tie

@@ -1,3 +1,5 @@
+-- `places::step_applies` meets its contract.
+-- Assumes nothing.
 use mathlib.Core.Path.{sym, _∙_}
 use borrow.Author.Needs.{needs}
 use Rattle.places.proofs.step_applies.Statement.{statement}

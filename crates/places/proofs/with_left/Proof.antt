@@ -1,3 +1,5 @@
+-- `places::with_left` meets its contract.
+-- Assumes nothing.
 use mathlib.Core.Path.{sym, _∙_}
 use Rattle.places.proofs.Places.{below-left}
 use borrow.Author.Needs.{needs}

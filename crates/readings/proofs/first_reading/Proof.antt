@@ -1,3 +1,5 @@
+-- `readings::first_reading` meets its contract.
+-- Assumes nothing.
 use Prim.Native.Nat.{suc, _≤_, _<_}
 use mathlib.Core.Path.{_≡_, refl, sym, _∙_, ap}
 use native.Mathlib.Omega.{arith}

@@ -1,3 +1,5 @@
+-- `readings::next_reading` meets its contract.
+-- Assumes nothing.
 use Prim.Native.Nat.{suc, _≤_, _<_}
 use mathlib.Core.Path.{_≡_, refl, sym, _∙_, ap}
 use native.Mathlib.Omega.{arith}
@@ -30,8 +32,8 @@ returns c =
     let a = s .args in
     rw (c .refusal-of .ensures, c .before .enum-told .given .1, served-refused due overEntries suc (length (a .reading .now)) (filesIn (a .grammar .now) (a .history .now)) _ (files-refused (a .grammar .now) (a .history .now) (c .before .before .before .read-files .ensures) _ (c .before .enum-told .given .1)))
 
-cast-n : tie.Need-cast-n
-cast-n c = search needs
+cast-size : tie.Need-cast-size
+cast-size c = search needs
 
 returns-2 : tie.Need-returns-2
 returns-2 c =
@@ -83,7 +85,7 @@ next-reading-spec =
     enum-told
     refusal-of-requires
     returns
-    cast-n
+    cast-size
     returns-2
     cast-next-on
     array-share-prefix-tokens

@@ -1,6 +1,7 @@
 -- `behind_with`: the nonterminals of a rule of the table are below 32.
 -- Assumes nothing.
 use borrow.Author.Needs.{needs}
+use native.Mathlib.Omega.{arith}
 use Rattle.rows.proofs.behind_with.Statement.{statement}
 use Rattle.rows.proofs.behind_with.Tie as tie
 
@@ -17,7 +18,7 @@ cast-with : tie.Need-cast-with
 cast-with c = search needs
 
 with-requires : tie.Need-with-requires
-with-requires c κs = (rw (c .before .rule .given .1) at (c .before .before .before .pre)) .2
+with-requires c κs = let b = rw (c .before .rule .given .1) at (c .before .before .before .pre) in omega (arith, b .1, b .2)
 
 returns : tie.Need-returns
 returns c = search needs

@@ -1,6 +1,7 @@
 -- `next_with`: the nonterminals of a rule of the table are below 32.
 -- Assumes nothing.
 use borrow.Author.Needs.{needs}
+use native.Mathlib.Omega.{arith}
 use Rattle.rows.proofs.next_with.Statement.{statement}
 use Rattle.rows.proofs.next_with.Tie as tie
 
@@ -23,7 +24,7 @@ cast-with-2 : tie.Need-cast-with-2
 cast-with-2 c = search needs
 
 with-requires-2 : tie.Need-with-requires-2
-with-requires-2 c κs = (rw (c .before .rule2 .given .1) at (c .before .before .before .pre)) .1
+with-requires-2 c κs = let b = rw (c .before .rule2 .given .1) at (c .before .before .before .pre) in omega (arith, b .1, b .2)
 
 returns : tie.Need-returns
 returns c = search needs

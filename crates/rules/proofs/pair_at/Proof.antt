@@ -1,3 +1,5 @@
+-- `rules::pair_at` meets its contract.
+-- Assumes nothing.
 use Rattle.rules.specs.Rule.{pairAt}
 use borrow.Author.Needs.{needs}
 use Rattle.rules.proofs.pair_at.Statement.{statement}

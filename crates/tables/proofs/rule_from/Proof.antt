@@ -1,3 +1,5 @@
+-- `tables::rule_from` meets its contract.
+-- Assumes nothing.
 use borrow.Author.Tests.{eq-eqb, ne-eqb}
 use Rattle.tables.proofs.rule_from.Statement.{statement}
 use Rattle.tables.proofs.rule_from.Tie as tie

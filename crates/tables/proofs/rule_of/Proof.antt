@@ -1,3 +1,5 @@
+-- `tables::rule_of` meets its contract.
+-- Assumes nothing.
 use Rattle.tables.specs.Table.{ruleIn}
 use borrow.Author.Needs.{needs}
 use Rattle.tables.proofs.rule_of.Statement.{statement}

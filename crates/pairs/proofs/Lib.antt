@@ -1,0 +1,3 @@
+pub mod Derivatives
+pub mod Fills
+pub mod Grammars

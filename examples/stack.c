@@ -1,0 +1,138 @@
+/* Measures how much stack each function uses: it is called on a stack of its own that was painted before, on files at
+ * every limit, and the deepest byte that changed is looked for. Fails where more is used than gaffmedlar.h states.
+ *
+ * Build, in the repository's root:
+ *     rt staticlib capi
+ *     cc -O2 -Iinclude -o stack examples/stack.c target/staticlib/libcapi.a
+ */
+#define _XOPEN_SOURCE 700
+#include "gaffmedlar.h"
+
+#include <stdio.h>
+#include <stdlib.h>
+#include <string.h>
+#include <ucontext.h>
+
+#define STACK (4u << 20)
+#define PAINT 0xa7
+
+static uint8_t *stack;
+static ucontext_t here, there;
+
+static uint8_t grammar[GAFFMEDLAR_GRAMMAR_BYTES], history[GAFFMEDLAR_HISTORY_BYTES];
+static size_t grammar_len, history_len;
+static uint8_t reading[GAFFMEDLAR_POSITIONS], marks[GAFFMEDLAR_POSITIONS];
+static uint32_t words[GAFFMEDLAR_WORDS];
+static const uint8_t calls[3] = {0, 1, 1};
+static uint8_t answers[3];
+
+static void nothing(void) {}
+static void grammar_check(void) { gaffmedlar_grammar_check(grammar, grammar_len); }
+static void history_check(void) { gaffmedlar_history_check(history, history_len); }
+static void first(void)
+{
+    gaffmedlar_first_reading(grammar, grammar_len, history, history_len, reading, sizeof reading);
+}
+static void next(void)
+{
+    gaffmedlar_next_reading(grammar, grammar_len, history, history_len, reading, sizeof reading);
+}
+static void run_calls(void)
+{
+    gaffmedlar_run_calls(grammar, grammar_len, history, history_len, calls, sizeof calls, answers, sizeof answers,
+                         reading, sizeof reading);
+}
+static void sets(void)
+{
+    gaffmedlar_sets(grammar, grammar_len, history, history_len, words, GAFFMEDLAR_WORDS);
+}
+static void doubtful(void) { gaffmedlar_doubtful_count(grammar, grammar_len, history, history_len); }
+static void stop_marks(void)
+{
+    gaffmedlar_stop_marks(grammar, grammar_len, history, history_len, marks, sizeof marks);
+}
+
+static size_t used(void (*function)(void))
+{
+    memset(stack, PAINT, STACK);
+    getcontext(&there);
+    there.uc_stack.ss_sp = stack;
+    there.uc_stack.ss_size = STACK;
+    there.uc_link = &here;
+    makecontext(&there, function, 0);
+    swapcontext(&here, &there);
+    size_t untouched = 0;
+    while (untouched < STACK && stack[untouched] == PAINT)
+        untouched++;
+    return STACK - untouched;
+}
+
+/* 32 stages and 128 rules: each stage ends, goes on by mark 0 to two stages, and makes a step. */
+static void full_grammar(void)
+{
+    size_t at = 0;
+    grammar[at++] = 32;
+    grammar[at++] = 128;
+    grammar[at++] = 1;
+    for (int stage = 0; stage < 32; stage++) {
+        uint8_t later = (stage + 1) % 32, other = (stage + 7) % 32;
+        uint8_t rules[] = {0, stage, 1, stage, 0, later, 1, stage, 0, other, 2, stage, 0, later, 0, other};
+        memcpy(grammar + at, rules, sizeof rules);
+        at += sizeof rules;
+    }
+    grammar_len = at;
+}
+
+/* 1,024 tokens by a pattern: marks, steps in a row, or 128 deep steps one behind the other. */
+static void full_history(int pattern)
+{
+    size_t at = 0;
+    history[at++] = 128;
+    history[at++] = 8;
+    for (int token = 0; token < 1024; token++) {
+        switch (pattern) {
+        case 0:
+            history[at++] = 0;
+            break;
+        case 1:
+            history[at++] = token % 2 == 0 ? 1 : 2;
+            break;
+        default:
+            history[at++] = token % 256 < 128 ? 1 : 2;
+        }
+    }
+    history_len = at;
+}
+
+int main(void)
+{
+    struct {
+        const char *name;
+        void (*function)(void);
+        size_t stated; /* KiB */
+    } all[] = {{"gaffmedlar_grammar_check", grammar_check, 8}, {"gaffmedlar_history_check", history_check, 16},
+               {"gaffmedlar_first_reading", first, 40},        {"gaffmedlar_next_reading", next, 48},
+               {"gaffmedlar_run_calls", run_calls, 48},        {"gaffmedlar_sets", sets, 40},
+               {"gaffmedlar_doubtful_count", doubtful, 40},    {"gaffmedlar_stop_marks", stop_marks, 40}};
+    int faults = 0;
+    stack = malloc(STACK);
+    if (stack == NULL)
+        return 2;
+    full_grammar();
+    for (size_t i = 0; i < sizeof all / sizeof all[0]; i++) {
+        size_t most = 0;
+        for (int pattern = 0; pattern < 3; pattern++) {
+            full_history(pattern);
+            first();
+            size_t bytes = used(all[i].function);
+            if (bytes > most)
+                most = bytes;
+        }
+        most -= used(nothing);
+        printf("%-26s %6zu bytes of stack, stated %zu KiB\n", all[i].name, most, all[i].stated);
+        if (most > all[i].stated << 10)
+            faults = 1;
+    }
+    free(stack);
+    return faults;
+}

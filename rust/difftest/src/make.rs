@@ -1,0 +1,542 @@
+//! Makes cases: files that pass and damaged ones, short ones and those at a limit, with buffers around the length that
+//! is needed.
+use crate::case::Case;
+use crate::random::Random;
+use reference::big::Big;
+use reference::{Rule, Token, Work};
+
+/// A number in groups of seven bits, lowest first, in the shortest form.
+pub fn put_number(number: usize, out: &mut Vec<u8>) {
+    let mut left = number;
+    while left >= 128 {
+        out.push((left % 128) as u8 | 128);
+        left /= 128;
+    }
+    out.push(left as u8);
+}
+
+fn put_numbers(numbers: &[usize]) -> Vec<u8> {
+    let mut out = Vec::new();
+    for &number in numbers {
+        put_number(number, &mut out);
+    }
+    out
+}
+
+pub fn grammar_numbers(stages: usize, rules: &[Rule]) -> Vec<usize> {
+    let mut numbers = vec![stages, rules.len()];
+    for rule in rules {
+        match *rule {
+            Rule::Ends { from } => numbers.extend([0, from.into()]),
+            Rule::Marks { from, mark, then } => {
+                numbers.extend([1, from.into(), mark.into(), then.into()])
+            }
+            Rule::Steps {
+                from,
+                open,
+                inside,
+                close,
+                then,
+            } => numbers.extend([
+                2,
+                from.into(),
+                open.into(),
+                inside.into(),
+                close.into(),
+                then.into(),
+            ]),
+        }
+    }
+    numbers
+}
+
+pub fn history_numbers(tokens: &[Token]) -> Vec<usize> {
+    let mut numbers = vec![tokens.len()];
+    numbers.extend(tokens.iter().map(|token| match *token {
+        Token::Mark(name) => 4 * usize::from(name),
+        Token::Open(name) => 4 * usize::from(name) + 1,
+        Token::Close(name) => 4 * usize::from(name) + 2,
+    }));
+    numbers
+}
+
+/// The bytes of a grammar file.
+pub fn grammar_file(stages: usize, rules: &[Rule]) -> Vec<u8> {
+    put_numbers(&grammar_numbers(stages, rules))
+}
+
+/// The bytes of a history file.
+pub fn history_file(tokens: &[Token]) -> Vec<u8> {
+    put_numbers(&history_numbers(tokens))
+}
+
+/// Document 01's grammar G.
+pub const G: [u8; 28] = [
+    3, 7, 0, 0, 2, 0, 0, 1, 0, 0, 2, 0, 0, 2, 0, 0, 1, 1, 0, 1, 0, 1, 1, 2, 0, 2, 0, 2,
+];
+
+/// How large a grammar and its history get.
+struct Size {
+    stages: usize,
+    rules: usize,
+    names: usize,
+    tokens: usize,
+    ends_percent: usize,
+}
+
+struct Maker<'a> {
+    random: &'a mut Random,
+}
+
+impl Maker<'_> {
+    fn stage(&mut self, stages: usize) -> u16 {
+        self.random.below(stages) as u16
+    }
+
+    fn name(&mut self, names: usize) -> u16 {
+        self.random.below(names) as u16
+    }
+
+    fn rule(&mut self, size: &Size) -> Rule {
+        let from = self.stage(size.stages);
+        match self.random.below(8) {
+            0 => Rule::Ends { from },
+            1..=3 => Rule::Marks {
+                from,
+                mark: self.name(size.names),
+                then: self.stage(size.stages),
+            },
+            _ => Rule::Steps {
+                from,
+                open: self.name(size.names),
+                inside: self.stage(size.stages),
+                close: self.name(size.names),
+                then: self.stage(size.stages),
+            },
+        }
+    }
+
+    fn rules(&mut self, size: &Size) -> Vec<Rule> {
+        let mut rules: Vec<Rule> = Vec::new();
+        for from in 0..size.stages as u16 {
+            if rules.len() < size.rules && self.random.percent(size.ends_percent) {
+                rules.push(Rule::Ends { from });
+            }
+        }
+        for _ in 0..8 * size.rules {
+            if rules.len() >= size.rules {
+                break;
+            }
+            let rule = self.rule(size);
+            if !rules.contains(&rule) {
+                let place = self.random.below(rules.len() + 1);
+                rules.insert(place, rule);
+            }
+        }
+        if rules.is_empty() {
+            rules.push(Rule::Ends { from: 0 });
+        }
+        rules
+    }
+
+    /// Tokens that the rules make from stage 0, as far as they lead; what is begun is closed in any case.
+    fn derived(&mut self, rules: &[Rule], most: usize) -> Vec<Token> {
+        let mut tokens = Vec::new();
+        self.derive(rules, 0, most, 0, &mut tokens);
+        tokens
+    }
+
+    fn derive(
+        &mut self,
+        rules: &[Rule],
+        stage: u16,
+        most: usize,
+        deep: usize,
+        out: &mut Vec<Token>,
+    ) {
+        let mut stage = stage;
+        loop {
+            let of_stage: Vec<&Rule> = rules.iter().filter(|rule| rule.from() == stage).collect();
+            if of_stage.is_empty() {
+                return;
+            }
+            let ends = of_stage
+                .iter()
+                .any(|rule| matches!(rule, Rule::Ends { .. }));
+            if out.len() + 2 > most || (ends && self.random.percent(5)) {
+                return;
+            }
+            match *self.random.one(&of_stage) {
+                Rule::Ends { .. } => {
+                    if self.random.percent(10) {
+                        return;
+                    }
+                }
+                Rule::Marks { mark, then, .. } => {
+                    out.push(Token::Mark(mark));
+                    stage = then;
+                }
+                Rule::Steps {
+                    open,
+                    inside,
+                    close,
+                    then,
+                    ..
+                } => {
+                    if deep == 128 {
+                        return;
+                    }
+                    out.push(Token::Open(open));
+                    self.derive(rules, inside, most - 1, deep + 1, out);
+                    out.push(Token::Close(close));
+                    stage = then;
+                }
+            }
+            if of_stage.len() == 1 && ends {
+                return;
+            }
+        }
+    }
+
+    /// Any well-matched tokens.
+    fn matched(&mut self, count: usize, names: usize) -> Vec<Token> {
+        let mut tokens = Vec::new();
+        let mut open = 0;
+        while tokens.len() + open < count {
+            match self.random.below(3) {
+                0 => tokens.push(Token::Mark(self.name(names))),
+                1 if tokens.len() + open + 2 <= count && open < 128 => {
+                    tokens.push(Token::Open(self.name(names)));
+                    open += 1;
+                }
+                _ if open > 0 => {
+                    tokens.push(Token::Close(self.name(names)));
+                    open -= 1;
+                }
+                _ => tokens.push(Token::Mark(self.name(names))),
+            }
+        }
+        for _ in 0..open {
+            tokens.push(Token::Close(self.name(names)));
+        }
+        tokens
+    }
+
+    /// Steps one inside the other, as many as may be open together, or one less or more.
+    fn nested(&mut self) -> Vec<Token> {
+        let deep = self.random.one(&[127, 128, 128, 129]);
+        let mut tokens = vec![Token::Open(0); deep];
+        tokens.extend(vec![Token::Close(0); deep]);
+        tokens
+    }
+
+    /// One number changed, put in, taken out or repeated; ranges' ends come often.
+    fn damage_numbers(&mut self, numbers: &mut Vec<usize>) {
+        const ENDS: [usize; 26] = [
+            0, 1, 2, 3, 4, 7, 31, 32, 33, 62, 63, 64, 127, 128, 129, 252, 253, 254, 255, 256, 257,
+            1023, 1024, 1025, 16383, 16384,
+        ];
+        if numbers.is_empty() {
+            return;
+        }
+        let place = self.random.below(numbers.len());
+        match self.random.below(8) {
+            0 => {
+                numbers.remove(place);
+            }
+            1 => {
+                let number = self.random.one(&ENDS);
+                numbers.insert(place, number);
+            }
+            2 => {
+                let number = numbers[place];
+                numbers.insert(place, number);
+            }
+            3 => numbers[place] = numbers[place].saturating_add(1),
+            4 => numbers[place] = numbers[place].saturating_sub(1),
+            _ => numbers[place] = self.random.one(&ENDS),
+        }
+    }
+
+    fn damage_bytes(&mut self, bytes: &mut Vec<u8>) {
+        let place = self.random.below(bytes.len() + 1);
+        match self.random.below(9) {
+            0 => bytes.truncate(place),
+            1 => bytes.push(self.random.next() as u8),
+            2 => {
+                let end = bytes.len();
+                bytes.truncate(end.saturating_sub(1));
+            }
+            3 => bytes.insert(place, self.random.next() as u8),
+            4 if place < bytes.len() => {
+                bytes.remove(place);
+            }
+            5 if place < bytes.len() => bytes[place] ^= 1 << self.random.below(8),
+            6 if place < bytes.len() => bytes[place] |= 128,
+            7 if place < bytes.len() => {
+                // the same number in a longer form
+                bytes[place] |= 128;
+                bytes.insert(place + 1, 0);
+            }
+            _ if place < bytes.len() => {
+                bytes[place] = self.random.one(&[0, 1, 2, 3, 63, 64, 127, 128, 129, 255])
+            }
+            _ => {}
+        }
+    }
+
+    fn written(&mut self, numbers: Vec<usize>, damaged: bool) -> Vec<u8> {
+        let mut numbers = numbers;
+        if damaged && self.random.percent(60) {
+            self.damage_numbers(&mut numbers);
+        }
+        let mut bytes = put_numbers(&numbers);
+        if damaged && self.random.percent(60) {
+            for _ in 0..self.random.within(1, 2) {
+                self.damage_bytes(&mut bytes);
+            }
+        }
+        bytes
+    }
+
+    /// A rule that is there already is put in once more.
+    fn repeat_rule(&mut self, rules: &mut Vec<Rule>) {
+        let rule = self.random.one(rules);
+        let place = self.random.below(rules.len() + 1);
+        rules.insert(place, rule);
+    }
+
+    fn size(&mut self) -> Size {
+        match self.random.below(10) {
+            0 | 1 => Size {
+                stages: self.random.within(1, 3),
+                rules: self.random.within(1, 9),
+                names: self.random.within(1, 2),
+                tokens: self.random.below(14),
+                ends_percent: 85,
+            },
+            // many rules for few names: many readings
+            2..=5 => Size {
+                stages: self.random.within(1, 4),
+                rules: self.random.within(6, 20),
+                names: 1,
+                tokens: self.random.within(1, 24),
+                ends_percent: 100,
+            },
+            6..=8 => Size {
+                stages: self.random.within(1, 8),
+                rules: self.random.within(3, 30),
+                names: self.random.within(1, 3),
+                tokens: self.random.below(30),
+                ends_percent: 75,
+            },
+            _ => Size {
+                stages: self.random.within(1, 32),
+                rules: self.random.within(30, 128),
+                names: self.random.one(&[1, 2, 64]),
+                tokens: self.random.below(60),
+                ends_percent: 60,
+            },
+        }
+    }
+
+    fn files(&mut self) -> (Vec<u8>, Vec<u8>) {
+        if self.random.percent(2) {
+            let (long, short) = (self.random.below(40), self.random.below(12));
+            return (self.random.bytes(long), self.random.bytes(short));
+        }
+        let damage = self.random.below(100);
+        let (grammar_damaged, history_damaged) = (damage < 22, (15..42).contains(&damage));
+        let size = self.size();
+        let mut rules = self.rules(&size);
+        let tokens = match self.random.below(200) {
+            0 => self.nested(),
+            1..=40 => self.matched(size.tokens, size.names),
+            _ => self.derived(&rules, size.tokens),
+        };
+        if grammar_damaged && self.random.percent(15) && rules.len() < 128 {
+            self.repeat_rule(&mut rules);
+        }
+        let grammar = if self.random.percent(5) {
+            G.to_vec()
+        } else {
+            self.written(grammar_numbers(size.stages, &rules), grammar_damaged)
+        };
+        let history = self.written(history_numbers(&tokens), history_damaged);
+        (grammar, history)
+    }
+
+    /// Files at a limit, or one over it.
+    fn limit_files(&mut self) -> (Vec<u8>, Vec<u8>) {
+        let stages = self.random.one(&[1, 2, 31, 32, 32, 33]);
+        let size = Size {
+            stages,
+            rules: self.random.one(&[1, 16, 64, 127, 128, 128]),
+            names: self.random.one(&[1, 2, 3, 64]),
+            tokens: 0,
+            ends_percent: self.random.one(&[5, 60, 100]),
+        };
+        let mut rules = self.rules(&size);
+        if self.random.percent(10) && rules.len() == 128 {
+            rules.push(Rule::Marks {
+                from: 0,
+                mark: 63,
+                then: 0,
+            });
+        }
+        let mut grammar = grammar_file(stages, &rules);
+        let count = self.random.one(&[1022, 1023, 1024, 1024, 1024, 1025]);
+        let tokens = match self.random.below(7) {
+            // marks alone
+            0 => (0..count)
+                .map(|_| Token::Mark(self.name(size.names)))
+                .collect(),
+            // steps one behind the other
+            1 => (0..count)
+                .map(|place| match place % 2 {
+                    0 => Token::Open(0),
+                    _ => Token::Close(0),
+                })
+                .collect(),
+            2 => self.nested(),
+            // steps of G, with a mark in each
+            3 | 4 => {
+                grammar = G.to_vec();
+                let steps = self.random.one(&[16, 340, 341]);
+                (0..3 * steps)
+                    .map(|place| match place % 3 {
+                        0 => Token::Open(0),
+                        1 => Token::Mark(0),
+                        _ => Token::Close(0),
+                    })
+                    .collect()
+            }
+            5 => self.derived(&rules, count),
+            _ => self.matched(count, size.names),
+        };
+        let mut history = history_file(&tokens);
+        if self.random.percent(10) {
+            self.damage_bytes(&mut history);
+        }
+        (grammar, history)
+    }
+
+    /// A length for a buffer of which `needed` elements are written.
+    fn length(&mut self, needed: Option<usize>) -> usize {
+        let Some(needed) = needed else {
+            return self.random.below(12);
+        };
+        match self.random.below(20) {
+            0..=11 => needed,
+            12..=15 => (needed + self.random.below(7)).saturating_sub(3),
+            16 => needed.saturating_sub(1),
+            17 => self.random.below(needed + 1),
+            18 => self.random.below(3),
+            _ => needed + self.random.below(40),
+        }
+    }
+
+    /// A place of the order, counted from 0; the ends come often.
+    fn place(&mut self, total: &Big) -> Big {
+        let near = Big::new(self.random.below(4) as u32);
+        let last = total.minus(&Big::new(1));
+        match self.random.below(4) {
+            0 | 3 if near < *total => near,
+            1 if near < *total => last.minus(&near),
+            2 => total.divided(&Big::new(self.random.within(2, 5) as u32)).0,
+            _ => last,
+        }
+    }
+
+    /// A buffer that often begins with a reading, or with one that was changed at one place.
+    fn held(&mut self, work: &Work) -> Vec<u8> {
+        let needed = work.positions();
+        let length = self.length(needed);
+        let mut bytes = self.random.bytes(length);
+        let total = work.total();
+        if !total.is_zero() && self.random.percent(85) {
+            let place = self.place(&total);
+            let reading = work.reading_at(&place).expect("both files pass");
+            for (byte, rule) in bytes.iter_mut().zip(&reading) {
+                *byte = *rule;
+            }
+            if self.random.percent(20) && length > 0 {
+                let place = self.random.below(length);
+                bytes[place] = match self.random.below(4) {
+                    0 => self.random.next() as u8,
+                    1 => bytes[place].wrapping_add(1),
+                    2 => bytes[place].wrapping_sub(1),
+                    _ => bytes[self.random.below(length)],
+                };
+            }
+        }
+        bytes
+    }
+
+    fn case(&mut self, limit: bool) -> Case {
+        let (grammar, history) = if limit {
+            self.limit_files()
+        } else {
+            self.files()
+        };
+        let work = Work::new(&grammar, &history);
+        let needed = work.positions();
+        let first = {
+            let length = self.length(needed);
+            self.random.bytes(length)
+        };
+        let next = self.held(&work);
+        let buffer = self.held(&work);
+        let words = {
+            let length = self.length(needed.map(|positions| 4 * positions));
+            (0..length).map(|_| self.random.next() as u32).collect()
+        };
+        let marks = {
+            let length = self.length(needed);
+            self.random.bytes(length)
+        };
+        let most = if limit { 4 } else { 10 };
+        let calls: Vec<u8> = (0..self.random.below(most))
+            .map(|_| match self.random.below(10) {
+                0..=2 => 0,
+                3 => self.random.next() as u8,
+                _ => 1,
+            })
+            .collect();
+        let answers = {
+            let length = match self.random.below(10) {
+                0..=6 => calls.len(),
+                7 => calls.len().saturating_sub(1),
+                _ => calls.len() + self.random.below(4),
+            };
+            self.random.bytes(length)
+        };
+        Case {
+            grammar,
+            history,
+            first,
+            next,
+            words,
+            marks,
+            calls,
+            answers,
+            buffer,
+        }
+    }
+}
+
+/// The case of a seed. One in `every` stands at a limit.
+pub fn case(random: &mut Random, every: usize) -> Case {
+    let limit = random.below(every) == 0;
+    Maker { random }.case(limit)
+}
+
+/// A list of tokens without those at some places.
+pub fn tokens_without(tokens: &[Token], places: &[usize]) -> Vec<Token> {
+    tokens
+        .iter()
+        .enumerate()
+        .filter(|(place, _)| !places.contains(place))
+        .map(|(_, token)| *token)
+        .collect()
+}

@@ -1,0 +1,214 @@
+//! Makes a case smaller as long as both sides still differ on it.
+use crate::case::{compare, Case, Fault};
+use crate::make::{grammar_file, history_file, tokens_without};
+use reference::big::Big;
+use reference::files::partners;
+use reference::{parse_grammar, parse_history, Token, Work};
+use std::time::{Duration, Instant};
+
+/// At most this long.
+const PATIENCE: Duration = Duration::from_secs(20);
+
+fn weight(case: &Case) -> usize {
+    let sum = |bytes: &[u8]| bytes.iter().map(|&byte| usize::from(byte)).sum::<usize>();
+    let parts = [
+        &case.grammar,
+        &case.history,
+        &case.first,
+        &case.next,
+        &case.marks,
+        &case.calls,
+        &case.answers,
+        &case.buffer,
+    ];
+    parts
+        .iter()
+        .map(|bytes| 1000 * bytes.len() + sum(bytes))
+        .sum::<usize>()
+        + 1000 * case.words.len()
+        + case.words.iter().filter(|&&word| word != 0).count()
+}
+
+pub fn shrink(case: &Case, fault: Option<Fault>) -> Case {
+    let start = Instant::now();
+    let mut best = case.clone();
+    'again: loop {
+        for smaller in candidates(&best) {
+            if start.elapsed() > PATIENCE {
+                return best;
+            }
+            if weight(&smaller) < weight(&best) && compare(&smaller, fault, |_, _| {}).is_some() {
+                best = smaller;
+                continue 'again;
+            }
+        }
+        return best;
+    }
+}
+
+fn candidates(case: &Case) -> Vec<Case> {
+    let mut all = Vec::new();
+    parts_dropped(case, &mut all);
+    rules_dropped(case, &mut all);
+    tokens_dropped(case, &mut all);
+    bytes_dropped(case, &mut all);
+    bytes_lowered(case, &mut all);
+    all
+}
+
+/// Buffers that may not matter at all.
+fn parts_dropped(case: &Case, all: &mut Vec<Case>) {
+    for which in 0..7 {
+        let mut smaller = case.clone();
+        match which {
+            0 => smaller.first.clear(),
+            1 => smaller.next.clear(),
+            2 => smaller.words.clear(),
+            3 => smaller.marks.clear(),
+            4 => smaller.calls.clear(),
+            5 => smaller.answers.clear(),
+            _ => smaller.buffer.clear(),
+        }
+        all.push(smaller);
+    }
+}
+
+/// A grammar that passes, with one rule less, and the numbers in the buffers moved down.
+fn rules_dropped(case: &Case, all: &mut Vec<Case>) {
+    let Ok(grammar) = parse_grammar(&case.grammar) else {
+        return;
+    };
+    for gone in 0..grammar.rules.len() {
+        let mut rules = grammar.rules.clone();
+        rules.remove(gone);
+        let mut smaller = case.clone();
+        smaller.grammar = grammar_file(grammar.stages.into(), &rules);
+        for bytes in [&mut smaller.next, &mut smaller.buffer] {
+            for byte in bytes.iter_mut() {
+                if usize::from(*byte) > gone {
+                    *byte -= 1;
+                }
+            }
+        }
+        with_readings(smaller, all);
+    }
+}
+
+/// A history that passes, without a mark, a step's ends or a whole step; and the buffers without these positions.
+fn tokens_dropped(case: &Case, all: &mut Vec<Case>) {
+    let Ok(tokens) = parse_history(&case.history) else {
+        return;
+    };
+    let partner = partners(&tokens);
+    for place in 0..tokens.len() {
+        let mut ways = Vec::new();
+        match tokens[place] {
+            Token::Mark(_) => ways.push(vec![place]),
+            Token::Open(_) => {
+                ways.push((place..=partner[place]).collect());
+                ways.push(vec![place, partner[place]]);
+            }
+            Token::Close(_) => {}
+        }
+        for gone in ways {
+            let mut smaller = case.clone();
+            smaller.history = history_file(&tokens_without(&tokens, &gone));
+            for &place in gone.iter().rev() {
+                for bytes in [
+                    &mut smaller.first,
+                    &mut smaller.next,
+                    &mut smaller.marks,
+                    &mut smaller.buffer,
+                ] {
+                    if place < bytes.len() {
+                        bytes.remove(place);
+                    }
+                }
+                for _ in 0..4 {
+                    if 4 * place < smaller.words.len() {
+                        smaller.words.remove(4 * place);
+                    }
+                }
+            }
+            with_readings(smaller, all);
+        }
+    }
+}
+
+/// The case, and the same with one of the first readings of its files in the buffers that hold one.
+fn with_readings(case: Case, all: &mut Vec<Case>) {
+    let work = Work::new(&case.grammar, &case.history);
+    let total = work.total();
+    all.push(case.clone());
+    for place in (0..3).map(Big::new).take_while(|place| *place < total) {
+        let reading = work.reading_at(&place).expect("both files pass");
+        let mut held = case.clone();
+        for bytes in [&mut held.next, &mut held.buffer] {
+            if !bytes.is_empty() {
+                bytes.clone_from(&reading);
+            }
+        }
+        all.push(held);
+    }
+}
+
+fn field(case: &mut Case, which: usize) -> &mut Vec<u8> {
+    match which {
+        0 => &mut case.grammar,
+        1 => &mut case.history,
+        2 => &mut case.first,
+        3 => &mut case.next,
+        4 => &mut case.marks,
+        5 => &mut case.calls,
+        6 => &mut case.answers,
+        _ => &mut case.buffer,
+    }
+}
+
+fn bytes_dropped(case: &Case, all: &mut Vec<Case>) {
+    let mut work = case.clone();
+    for which in 0..8 {
+        let length = field(&mut work, which).len();
+        let mut piece = length;
+        while piece > 0 {
+            let mut place = 0;
+            while place + piece <= length {
+                let mut smaller = case.clone();
+                field(&mut smaller, which).drain(place..place + piece);
+                all.push(smaller);
+                place += piece;
+            }
+            piece /= 2;
+        }
+    }
+    let mut piece = case.words.len();
+    while piece > 0 {
+        let mut smaller = case.clone();
+        smaller.words.truncate(case.words.len() - piece);
+        all.push(smaller);
+        piece /= 2;
+    }
+}
+
+fn bytes_lowered(case: &Case, all: &mut Vec<Case>) {
+    let mut work = case.clone();
+    for which in 0..8 {
+        for place in 0..field(&mut work, which).len() {
+            let byte = field(&mut work, which)[place];
+            for lower in [0, byte / 2, byte.saturating_sub(1)] {
+                if lower < byte {
+                    let mut smaller = case.clone();
+                    field(&mut smaller, which)[place] = lower;
+                    all.push(smaller);
+                }
+            }
+        }
+    }
+    for place in 0..case.words.len() {
+        if case.words[place] != 0 {
+            let mut smaller = case.clone();
+            smaller.words[place] = 0;
+            all.push(smaller);
+        }
+    }
+}

@@ -1,0 +1,183 @@
+//! What include/gaffmedlar.h declares.
+
+/// 0 and the counts, or the number of the refusal and zeros.
+#[repr(C)]
+#[derive(Clone, Copy, Debug, PartialEq, Eq)]
+pub struct GrammarReply {
+    pub answer: u8,
+    pub stages: u16,
+    pub rules: u16,
+}
+
+/// 0 and the number of tokens, or the number of the refusal and 0.
+#[repr(C)]
+#[derive(Clone, Copy, Debug, PartialEq, Eq)]
+pub struct HistoryReply {
+    pub answer: u8,
+    pub tokens: u16,
+}
+
+/// 0 and the number of doubtful positions, or the number of the refusal and 0.
+#[repr(C)]
+#[derive(Clone, Copy, Debug, PartialEq, Eq)]
+pub struct CountReply {
+    pub answer: u8,
+    pub count: u32,
+}
+
+mod linked {
+    use super::{CountReply, GrammarReply, HistoryReply};
+
+    extern "C" {
+        pub fn gaffmedlar_grammar_check(grammar: *const u8, grammar_len: usize) -> GrammarReply;
+        pub fn gaffmedlar_history_check(history: *const u8, history_len: usize) -> HistoryReply;
+        pub fn gaffmedlar_first_reading(
+            grammar: *const u8,
+            grammar_len: usize,
+            history: *const u8,
+            history_len: usize,
+            reading: *mut u8,
+            reading_len: usize,
+        ) -> u8;
+        pub fn gaffmedlar_next_reading(
+            grammar: *const u8,
+            grammar_len: usize,
+            history: *const u8,
+            history_len: usize,
+            reading: *mut u8,
+            reading_len: usize,
+        ) -> u8;
+        pub fn gaffmedlar_run_calls(
+            grammar: *const u8,
+            grammar_len: usize,
+            history: *const u8,
+            history_len: usize,
+            calls: *const u8,
+            calls_len: usize,
+            answers: *mut u8,
+            answers_len: usize,
+            buffer: *mut u8,
+            buffer_len: usize,
+        ) -> u8;
+        pub fn gaffmedlar_sets(
+            grammar: *const u8,
+            grammar_len: usize,
+            history: *const u8,
+            history_len: usize,
+            words: *mut u32,
+            words_len: usize,
+        ) -> u8;
+        pub fn gaffmedlar_doubtful_count(
+            grammar: *const u8,
+            grammar_len: usize,
+            history: *const u8,
+            history_len: usize,
+        ) -> CountReply;
+        pub fn gaffmedlar_stop_marks(
+            grammar: *const u8,
+            grammar_len: usize,
+            history: *const u8,
+            history_len: usize,
+            marks: *mut u8,
+            marks_len: usize,
+        ) -> u8;
+    }
+}
+
+// Each call below hands over slices as pointer and length. The proved functions read and write within these lengths
+// only, ask nothing of their content, keep no pointer and end, so the calls are sound.
+
+pub fn grammar_check(grammar: &[u8]) -> GrammarReply {
+    unsafe { linked::gaffmedlar_grammar_check(grammar.as_ptr(), grammar.len()) }
+}
+
+pub fn history_check(history: &[u8]) -> HistoryReply {
+    unsafe { linked::gaffmedlar_history_check(history.as_ptr(), history.len()) }
+}
+
+pub fn first_reading(grammar: &[u8], history: &[u8], reading: &mut [u8]) -> u8 {
+    unsafe {
+        linked::gaffmedlar_first_reading(
+            grammar.as_ptr(),
+            grammar.len(),
+            history.as_ptr(),
+            history.len(),
+            reading.as_mut_ptr(),
+            reading.len(),
+        )
+    }
+}
+
+pub fn next_reading(grammar: &[u8], history: &[u8], reading: &mut [u8]) -> u8 {
+    unsafe {
+        linked::gaffmedlar_next_reading(
+            grammar.as_ptr(),
+            grammar.len(),
+            history.as_ptr(),
+            history.len(),
+            reading.as_mut_ptr(),
+            reading.len(),
+        )
+    }
+}
+
+/// A call is 0 for first reading, any other number for next reading.
+pub fn run_calls(
+    grammar: &[u8],
+    history: &[u8],
+    calls: &[u8],
+    answers: &mut [u8],
+    buffer: &mut [u8],
+) -> u8 {
+    unsafe {
+        linked::gaffmedlar_run_calls(
+            grammar.as_ptr(),
+            grammar.len(),
+            history.as_ptr(),
+            history.len(),
+            calls.as_ptr(),
+            calls.len(),
+            answers.as_mut_ptr(),
+            answers.len(),
+            buffer.as_mut_ptr(),
+            buffer.len(),
+        )
+    }
+}
+
+pub fn sets(grammar: &[u8], history: &[u8], words: &mut [u32]) -> u8 {
+    unsafe {
+        linked::gaffmedlar_sets(
+            grammar.as_ptr(),
+            grammar.len(),
+            history.as_ptr(),
+            history.len(),
+            words.as_mut_ptr(),
+            words.len(),
+        )
+    }
+}
+
+pub fn doubtful_count(grammar: &[u8], history: &[u8]) -> CountReply {
+    unsafe {
+        linked::gaffmedlar_doubtful_count(
+            grammar.as_ptr(),
+            grammar.len(),
+            history.as_ptr(),
+            history.len(),
+        )
+    }
+}
+
+pub fn stop_marks(grammar: &[u8], history: &[u8], marks: &mut [u8]) -> u8 {
+    unsafe {
+        linked::gaffmedlar_stop_marks(
+            grammar.as_ptr(),
+            grammar.len(),
+            history.as_ptr(),
+            history.len(),
+            marks.as_mut_ptr(),
+            marks.len(),
+        )
+    }
+}

@@ -1,0 +1,330 @@
+//! The services. Answers are numbers: 0 written or made, 100 "none", 101 "no further", else a refusal.
+use crate::big::Big;
+use crate::counted::Counter;
+use crate::files::{parse_grammar, parse_history};
+use crate::{listed, marks, NO_FURTHER, NO_READING};
+use std::cell::OnceCell;
+
+/// The stage count and the rule count, or the number of the refusal.
+pub fn grammar_check(bytes: &[u8]) -> Result<(u16, u16), u8> {
+    parse_grammar(bytes).map(|grammar| (grammar.stages, grammar.rules.len() as u16))
+}
+
+/// The token count, or the number of the refusal.
+pub fn history_check(bytes: &[u8]) -> Result<u16, u8> {
+    parse_history(bytes).map(|tokens| tokens.len() as u16)
+}
+
+/// Readings are written down where each part of the history has at most this many.
+const FEW: u64 = 48;
+
+/// Two files, read once for several calls.
+pub struct Work(Result<Served, u8>);
+
+struct Served {
+    counter: Counter,
+    few: OnceCell<Option<Vec<Vec<u8>>>>,
+    marks: OnceCell<Vec<u8>>,
+    sets: OnceCell<Vec<u32>>,
+}
+
+/// Where the book stands (document 01, "The plain listing"): at an entry, by its place from 0, or at none.
+type Entry = Option<Big>;
+
+impl Work {
+    pub fn new(grammar: &[u8], history: &[u8]) -> Work {
+        Work(parse_grammar(grammar).and_then(|grammar| {
+            parse_history(history).map(|tokens| Served {
+                counter: Counter::new(grammar, tokens),
+                few: OnceCell::new(),
+                marks: OnceCell::new(),
+                sets: OnceCell::new(),
+            })
+        }))
+    }
+
+    /// How many readings there are; none where a file is refused.
+    pub fn total(&self) -> Big {
+        match &self.0 {
+            Ok(served) => (*served.counter.total()).clone(),
+            Err(_) => Big::new(0),
+        }
+    }
+
+    /// The reading at a place of the order, from 0 and below the total.
+    pub fn reading_at(&self, place: &Big) -> Option<Vec<u8>> {
+        let served = self.0.as_ref().ok()?;
+        Some(served.reading_at(place))
+    }
+
+    /// Every number needed for a reading; None where a file is refused.
+    pub fn positions(&self) -> Option<usize> {
+        let served = self.0.as_ref().ok()?;
+        Some(served.positions())
+    }
+
+    fn served(&self, needed: impl Fn(usize) -> usize, lent: usize) -> Result<&Served, u8> {
+        let served = self.0.as_ref().map_err(|&number| number)?;
+        if lent < needed(served.positions()) {
+            return Err(15);
+        }
+        Ok(served)
+    }
+
+    pub fn first_reading(&self, reading: &mut [u8]) -> u8 {
+        let served = match self.served(|positions| positions, reading.len()) {
+            Ok(served) => served,
+            Err(number) => return number,
+        };
+        if served.counter.total().is_zero() {
+            return NO_READING;
+        }
+        reading[..served.positions()].copy_from_slice(&served.reading_at(&Big::new(0)));
+        0
+    }
+
+    pub fn next_reading(&self, reading: &mut [u8]) -> u8 {
+        let served = match self.served(|positions| positions, reading.len()) {
+            Ok(served) => served,
+            Err(number) => return number,
+        };
+        let lent = &mut reading[..served.positions()];
+        let Some(place) = served.place_of(lent) else {
+            return 16;
+        };
+        let next = place.plus(&Big::new(1));
+        if next == *served.counter.total() {
+            return NO_FURTHER;
+        }
+        lent.copy_from_slice(&served.reading_at(&next));
+        0
+    }
+
+    /// The whole list by the book: no call looks at the buffer, which is filled at the end.
+    pub fn run_calls(&self, calls: &[u8], answers: &mut [u8], buffer: &mut [u8]) -> u8 {
+        if answers.len() < calls.len() {
+            return 15;
+        }
+        let served = match self.served(|positions| positions, buffer.len()) {
+            Ok(served) => served,
+            Err(number) => {
+                answers[..calls.len()].fill(number);
+                return 0;
+            }
+        };
+        let total = served.counter.total();
+        let mut entry: Entry = served.place_of(&buffer[..served.positions()]);
+        for (answer, call) in answers.iter_mut().zip(calls) {
+            *answer = match (call, &entry) {
+                (0, _) if total.is_zero() => NO_READING,
+                (0, _) => {
+                    entry = Some(Big::new(0));
+                    0
+                }
+                (_, None) => 16,
+                (_, Some(place)) => {
+                    let next = place.plus(&Big::new(1));
+                    if next == *total {
+                        NO_FURTHER
+                    } else {
+                        entry = Some(next);
+                        0
+                    }
+                }
+            };
+        }
+        if let Some(place) = entry {
+            buffer[..served.positions()].copy_from_slice(&served.reading_at(&place));
+        }
+        0
+    }
+
+    pub fn sets(&self, words: &mut [u32]) -> u8 {
+        match self.served(|positions| 4 * positions, words.len()) {
+            Ok(served) => {
+                let sets = served.sets();
+                words[..sets.len()].copy_from_slice(sets);
+                0
+            }
+            Err(number) => number,
+        }
+    }
+
+    /// The number of doubtful positions, or the refusal.
+    pub fn doubtful_count(&self) -> Result<u32, u8> {
+        let served = self.served(|_| 0, 0)?;
+        let ones = |set: &[u32]| set.iter().map(|word| word.count_ones()).sum::<u32>();
+        Ok(served.sets().chunks(4).filter(|set| ones(set) > 1).count() as u32)
+    }
+
+    pub fn stop_marks(&self, marks: &mut [u8]) -> u8 {
+        match self.served(|positions| positions, marks.len()) {
+            Ok(served) => {
+                let given = served.marks();
+                marks[..given.len()].copy_from_slice(given);
+                0
+            }
+            Err(number) => number,
+        }
+    }
+
+    /// Whether both ways agree on everything where readings are few. A fault here is one of the reference.
+    pub fn agrees_with_itself(&self) -> bool {
+        let Ok(served) = &self.0 else { return true };
+        let Some(few) = served.few() else { return true };
+        let ordered = few.windows(2).all(|two| two[0] < two[1]);
+        let counted = few.iter().enumerate().all(|(place, reading)| {
+            let place = Big::new(place as u32);
+            served.counter.reading_at(&place) == *reading
+                && served.counter.place_of(reading) == Some(place)
+        });
+        ordered && counted && served.sets_counted() == served.sets_listed(few)
+    }
+}
+
+impl Served {
+    fn positions(&self) -> usize {
+        self.counter.tokens().len() + 1
+    }
+
+    /// Every reading, where there are few.
+    fn few(&self) -> Option<&Vec<Vec<u8>>> {
+        self.few
+            .get_or_init(|| {
+                (self.positions() <= 64 && self.counter.few(FEW))
+                    .then(|| listed::readings(self.counter.grammar(), self.counter.tokens()))
+            })
+            .as_ref()
+    }
+
+    fn reading_at(&self, place: &Big) -> Vec<u8> {
+        match (self.few(), place.small()) {
+            (Some(few), Some(place)) => few[place as usize].clone(),
+            _ => self.counter.reading_at(place),
+        }
+    }
+
+    fn place_of(&self, reading: &[u8]) -> Option<Big> {
+        match self.few() {
+            Some(few) => {
+                let place = few.iter().position(|entry| entry == reading)?;
+                Some(Big::new(place as u32))
+            }
+            None => self.counter.place_of(reading),
+        }
+    }
+
+    fn sets(&self) -> &[u32] {
+        self.sets.get_or_init(|| match self.few() {
+            Some(few) => self.sets_listed(few),
+            None => self.sets_counted(),
+        })
+    }
+
+    fn sets_listed(&self, few: &[Vec<u8>]) -> Vec<u32> {
+        let mut words = vec![0; 4 * self.positions()];
+        for reading in few {
+            for (position, &rule) in reading.iter().enumerate() {
+                words[4 * position + usize::from(rule) / 32] |= 1 << (rule % 32);
+            }
+        }
+        words
+    }
+
+    fn sets_counted(&self) -> Vec<u32> {
+        let mut words = vec![0; 4 * self.positions()];
+        for (position, set) in self.counter.sets().iter().enumerate() {
+            for &rule in set {
+                words[4 * position + usize::from(rule) / 32] |= 1 << (rule % 32);
+            }
+        }
+        words
+    }
+
+    fn marks(&self) -> &[u8] {
+        self.marks.get_or_init(|| {
+            marks::stop_marks(self.counter.grammar(), self.counter.tokens())
+                .into_iter()
+                .map(u8::from)
+                .collect()
+        })
+    }
+}
+
+#[cfg(test)]
+mod tests {
+    use super::*;
+
+    const G: [u8; 28] = [
+        3, 7, 0, 0, 2, 0, 0, 1, 0, 0, 2, 0, 0, 2, 0, 0, 1, 1, 0, 1, 0, 1, 1, 2, 0, 2, 0, 2,
+    ];
+
+    fn all(history: &[u8]) -> (Vec<Vec<u8>>, Vec<u8>, u32) {
+        let work = Work::new(&G, history);
+        let mut readings = Vec::new();
+        let mut place = Big::new(0);
+        while place < work.total() {
+            readings.push(work.reading_at(&place).unwrap());
+            place = place.plus(&Big::new(1));
+        }
+        let mut marks = vec![9; work.positions().unwrap()];
+        assert_eq!(work.stop_marks(&mut marks), 0);
+        assert!(work.agrees_with_itself());
+        (readings, marks, work.doubtful_count().unwrap())
+    }
+
+    #[test]
+    fn examples_of_document_01() {
+        assert_eq!(all(&[0]), (vec![vec![0]], vec![1], 0));
+        assert_eq!(
+            all(&[3, 1, 0, 2]),
+            (
+                vec![vec![1, 3, 4, 0], vec![2, 5, 6, 0]],
+                vec![1, 0, 0, 1],
+                3
+            )
+        );
+        assert_eq!(all(&[2, 1, 2]).0, vec![vec![1, 4, 0], vec![2, 6, 0]]);
+        assert_eq!(
+            all(&[4, 1, 2, 1, 2]).0,
+            vec![
+                vec![1, 4, 1, 4, 0],
+                vec![1, 4, 2, 6, 0],
+                vec![2, 6, 1, 4, 0],
+                vec![2, 6, 2, 6, 0]
+            ]
+        );
+        assert_eq!(all(&[1, 0]), (vec![], vec![1, 0], 0));
+        let work = Work::new(&G, &[4, 1, 2, 1, 2]);
+        assert_eq!(work.next_reading(&mut [2, 6, 2, 6, 0]), NO_FURTHER);
+        assert_eq!(work.next_reading(&mut [1, 4, 1, 4, 1]), 16);
+        assert_eq!(
+            Work::new(&[1, 1, 1, 0, 0, 0], &[0]).first_reading(&mut [0]),
+            NO_READING
+        );
+    }
+
+    #[test]
+    fn refusals_of_document_01() {
+        assert_eq!(history_check(&[1, 2]), Err(12));
+        assert_eq!(history_check(&[1, 1]), Err(13));
+        assert_eq!(history_check(&[1, 3]), Err(11));
+        assert_eq!(history_check(&[128]), Err(1));
+        assert_eq!(history_check(&[128, 0]), Err(2));
+        assert_eq!(grammar_check(&[1, 2, 0, 0, 0, 0]), Err(8));
+        assert_eq!(grammar_check(&[1, 0]), Err(4));
+        let mut full = vec![128, 8];
+        full.extend([0; 1024]);
+        assert_eq!(history_check(&full), Ok(1024));
+        full[0] = 129;
+        assert_eq!(history_check(&full), Err(10));
+        let nested = |deep: usize| {
+            let mut bytes = vec![(2 * deep % 128) as u8 | 128, (2 * deep / 128) as u8];
+            bytes.extend(vec![1; deep]);
+            bytes.extend(vec![2; deep]);
+            bytes
+        };
+        assert_eq!(history_check(&nested(128)), Ok(256));
+        assert_eq!(history_check(&nested(129)), Err(14));
+    }
+}
