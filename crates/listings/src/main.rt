@@ -42,7 +42,7 @@ fn show(grammar: &[u8], history: &[u8], skip: usize) -> bool {
 
 fn show_all(grammar: &[u8], history: &[u8]) {
     let mut skip: usize = 0;
-    while skip < 8388608 && show(grammar, history, skip) {
+    while skip < 22020096 && show(grammar, history, skip) {
         skip += 4096;
     }
 }

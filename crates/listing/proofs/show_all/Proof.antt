@@ -9,7 +9,7 @@ abbrev Inv-loop : tie.InvT-loop
 Inv-loop grammar history skip₀ skip = Unit {0}
 
 abbrev μ-loop : tie.MeasureT-loop
-μ-loop grammar history skip₀ skip = 8388608 - skip
+μ-loop grammar history skip₀ skip = 22020096 - skip
 
 loop-holds : tie.Need-loop-holds Inv-loop μ-loop
 loop-holds c = tt

@@ -1,0 +1,100 @@
+-- No listing is longer than 22,000,000 bytes, so 21 windows of 1,048,576 bytes, one behind the other, show the whole of it.
+-- Assumes nothing.
+use Prim.Native.Nat.{ℕ, zero, suc, _+_, _*_, _/_, _%_, _<_, _≤_}
+use native.Mathlib.Nat.{suc-mul}
+use native.Mathlib.Omega.{arith}
+use mathlib.Core.Path.{_≡_, refl, sym, _∙_, ap}
+use mathlib.Core.Bool.{Bool, true, false}
+use mathlib.Core.List.{List, [], _∷_, _++_, List·Memᴰ, List·Memᴰ·head, List·Memᴰ·tail}
+use lib.Dec.{ltb}
+use lib.ListN.{length, take, drop, length-append, length-map, drop-of-length-le, take-append-drop}
+use lib.Seq.{drop-drop}
+use Rattle.vpg.specs.Runs.{entries}
+use Rattle.vpg.specs.Sets.{doubtfulCount}
+use Rattle.vpg.specs.Grammar.{Grammar}
+use Rattle.vpg.specs.Calls.{overEntries}
+use Rattle.vpg.proofs.Listing.{entries-proper}
+use Rattle.grammar_file.specs.GrammarFile.{GrammarFile, grammarOf}
+use Rattle.grammar_file.specs.GrammarFile
+use Rattle.history_file.specs.HistoryFile.{HistoryFile, historyOf, tokenOf, tokensOf}
+use Rattle.history_file.specs.HistoryFile
+use Rattle.history_file.proofs.Accepted.{history-wellformed}
+use Rattle.numbers.specs.Number.{bytes}
+use Rattle.lines.specs.Laid.{shown}
+use Rattle.lines.specs.Text.{orNothing, decimalBy, decimal, blank, lineEnd, numberLine, readingText, readingLine, tokensLine, doubtfulLine, tokensWord, doubtfulWord, endWord, moreWord, refusedWord, grammarWord, historyWord}
+use Rattle.listing_text.specs.Listing.{listedFrom, mostListed, readingsListed, filesListed, listing}
+
+-- ── lines ──
+
+digits-short : (k n : ℕ) → length (decimalBy k n) ≤ k
+digits-short zero n = omega arith
+digits-short (suc k) n = go (ltb n 10) (digits-short k (n / 10))
+  where
+    go : (b : Bool) → length (decimalBy k (n / 10)) ≤ k → length (orNothing b (decimalBy k (n / 10)) ++ ((48 + n % 10) ∷ [])) ≤ suc k
+    go true h = omega arith
+    go false h = rw (length-append (decimalBy k (n / 10)) ((48 + n % 10) ∷ [])) (omega arith)
+
+decimal-short : (n : ℕ) → length (decimal n) ≤ 20
+unfolding decimal
+decimal-short n = digits-short 20 n
+
+number-line-short : (word : List ℕ) (n : ℕ) → length (numberLine word n) ≤ length word + 21
+number-line-short word n =
+    rw (length-append (word ++ decimal n) lineEnd, length-append word (decimal n)) (omega (arith, decimal-short n))
+
+rules-short : (e : List ℕ) → length (readingText e) ≤ 21 * length e
+unfolding readingText
+rules-short [] = omega arith
+rules-short (r ∷ e) = rw (length-append (decimal r) (readingText e)) (omega (arith, decimal-short r, rules-short e))
+
+reading-line-short : (k : ℕ) (e : List ℕ) → length e ≤ 1025 → length (readingLine k e) ≤ 21547
+reading-line-short k e h =
+    rw (length-append (decimal k ++ (58 ∷ []) ++ readingText e) lineEnd, length-append (decimal k ++ (58 ∷ [])) (readingText e), length-append (decimal k) (58 ∷ []))
+    (omega (arith, decimal-short k, rules-short e))
+
+-- ── the whole ──
+
+listed-short : (left k : ℕ) (l : List (List ℕ)) → ((e : List ℕ) → List·Memᴰ e l → length e ≤ 1025) → length (listedFrom left k l) ≤ 21547 * left + 26
+unfolding listedFrom
+listed-short zero k [] h = omega (arith, number-line-short endWord k)
+listed-short (suc left) k [] h = omega (arith, number-line-short endWord k)
+listed-short zero k (e ∷ l) h = omega (arith, number-line-short moreWord k)
+listed-short (suc left) k (e ∷ l) h =
+    rw (length-append (readingLine (suc k) e) (listedFrom left (suc k) l))
+    (omega (arith, reading-line-short (suc k) e (h e (List·Memᴰ·head refl)), listed-short left (suc k) l (λ f m. h f (List·Memᴰ·tail m))))
+
+readings-short : (d : ℕ) (l : List (List ℕ)) → ((e : List ℕ) → List·Memᴰ e l → length e ≤ 1025) → length (readingsListed d l) ≤ 21547056
+readings-short d [] h = omega arith
+readings-short d (e ∷ l) h =
+    rw (length-append (doubtfulLine d) (listedFrom mostListed 0 (e ∷ l))) (omega (arith, number-line-short doubtfulWord d, listed-short 1000 0 (e ∷ l) h))
+
+-- the longest listing
+pub listing-short : (grammar history : List ℕ) → length (listing grammar history) ≤ 22000000
+listing-short grammar history = go (grammarOf grammar) (historyOf history) refl
+  where
+    go : (g : GrammarFile) (h : HistoryFile) → historyOf history ≡ h → length (filesListed g h) ≤ 22000000
+    go (GrammarFile.refused k) h e = omega (arith, number-line-short (refusedWord ++ grammarWord) k)
+    go (GrammarFile.accepted g) (HistoryFile.refused k) e = omega (arith, number-line-short (refusedWord ++ historyWord) k)
+    go (GrammarFile.accepted g) (HistoryFile.accepted ts) e =
+        let few = history-wellformed (bytes history) ts e .few in
+        let sizes : (x : List ℕ) → List·Memᴰ x (entries g (tokensOf ts)) → length x ≤ 1025 =
+        λ x m. omega (arith, entries-proper g (tokensOf ts) .1 x m, length-map ts tokenOf, few) in
+        rw (length-append (tokensLine (length ts)) (readingsListed (doubtfulCount g (tokensOf ts)) (entries g (tokensOf ts))))
+        (omega (arith, number-line-short tokensWord (length ts), readings-short (doubtfulCount g (tokensOf ts)) (entries g (tokensOf ts)) sizes))
+
+-- ── the windows ──
+
+-- n windows of `size` bytes, one behind the other, the first one from the byte number `skip` on
+abbrev pub windows : ℕ → ℕ → ℕ → List ℕ → List ℕ
+windows zero skip size text = []
+windows (suc n) skip size text = shown skip size text ++ windows n (skip + size) size text
+
+windows-rest : (n skip size : ℕ) (text : List ℕ) → length text ≤ skip + n * size → windows n skip size text ≡ drop skip text
+windows-rest zero skip size text h = sym (drop-of-length-le text {i = skip} (omega arith))
+windows-rest (suc n) skip size text h =
+    ap (λ (l : List ℕ). shown skip size text ++ l) (windows-rest n (skip + size) size text (omega (arith, suc-mul n size)) ∙ sym (drop-drop size skip text))
+    ∙ take-append-drop size (drop skip text)
+
+-- 21 windows, as the program writes them, are the whole listing
+pub windows-whole : (grammar history : List ℕ) → windows 21 0 1048576 (listing grammar history) ≡ listing grammar history
+windows-whole grammar history = windows-rest 21 0 1048576 (listing grammar history) (omega (arith, listing-short grammar history))
