@@ -3,30 +3,8 @@
 // then the label and the file.
 use files::GrammarCheck;
 use files::HistoryCheck;
-ghost use Prim.Native.Nat.{_≤_};
-ghost use Rattle.io.specs.Counts.{Counts};
-
-fn wide(x: u8) -> usize
-    ensures { λ r. ⌜ r ≤ 255 ⌝ }
-{
-    x as usize
-}
-
-fn two(low: u8, high: u8) -> usize
-    ensures { λ r. ⌜ r ≤ 65535 ⌝ }
-{
-    wide(low) + wide(high) * 256
-}
-
-// Reads n bytes, or as many as the buffer holds, to the buffer's start.
-fn part(fd: i32, n: usize, buf: &mut [u8]) -> usize
-    requires { ⌜ n ≤ 65535 ⌝ }
-    ensures { λ r. ⌜ Counts r (now (buf .exit)) ⌝ }
-{
-    let k = io::count(n as isize, buf);
-    io::read_full(fd, &mut buf[..k]);
-    io::count(k as isize, buf)
-}
+use packed::part;
+use packed::two;
 
 fn print_refused(e: u8) {
     io::write_all(1, b"refused ");
@@ -67,7 +45,7 @@ fn one(fd: i32) -> bool {
     }
     let mut label = io::buffer();
     let mut file = io::buffer();
-    let shown = part(fd, wide(head[1]), &mut label);
+    let shown = part(fd, two(head[1], 0), &mut label);
     let size = part(fd, two(head[2], head[3]), &mut file);
     io::write_all(1, &label[..shown]);
     io::write_all(1, b": ");

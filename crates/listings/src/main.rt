@@ -1,29 +1,7 @@
 // Writes the listing of every case: those of cases.bin in one piece each, those of random.bin in pieces of 4,096 bytes.
 // A case is four bytes (the grammar's length and the history's, low byte first), then the grammar and the history, the first 4,096 bytes of each.
-ghost use Prim.Native.Nat.{_≤_};
-ghost use Rattle.io.specs.Counts.{Counts};
-
-fn wide(x: u8) -> usize
-    ensures { λ r. ⌜ r ≤ 255 ⌝ }
-{
-    x as usize
-}
-
-fn two(low: u8, high: u8) -> usize
-    ensures { λ r. ⌜ r ≤ 65535 ⌝ }
-{
-    wide(low) + wide(high) * 256
-}
-
-// Reads n bytes, or as many as the buffer holds, to the buffer's start.
-fn part(fd: i32, n: usize, buf: &mut [u8]) -> usize
-    requires { ⌜ n ≤ 65535 ⌝ }
-    ensures { λ r. ⌜ Counts r (now (buf .exit)) ⌝ }
-{
-    let k = io::count(n as isize, buf);
-    io::read_full(fd, &mut buf[..k]);
-    io::count(k as isize, buf)
-}
+use packed::part;
+use packed::two;
 
 // Writes the listing's first 65,536 bytes; no case has more.
 fn show_whole(grammar: &[u8], history: &[u8]) {

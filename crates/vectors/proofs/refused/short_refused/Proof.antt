@@ -1,0 +1,48 @@
+-- `vectors::refused::short_refused` is safe: the buffers are long enough to be cut.
+-- Assumes nothing.
+use borrow.Author.Needs.{needs}
+use mathlib.Core.Path.{sym}
+use lib.Seq.{length-take-le}
+use native.Mathlib.Omega.{arith}
+use borrow.Author.Needs.{needs}
+use mathlib.Core.Path.{sym}
+use lib.Seq.{length-take-le}
+use Rattle.vectors.proofs.refused.short_refused.Statement.{statement}
+use Rattle.vectors.proofs.refused.short_refused.Tie as tie
+
+array-borrow-prefix-lent : tie.Need-array-borrow-prefix-lent
+array-borrow-prefix-lent c = search needs
+
+slice-aggregate-lenders-refused : tie.Need-slice-aggregate-lenders-refused
+slice-aggregate-lenders-refused c = sym (length-take-le _ _ (omega arith))
+
+mul-words : tie.Need-mul-words
+mul-words c = search needs
+
+add-words : tie.Need-add-words
+add-words c = search needs
+
+array-borrow-prefix-words : tie.Need-array-borrow-prefix-words
+array-borrow-prefix-words c = search needs
+
+slice-aggregate-lenders-refused-2 : tie.Need-slice-aggregate-lenders-refused-2
+slice-aggregate-lenders-refused-2 c = sym (length-take-le _ _ (omega arith))
+
+lenders-refused-requires : tie.Need-lenders-refused-requires
+lenders-refused-requires c κs = search needs
+
+returns : tie.Need-returns
+returns c = search needs
+
+pub short-refused-spec : {M : Type 1} → statement M
+short-refused-spec =
+    tie.close
+    (tie.spec
+    array-borrow-prefix-lent
+    slice-aggregate-lenders-refused
+    mul-words
+    add-words
+    array-borrow-prefix-words
+    slice-aggregate-lenders-refused-2
+    lenders-refused-requires
+    returns)
