@@ -10,20 +10,20 @@ ghost use Rattle.vpg.specs.Calls.{callOn, overEntries};
 ghost use Rattle.masks.specs.Masks.{masks, Fits};
 ghost use Rattle.masks.specs.Pending.{pendingAt, dueAt};
 ghost use Rattle.masks.specs.Walk.{inner, later};
-ghost use Rattle.tables.specs.Table.{rulesIn};
+ghost use Rattle.tables.specs.Table.{ruleIn, rulesIn};
 ghost use Rattle.tables.specs.Ready.{Below, Ready, grammarIn};
 ghost use Rattle.history_file.specs.HistoryFile.{tokensOf};
 ghost use Rattle.levels.specs.Levels.{Setting};
 ghost use Rattle.first_run.specs.Fill.{ruleFits, Smallest, Filled};
 ghost use Rattle.first_run.specs.First.{firstSaid};
 
-// Whether the rule is for the nonterminal and can stand here.
-pub fn fits(rule: Rule, l: u16, place: Place) -> bool
-    requires { ⌜ Below 32 rule ⌝ }
-    ensures { λ r. ⌜ r ≡ ruleFits rule l place ⌝ }
+// Whether the rule of number r is for the nonterminal and can stand here.
+pub fn fits(table: &[u16; 768], r: usize, l: u16, place: Place) -> bool
+    requires { ⌜ (r < 128) × Below 32 (ruleIn (now table) r) ⌝ }
+    ensures { λ x. ⌜ x ≡ ruleFits (ruleIn (now (table .entry)) r) l place ⌝ }
 {
-    if places::left_of(rule) == l {
-        places::applies(rule, place)
+    if tables::left_in(table, r) == l {
+        places::applies(table, r, place)
     } else {
         false
     }
@@ -36,7 +36,7 @@ pub fn smallest(table: &[u16; 768], count: usize, l: u16, place: Place) -> usize
 {
     let mut r: usize = 0;
     while r < count {
-        if fits(tables::rule_of(table, r), l, place) {
+        if fits(table, r, l, place) {
             return r;
         }
         r += 1;

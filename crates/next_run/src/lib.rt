@@ -44,7 +44,7 @@ pub fn last_place(
         let l = at[p];
         let mut r = buf[p] as usize + 1;
         while r < count {
-            if first_run::fits(tables::rule_of(table, r), l, place) {
+            if first_run::fits(table, r, l, place) {
                 break 'search Found::At(p, r);
             }
             r += 1;

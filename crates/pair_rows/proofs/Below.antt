@@ -1,16 +1,10 @@
--- The nonterminals that a rule is for and that follow it are below 32, where all its nonterminals are.
+-- The nonterminals that follow a rule are below 32, where all its nonterminals are.
 -- Assumes nothing.
 use Prim.Native.Nat.{_<_}
 use Rattle.vpg.specs.declared.Rule.{Rule}
-use Rattle.vpg.specs.Steps.{left}
 use Rattle.tables.specs.Ready.{Below}
 use Rattle.pair_rows.specs.declared.Pattern.{Pattern}
 use Rattle.pair_rows.specs.Row.{followsBy}
-
-pub left-below : (R : Rule) → Below 32 R → left R < 32
-left-below (Rule.Empty M) h = h
-left-below (Rule.Mark M c M₁) h = h .0
-left-below (Rule.Step M a M₁ b M₂) h = h .0
 
 pub follows-below : (p : Pattern) (R : Rule) → Below 32 R → followsBy p R < 32
 follows-below p (Rule.Empty M) h = h

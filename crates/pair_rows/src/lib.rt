@@ -7,7 +7,7 @@ ghost use mathlib.Core.Path.{_≡_};
 ghost use mathlib.Core.Bool.{_&&_};
 ghost use Prim.Native.Nat.{_<_};
 ghost use lib.Dec.{eqb};
-ghost use Rattle.vpg.specs.Steps.{left};
+ghost use Rattle.tables.specs.Table.{ruleIn};
 ghost use Rattle.tables.specs.Ready.{Below, Ready};
 ghost use Rattle.pair_rows.specs.Row.{emptyMatches, markMatches, stepMatches, matchesBy, stepFollows, followsBy, gained, rowAfter};
 
@@ -47,16 +47,6 @@ fn wide(l: u16) -> usize
     ensures { λ r. ⌜ r ≡ l ⌝ }
 {
     l as usize
-}
-
-fn left_of(rule: Rule) -> usize
-    ensures { λ r. ⌜ r ≡ left rule ⌝ }
-{
-    match rule {
-        Rule::Empty(l) => wide(l),
-        Rule::Mark(l, _, _) => wide(l),
-        Rule::Step(l, _, _, _, _) => wide(l),
-    }
 }
 
 fn is_empty(p: Pattern) -> bool
@@ -128,12 +118,13 @@ fn follows(p: Pattern, rule: Rule) -> usize
     }
 }
 
-// The set m, and what follows where the rule is for a nonterminal of the row and is one of those looked for.
-fn gain(p: Pattern, row: u32, done: u32, m: u32, rule: Rule) -> u32
-    requires { ⌜ Below 32 rule ⌝ }
-    ensures { λ r. ⌜ r ≡ gained p row done m rule ⌝ }
+// The set m, and what follows where rule k is for a nonterminal of the row and is one of those looked for.
+fn gain(p: Pattern, row: u32, done: u32, m: u32, table: &[u16; 768], k: usize) -> u32
+    requires { ⌜ (k < 128) × Below 32 (ruleIn (now table) k) ⌝ }
+    ensures { λ r. ⌜ r ≡ gained p row done m (ruleIn (now (table .entry)) k) ⌝ }
 {
-    if bits::has(row, left_of(rule)) {
+    if bits::has(row, wide(tables::left_in(table, k))) {
+        let rule = tables::rule_of(table, k);
         if matches_rule(p, done, rule) {
             return bits::with(m, follows(p, rule));
         }
@@ -152,7 +143,7 @@ pub fn row_after(table: &[u16; 768], count: usize, p: Pattern, row: u32, done: u
     let mut m: u32 = 0;
     let mut k: usize = 0;
     while k < count {
-        m = gain(p, row, done, m, tables::rule_of(table, k));
+        m = gain(p, row, done, m, table, k);
         k += 1;
     }
     m

@@ -1,6 +1,6 @@
 -- Places and words: the rules that can stand at a place are those that can stand before the tokens there.
 -- Assumes nothing.
-use Prim.Native.Nat.{ℕ, zero, suc, _<_}
+use Prim.Native.Nat.{ℕ, zero, suc}
 use mathlib.Core.Path.{_≡_, refl, sym, _∙_, ap}
 use mathlib.Core.Bool.{Bool, true, false, cond, _&&_, _||_, or-false, or-assoc, and-true, and-false}
 use mathlib.Core.List.{List, [], _∷_, _++_}
@@ -13,14 +13,8 @@ use Rattle.vpg.specs.Grammar.{Rules}
 use Rattle.vpg.specs.Steps.{left}
 use Rattle.masks.specs.Masks.{any, lefts}
 use Rattle.tables.specs.Table.{ruleIn, rulesIn}
-use Rattle.tables.specs.Ready.{Below}
 use Rattle.places.specs.declared.Place.{Place}
 use Rattle.places.specs.Place.{appliesTo, withLeft, levelIn}
-
-pub below-left : (n : ℕ) (r : Rule) → Below n r → left r < n
-below-left n (Rule.Empty l) h = h
-below-left n (Rule.Mark l c l1) h = h .0
-below-left n (Rule.Step l a l1 b l2) h = h .0
 
 pub eqb-comm : (x y : ℕ) → eqb x y ≡ eqb y x
 eqb-comm x y = go (eqb y x) refl

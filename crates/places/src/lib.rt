@@ -2,12 +2,11 @@
 use vpg::CloseName;
 use vpg::MarkName;
 use vpg::OpenName;
-use vpg::Rule;
 use vpg::Token;
 ghost use mathlib.Core.Path.{_≡_};
 ghost use Prim.Native.Nat.{_<_};
 ghost use lib.Dec.{eqb};
-ghost use Rattle.vpg.specs.Steps.{left};
+ghost use Rattle.tables.specs.Table.{ruleIn};
 ghost use Rattle.tables.specs.Ready.{Below, Ready};
 ghost use Rattle.places.specs.Place.{isClose, markApplies, stepApplies, appliesTo, withLeft, levelIn};
 
@@ -93,37 +92,29 @@ fn step_applies(a: OpenName, to: u16, b: CloseName, last: u16, place: Place) -> 
     }
 }
 
-// Whether the rule can stand here, whatever nonterminal it is for.
-pub fn applies(rule: Rule, place: Place) -> bool
-    requires { ⌜ Below 32 rule ⌝ }
-    ensures { λ r. ⌜ r ≡ appliesTo rule place ⌝ }
+// Whether the rule of number r can stand here, whatever nonterminal it is for. Its numbers are looked at only as far as need be.
+pub fn applies(table: &[u16; 768], r: usize, place: Place) -> bool
+    requires { ⌜ (r < 128) × Below 32 (ruleIn (now table) r) ⌝ }
+    ensures { λ x. ⌜ x ≡ appliesTo (ruleIn (now (table .entry)) r) place ⌝ }
 {
+    let v = tables::six_in(table, r);
     let token = place.token;
-    match rule {
-        Rule::Empty(_) => is_close(token),
-        Rule::Mark(_, c, l1) => mark_applies(c, l1, place),
-        Rule::Step(_, a, l1, b, l2) => step_applies(a, l1, b, l2, place),
+    if v.0 == 0 {
+        return is_close(token);
     }
+    if v.0 == 1 {
+        return mark_applies(MarkName(v.2), v.3, place);
+    }
+    step_applies(OpenName(v.2), v.3, CloseName(v.4), v.5, place)
 }
 
-// The nonterminal that a rule is for.
-pub fn left_of(rule: Rule) -> u16
-    ensures { λ r. ⌜ r ≡ left rule ⌝ }
+// The set with the nonterminal of rule r, where the rule can stand here.
+fn with_left(set: u32, table: &[u16; 768], r: usize, place: Place) -> u32
+    requires { ⌜ (r < 128) × Below 32 (ruleIn (now table) r) ⌝ }
+    ensures { λ x. ⌜ x ≡ withLeft set (ruleIn (now (table .entry)) r) place ⌝ }
 {
-    match rule {
-        Rule::Empty(l) => l,
-        Rule::Mark(l, _, _) => l,
-        Rule::Step(l, _, _, _, _) => l,
-    }
-}
-
-// The set with the rule's nonterminal, where the rule can stand here.
-fn with_left(set: u32, rule: Rule, place: Place) -> u32
-    requires { ⌜ Below 32 rule ⌝ }
-    ensures { λ r. ⌜ r ≡ withLeft set rule place ⌝ }
-{
-    if applies(rule, place) {
-        bits::with(set, left_of(rule) as usize)
+    if applies(table, r, place) {
+        bits::with(set, tables::left_in(table, r) as usize)
     } else {
         set
     }
@@ -137,7 +128,7 @@ pub fn level(table: &[u16; 768], count: usize, place: Place) -> u32
     let mut set: u32 = 0;
     let mut r: usize = 0;
     while r < count {
-        set = with_left(set, tables::rule_of(table, r), place);
+        set = with_left(set, table, r, place);
         r += 1;
     }
     set

@@ -11,7 +11,7 @@ use borrow.Author.Tests.{eqb-true, eqb-false, eq-eqb, ne-eqb, lt-ltb, le-ltb, lt
 use lib.Arith.{digits-div, digits-mod}
 use lib.Bits.{or-shifted-r}
 use lib.Dec.{eqb, ltb}
-use lib.ListN.{length, getD}
+use lib.ListN.{length, getD, length-set}
 use lib.Pow.{pow-pos}
 use lib.Seq.{getD-set-same, getD-set-other}
 use Rattle.bits.specs.Bit.{bit, addBit}
@@ -24,6 +24,9 @@ or-yes a x e = rw e (or-true a)
 
 or-no : (a x : Bool) → x ≡ false → (a || x) ≡ a
 or-no a x e = rw e (or-false a)
+
+pub add-length : (W : ℕ) (ws : List ℕ) (r : ℕ) → length (addIn W ws r) ≡ length ws
+add-length W ws r = length-set ws (r / W) (addBit (getD ws (r / W) 0) (r % W))
 
 -- ── one word ──
 

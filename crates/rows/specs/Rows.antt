@@ -11,6 +11,7 @@ use Rattle.tables.specs.Table.{ruleIn}
 use Rattle.places.specs.declared.Place.{Place}
 use Rattle.places.specs.Place.{appliesTo}
 use Rattle.rows.specs.declared.Row.{Row}
+use Rattle.rows.specs.declared.Ways.{Ways}
 use Rattle.rows.specs.Words.{addIn}
 
 -- is the rule kept, where the nonterminals `here` can stand
@@ -26,6 +27,12 @@ abbrev pub behindWith : ℕ → Rule → ℕ
 behindWith x (Rule.Empty M) = x
 behindWith x (Rule.Mark M c M₁) = x
 behindWith x (Rule.Step M a M₁ b M₂) = addBit x M₂
+
+abbrev pub waysWith : Ways → Rule → Ways
+waysWith x R = record { held = x .held + 1; next = nextWith (x .next) R; behind = behindWith (x .behind) R }
+
+abbrev pub rowOf : List ℕ → Ways → Row
+rowOf ws x = record { words = ws; held = x .held; next = x .next; behind = x .behind }
 
 abbrev pub emptyRow : Row
 emptyRow = record { words = replicate 4 0; held = 0; next = 0; behind = 0 }

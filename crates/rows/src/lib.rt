@@ -3,9 +3,11 @@ use places::Place;
 use vpg::Rule;
 ghost use mathlib.Core.Path.{_≡_};
 ghost use Prim.Native.Nat.{_<_};
+ghost use lib.ListN.{length};
+ghost use Rattle.tables.specs.Table.{ruleIn};
 ghost use Rattle.tables.specs.Ready.{Below, Ready};
 ghost use Rattle.rows.specs.Words.{addIn};
-ghost use Rattle.rows.specs.Rows.{keepsAt, nextWith, behindWith, emptyRow, rowWith, rowTurn, rowIn};
+ghost use Rattle.rows.specs.Rows.{keepsAt, nextWith, behindWith, waysWith, rowIn};
 
 // The rules kept at a position: rule 32k + b as digit b of word k, how many they are, the nonterminals at the next position and
 // those behind the close.
@@ -16,13 +18,20 @@ pub struct Row {
     pub behind: u32,
 }
 
-// Whether the rule's nonterminal can stand here, and the rule too.
-fn keeps(here: u32, rule: Rule, place: Place) -> bool
-    requires { ⌜ Below 32 rule ⌝ }
-    ensures { λ r. ⌜ r ≡ keepsAt here place rule ⌝ }
+// How many rules are kept at a position, the nonterminals at the next position and those behind the close.
+struct Ways {
+    held: u32,
+    next: u32,
+    behind: u32,
+}
+
+// Whether the nonterminal of rule r can stand here, and the rule too. Few rules can, whatever their nonterminal: that is asked first.
+fn keeps(here: u32, table: &[u16; 768], r: usize, place: Place) -> bool
+    requires { ⌜ (r < 128) × Below 32 (ruleIn (now table) r) ⌝ }
+    ensures { λ x. ⌜ x ≡ keepsAt here place (ruleIn (now (table .entry)) r) ⌝ }
 {
-    if bits::has(here, places::left_of(rule) as usize) {
-        places::applies(rule, place)
+    if places::applies(table, r, place) {
+        bits::has(here, tables::left_in(table, r) as usize)
     } else {
         false
     }
@@ -52,53 +61,25 @@ fn behind_with(set: u32, rule: Rule) -> u32
     }
 }
 
-// The set of rules with rule r.
-fn words_with(words: [u32; 4], r: usize) -> [u32; 4]
-    requires { ⌜ r < 128 ⌝ }
-    ensures { λ x. ⌜ x ≡ addIn 32 words r ⌝ }
+// Adds rule r to the set of rules.
+fn add(words: &mut [u32; 4], r: usize)
+    requires { ⌜ (length (now words) ≡ 4) × (r < 128) ⌝ }
+    ensures { λ _. ⌜ now (words .exit) ≡ addIn 32 (now (words .entry)) r ⌝ }
 {
-    let mut x = words;
-    x[r / 32] = bits::with(x[r / 32], r % 32);
-    x
+    words[r / 32] = bits::with(words[r / 32], r % 32);
 }
 
-fn empty_row() -> Row
-    ensures { λ x. ⌜ x ≡ emptyRow ⌝ }
+// The ways on, with those of a rule that is kept.
+fn ways_with(ways: Ways, rule: Rule) -> Ways
+    requires { ⌜ (ways .held < 128) × Below 32 rule ⌝ }
+    ensures { λ x. ⌜ x ≡ waysWith ways rule ⌝ }
 {
-    Row {
-        words: [0; 4],
-        held: 0,
-        next: 0,
-        behind: 0,
-    }
-}
-
-// The row with rule r.
-fn row_with(row: Row, r: usize, rule: Rule) -> Row
-    requires { ⌜ (r < 128) × (row .held < 128) × Below 32 rule ⌝ }
-    ensures { λ x. ⌜ x ≡ rowWith row r rule ⌝ }
-{
-    let before = row.words;
-    let words = words_with(before, r);
-    let next = next_with(row.next, rule);
-    let behind = behind_with(row.behind, rule);
-    Row {
-        words,
-        held: row.held + 1,
+    let next = next_with(ways.next, rule);
+    let behind = behind_with(ways.behind, rule);
+    Ways {
+        held: ways.held + 1,
         next,
         behind,
-    }
-}
-
-// The row with rule r, where the rule is kept.
-fn row_turn(row: Row, r: usize, here: u32, rule: Rule, place: Place) -> Row
-    requires { ⌜ (r < 128) × (row .held < 128) × Below 32 rule ⌝ }
-    ensures { λ x. ⌜ x ≡ rowTurn row r here rule place ⌝ }
-{
-    if keeps(here, rule, place) {
-        row_with(row, r, rule)
-    } else {
-        row
     }
 }
 
@@ -107,11 +88,25 @@ pub fn row_at(table: &[u16; 768], count: usize, here: u32, place: Place) -> Row
     requires { ⌜ Ready (now table) count ⌝ }
     ensures { λ x. ⌜ x ≡ rowIn (now (table .entry)) here place count ⌝ }
 {
-    let mut row = empty_row();
+    let mut words = [0u32; 4];
+    let mut ways = Ways {
+        held: 0,
+        next: 0,
+        behind: 0,
+    };
     let mut r: usize = 0;
     while r < count {
-        row = row_turn(row, r, here, tables::rule_of(table, r), place);
+        let k = r;
         r += 1;
+        if keeps(here, table, k, place) {
+            add(&mut words, k);
+            ways = ways_with(ways, tables::rule_of(table, k));
+        }
     }
-    row
+    Row {
+        words,
+        held: ways.held,
+        next: ways.next,
+        behind: ways.behind,
+    }
 }

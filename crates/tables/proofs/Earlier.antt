@@ -10,6 +10,7 @@ use native.Mathlib.Omega.{arith}
 use lib.Dec.{eqb}
 use borrow.Author.Tests.{eqb-true, eq-eqb}
 use Rattle.vpg.specs.declared.Rule.{Rule}
+use Rattle.vpg.specs.Steps.{left}
 use Rattle.tables.specs.declared.Six.{Six}
 use Rattle.tables.specs.Table.{sixOf, ruleFrom, sameSix, sameRule, earlier, ruleIn, rulesIn}
 use Rattle.tables.proofs.Tables.{from-of}
@@ -42,6 +43,13 @@ pub same-rule-is : (r x : Rule) → (sameRule r x ≡ true) ↔ (r ≡ x)
 unfolding sameRule
 same-rule-is r x =
     (λ h. sym (from-of r) ∙ (ap ruleFrom (six-is (sixOf r) (sixOf x) h) ∙ from-of x), λ e. rw e (six-self (sixOf x)))
+
+pub other-left : (r x : Rule) → (left r ≡ left x → ⊥) → sameRule r x ≡ false
+other-left r x apart = go (sameRule r x) refl
+  where
+    go : (b : Bool) → sameRule r x ≡ b → b ≡ false
+    go true e = absurd (apart (ap left (same-rule-is r x .0 e)))
+    go false e = refl
 
 pub earlier-is : (r : Rule) (rs : List Rule) → (earlier r rs ≡ true) ↔ List·Memᴰ r rs
 unfolding earlier

@@ -3,17 +3,22 @@
 use Prim.Native.Nat.{ℕ, zero, suc, _+_, _*_, _<_, _≤_}
 use mathlib.Core.Path.{_≡_, refl, sym, ap, _∙_}
 use mathlib.Core.Logic.{⊎-elim}
+use mathlib.Core.Bool.{Bool, true, false}
 use mathlib.Core.List.{List, [], _∷_, _++_}
 use mathlib.Core.Option.{some}
 use native.Mathlib.Omega.{arith}
 use native.Mathlib.Numerals.{add-one}
 use native.Mathlib.Nat.{add-zero, zero-add, eq-or-lt-of-le, le-of-suc-le-suc}
+use borrow.Author.Tests.{eq-eqb, ne-eqb}
+use lib.Dec.{eqb}
 use lib.ListN.{length, getD, getElem?, set, replicate, length-set, length-append, List·getD-append}
 use lib.Seq.{getD-set-same, getD-set-other, ext-getD}
 use Rattle.vpg.specs.declared.Rule.{Rule}
+use Rattle.vpg.specs.Steps.{left}
 use Rattle.vpg.proofs.Basics.{at-left, at-below}
 use Rattle.tables.specs.declared.Six.{Six}
-use Rattle.tables.specs.Table.{sixOf, sixIn, ruleFrom, ruleIn, rulesIn, putSix, fill, tableOf}
+use Rattle.tables.specs.Ready.{Below}
+use Rattle.tables.specs.Table.{sixOf, sixIn, either, ruleFrom, ruleIn, rulesIn, putSix, fill, tableOf}
 
 -- what stands before the place of a store, and what stands at it
 low : (l : List ℕ) (i j a : ℕ) → j < i → getD (set l i a) j 0 ≡ getD l j 0
@@ -68,6 +73,44 @@ pub from-of : (r : Rule) → ruleFrom (sixOf r) ≡ r
 from-of (Rule.Empty l) = refl
 from-of (Rule.Mark l c l1) = refl
 from-of (Rule.Step l a l1 b l2) = refl
+
+-- the nonterminal that a rule is for is the second of its numbers
+left-from : (v : Six) → left (ruleFrom v) ≡ v .1
+left-from v = go (eqb (v .0) 0) (eqb (v .0) 1)
+  where
+    go : (empty mark : Bool) → left (either empty (Rule.Empty (v .1)) (either mark (Rule.Mark (v .1) (record { 0 = v .2 }) (v .3)) (Rule.Step (v .1) (record { 0 = v .2 }) (v .3) (record { 0 = v .4 }) (v .5)))) ≡ v .1
+    go true mark = refl
+    go false true = refl
+    go false false = refl
+
+pub left-in : (t : List ℕ) (k : ℕ) → left (ruleIn t k) ≡ getD t (k * 6 + 1) 0
+unfolding ruleIn
+left-in t k = left-from (sixIn t (k * 6))
+
+-- what the first number says of a rule
+pub rule-empty : (t : List ℕ) (k : ℕ) (v : Six) → v ≡ sixIn t (k * 6) → v .0 ≡ 0 → ruleIn t k ≡ Rule.Empty (v .1)
+unfolding ruleIn
+rule-empty t k v e z = sym (ap ruleFrom e) ∙ rw (eq-eqb (v .0) 0 z)
+
+pub rule-mark : (t : List ℕ) (k : ℕ) (v : Six) → v ≡ sixIn t (k * 6) → v .0 ≡ 1 → ruleIn t k ≡ Rule.Mark (v .1) (record { 0 = v .2 }) (v .3)
+unfolding ruleIn
+rule-mark t k v e z = sym (ap ruleFrom e) ∙ rw z
+
+pub rule-step : (t : List ℕ) (k : ℕ) (v : Six) → v ≡ sixIn t (k * 6) → (v .0 ≡ 0 → ⊥) → (v .0 ≡ 1 → ⊥)
+    → ruleIn t k ≡ Rule.Step (v .1) (record { 0 = v .2 }) (v .3) (record { 0 = v .4 }) (v .5)
+unfolding ruleIn
+rule-step t k v e y z = sym (ap ruleFrom e) ∙ rw (ne-eqb (v .0) 0 y, ne-eqb (v .0) 1 z)
+
+-- where all nonterminals of a rule are below n, so is the one that it is for
+pub below-left : (n : ℕ) (r : Rule) → Below n r → left r < n
+below-left n (Rule.Empty l) h = h
+below-left n (Rule.Mark l c l1) h = h .0
+below-left n (Rule.Step l a l1 b l2) h = h .0
+
+pub left-of-six : (r : Rule) → sixOf r .1 ≡ left r
+left-of-six (Rule.Empty l) = refl
+left-of-six (Rule.Mark l c l1) = refl
+left-of-six (Rule.Step l a l1 b l2) = refl
 
 pub rule-low : (t : List ℕ) (k j : ℕ) (v : Six) → j < k → ruleIn (putSix t k v) j ≡ ruleIn t j
 unfolding ruleIn

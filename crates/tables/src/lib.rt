@@ -5,8 +5,9 @@ use vpg::OpenName;
 use vpg::Rule;
 ghost use mathlib.Core.Path.{_≡_};
 ghost use mathlib.Core.Bool.{_&&_};
-ghost use Prim.Native.Nat.{_≤_, _<_};
-ghost use Rattle.tables.specs.Table.{sixOf, ruleFrom, ruleIn, rulesIn, putSix, sameRule, earlier};
+ghost use Prim.Native.Nat.{_*_, _≤_, _<_};
+ghost use Rattle.vpg.specs.Steps.{left};
+ghost use Rattle.tables.specs.Table.{sixOf, ruleFrom, sixIn, ruleIn, rulesIn, putSix, sameRule, earlier};
 
 // A rule as six numbers: the form, the fields in file order, and zeros.
 pub struct Six(pub u16, pub u16, pub u16, pub u16, pub u16, pub u16);
@@ -33,20 +34,36 @@ fn rule_from(v: Six) -> Rule
     Rule::Step(v.1, OpenName(v.2), v.3, CloseName(v.4), v.5)
 }
 
-// The rule of number k.
-pub fn rule_of(table: &[u16; 768], k: usize) -> Rule
+// The six numbers of rule k, for loops over the rules: most rules are passed over by a number or two.
+pub fn six_in(table: &[u16; 768], k: usize) -> Six
     requires { ⌜ k < 128 ⌝ }
-    ensures { λ r. ⌜ r ≡ ruleIn (now (table .entry)) k ⌝ }
+    ensures { λ r. ⌜ r ≡ sixIn (now (table .entry)) (k * 6) ⌝ }
 {
     let b = k * 6;
-    rule_from(Six(
+    Six(
         table[b],
         table[b + 1],
         table[b + 2],
         table[b + 3],
         table[b + 4],
         table[b + 5],
-    ))
+    )
+}
+
+// The rule of number k.
+pub fn rule_of(table: &[u16; 768], k: usize) -> Rule
+    requires { ⌜ k < 128 ⌝ }
+    ensures { λ r. ⌜ r ≡ ruleIn (now (table .entry)) k ⌝ }
+{
+    rule_from(six_in(table, k))
+}
+
+// The nonterminal that the rule of number k is for: it is known before the rule is taken apart.
+pub fn left_in(table: &[u16; 768], k: usize) -> u16
+    requires { ⌜ k < 128 ⌝ }
+    ensures { λ r. ⌜ r ≡ left (ruleIn (now (table .entry)) k) ⌝ }
+{
+    table[k * 6 + 1]
 }
 
 // Writes the rule of number k.
@@ -84,15 +101,28 @@ fn same_rule(r: Rule, x: Rule) -> bool
     )
 }
 
+// Whether the rule, which is for l, is that of number j: most rules differ in l already.
+fn same_at(table: &[u16; 768], j: usize, l: u16, rule: Rule) -> bool
+    requires { ⌜ (j < 128) × (l ≡ left rule) ⌝ }
+    ensures { λ b. ⌜ b ≡ sameRule rule (ruleIn (now (table .entry)) j) ⌝ }
+{
+    if left_in(table, j) != l {
+        return false;
+    }
+    same_rule(rule, rule_of(table, j))
+}
+
 // Whether the rule is one of the first n.
 pub fn seen(table: &[u16; 768], n: usize, rule: Rule) -> bool
     requires { ⌜ n ≤ 128 ⌝ }
     ensures { λ r. ⌜ r ≡ earlier rule (rulesIn (now (table .entry)) n) ⌝ }
 {
+    let v = six_of(rule);
+    let l = v.1;
     let mut j = n;
     while 0 < j {
         j -= 1;
-        if same_rule(rule, rule_of(table, j)) {
+        if same_at(table, j, l, rule) {
             return true;
         }
     }

@@ -28,7 +28,7 @@ fn stands(table: &[u16; 768], count: usize, r: usize, l: u16, place: Place) -> b
     ensures { λ b. ⌜ b ≡ (ltb r count && ruleFits (ruleIn (now (table .entry)) r) l place) ⌝ }
 {
     if r < count {
-        first_run::fits(tables::rule_of(table, r), l, place)
+        first_run::fits(table, r, l, place)
     } else {
         false
     }

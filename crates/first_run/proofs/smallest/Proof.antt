@@ -20,17 +20,15 @@ abbrev μ-loop : tie.MeasureT-loop
 loop-holds : tie.Need-loop-holds Inv-loop μ-loop
 loop-holds c = (omega arith, λ q h. absurd (omega arith))
 
-rule-of-requires : tie.Need-rule-of-requires Inv-loop μ-loop
-rule-of-requires c κs = omega (arith, c .before .before .pre .few)
-
 fits-requires : tie.Need-fits-requires Inv-loop μ-loop
-fits-requires c κs = rw (c .rule-of .ensures) (c .before .before .before .pre .small _ (c .before .loop-test .taken))
+fits-requires c κs =
+    let s = c .before .before in
+    (omega (arith, s .pre .few), s .pre .small _ (c .loop-test .taken))
 
 returns : tie.Need-returns Inv-loop μ-loop
 returns c =
-    let l = c .before .before .before .before in
-    let here = sym (c .before .fits2 .ensures) ∙ c .if1 .taken in
-    record { found = λ h. rw (c .before .before .rule-of .ensures) at here; least = λ q h k. l .loop .inv .1 q k }
+    let l = c .before .before .before in
+    record { found = λ h. sym (c .before .fits2 .ensures) ∙ c .if1 .taken; least = λ q h k. l .loop .inv .1 q k }
 
 add-r : tie.Need-add-r Inv-loop μ-loop
 add-r c = search needs
@@ -40,9 +38,8 @@ loop-less c = search needs
 
 loop-again : tie.Need-loop-again Inv-loop μ-loop
 loop-again c =
-    let l = c .before .before .before .before in
-    let here = sym (c .before .fits2 .ensures) ∙ c .if1 .left in
-    (omega arith, below-more _ (l .loop .r) (l .loop .inv .1) (rw (c .before .before .rule-of .ensures) at here))
+    let l = c .before .before .before in
+    (omega arith, below-more _ (l .loop .r) (l .loop .inv .1) (sym (c .before .fits2 .ensures) ∙ c .if1 .left))
 
 returns-2 : tie.Need-returns-2 Inv-loop μ-loop
 returns-2 c =
@@ -56,7 +53,6 @@ smallest-spec =
     Inv-loop
     μ-loop
     loop-holds
-    rule-of-requires
     fits-requires
     returns
     add-r

@@ -88,19 +88,11 @@ search-again c =
     let e : suc p ≡ l .search .p = omega arith in
     (omega arith, none-next (a .table .now) (a .count) (tokensOf (a .w .now)) (a .mask .now) (a .at .now) (a .buf .now) (s .pre .0 .leveled) p (q .place-at .result) (q .place-at .ensures) (i .loop .r) (c .loop-test .left) (i .loop .inv .1) (rw e (l .search .inv .1)))
 
-rule-of-requires : tie.Need-rule-of-requires Inv-loop μ-loop Inv-search μ-search
-rule-of-requires c κs =
-    let l = c .before .before .before .before .before .before in
-    let s = l .before .before .before in
-    let a = s .args in
-    omega (arith, s .pre .0 .ready .few)
-
 fits-requires : tie.Need-fits-requires Inv-loop μ-loop Inv-search μ-search
 fits-requires c κs =
-    let l = c .before .before .before .before .before .before .before in
+    let l = c .before .before .before .before .before .before in
     let s = l .before .before .before in
-    let a = s .args in
-    rw (c .rule-of .ensures) (s .pre .0 .ready .small _ (c .before .loop-test .taken))
+    (omega (arith, s .pre .0 .ready .few), s .pre .0 .ready .small _ (c .loop-test .taken))
 
 add-r-2 : tie.Need-add-r-2 Inv-loop μ-loop Inv-search μ-search
 add-r-2 c = search needs
@@ -110,12 +102,12 @@ loop-less c = search needs
 
 loop-again : tie.Need-loop-again Inv-loop μ-loop Inv-search μ-search
 loop-again c =
-    let l = c .before .before .before .before .before .before .before .before .before in
+    let l = c .before .before .before .before .before .before .before .before in
     let s = l .before .before .before in
     let a = s .args in
-    let i = c .before .before .before .before in
+    let i = c .before .before .before in
     let no = sym (c .before .fits2 .ensures) ∙ c .if2 .left in
-    (omega arith, between-more (a .table .now) _ _ _ (i .loop .r) (i .loop .inv .1) (rw (c .before .before .rule-of .ensures) at no))
+    (omega arith, between-more (a .table .now) _ _ _ (i .loop .r) (i .loop .inv .1) no)
 
 returns : tie.Need-returns Inv-loop μ-loop Inv-search μ-search
 returns c =
@@ -124,16 +116,16 @@ returns c =
 
 returns-2 : tie.Need-returns-2 Inv-loop μ-loop Inv-search μ-search
 returns-2 c =
-    let l = c .before .before .before .before .before .before .before .before .before in
+    let l = c .before .before .before .before .before .before .before .before in
     let s = l .before .before .before in
     let a = s .args in
-    let i = c .before .before .before .before in
-    let q = c .before .before .before .before .before .before .before in
+    let i = c .before .before .before in
+    let q = c .before .before .before .before .before .before in
     let p = l .search .p - 1 in
     let e : suc p ≡ l .search .p = omega arith in
     let yes = sym (c .before .fits2 .ensures) ∙ c .if2 .taken in
-    found-at (a .table .now) (a .count) (tokensOf (a .w .now)) (a .mask .now) (a .at .now) (a .buf .now) (s .pre .0 .leveled) p (q .place-at .result) (q .place-at .ensures) (i .loop .r) (omega (arith, tokens-length (a .w .now))) (i .loop .inv .0) (c .before .before .before .loop-test .taken)
-    (rw (c .before .before .rule-of .ensures) at yes) (i .loop .inv .1) (rw e (l .search .inv .1))
+    found-at (a .table .now) (a .count) (tokensOf (a .w .now)) (a .mask .now) (a .at .now) (a .buf .now) (s .pre .0 .leveled) p (q .place-at .result) (q .place-at .ensures) (i .loop .r) (omega (arith, tokens-length (a .w .now))) (i .loop .inv .0) (c .before .before .loop-test .taken)
+    yes (i .loop .inv .1) (rw e (l .search .inv .1))
 
 pub last-place-spec : {M : Type 1} → statement M
 last-place-spec =
@@ -155,7 +147,6 @@ last-place-spec =
     loop-holds
     search-less
     search-again
-    rule-of-requires
     fits-requires
     add-r-2
     loop-less

@@ -2,12 +2,11 @@
 -- Assumes nothing.
 use Prim.Native.Nat.{_-_, _≤_}
 use native.Mathlib.Omega.{arith}
-use mathlib.Core.Path.{_≡_, sym, _∙_, ap, subst}
+use mathlib.Core.Path.{_≡_, sym, _∙_}
 use borrow.Author.Needs.{needs}
 use Rattle.pair_rows.proofs.Gathers.{gather-turn, no-row}
-use Rattle.pair_rows.specs.Row.{gather, passes, gained, followsBy, rowAfter}
+use Rattle.pair_rows.specs.Row.{gather, passes, followsBy, rowAfter}
 use Rattle.tables.specs.Table.{ruleIn}
-use Rattle.tables.specs.Ready.{Below}
 use Rattle.pair_rows.proofs.row_after.Statement.{statement}
 use Rattle.pair_rows.proofs.row_after.Tie as tie
 
@@ -24,11 +23,10 @@ loop-holds : tie.Need-loop-holds Inv-loop μ-loop
 unfolding gather
 loop-holds c = search needs
 
-rule-of-requires : tie.Need-rule-of-requires Inv-loop μ-loop
-rule-of-requires c κs = let h = c .before .before .before .pre .few in omega arith
-
 gain-requires : tie.Need-gain-requires Inv-loop μ-loop
-gain-requires c κs = subst (Below 32) (sym (c .rule-of .ensures)) (c .before .before .before .before .pre .small _ (c .before .loop-test .taken))
+gain-requires c κs =
+    let s = c .before .before .before in
+    (omega (arith, s .pre .few), s .pre .small _ (c .loop-test .taken))
 
 add-k : tie.Need-add-k Inv-loop μ-loop
 add-k c = search needs
@@ -38,11 +36,10 @@ loop-less c = search needs
 
 loop-again : tie.Need-loop-again Inv-loop μ-loop
 loop-again c =
-    let l = c .before .before .before in
+    let l = c .before .before in
     let a = l .before .before .args in (
       omega arith,
       c .gain .ensures
-          ∙ ap (gained (a .p) (a .row) (a .done) (l .loop .m)) (c .before .rule-of .ensures)
           ∙ gather-turn (λ r. passes (a .p) (a .row) (a .done) (ruleIn (a .table .now) r)) (λ r. followsBy (a .p) (ruleIn (a .table .now) r)) (l .loop .k) (l .loop .m) (l .loop .inv .1),
     )
 
@@ -57,7 +54,6 @@ row-after-spec =
     μ-loop
     returns
     loop-holds
-    rule-of-requires
     gain-requires
     add-k
     loop-less

@@ -1,46 +1,55 @@
--- `places::applies` meets its contract.
+-- `places::applies`: the first number of a rule says its form.
 -- Assumes nothing.
 use borrow.Author.Needs.{needs}
+use Rattle.tables.proofs.Tables.{rule-empty, rule-mark, rule-step}
 use Rattle.places.proofs.applies.Statement.{statement}
 use Rattle.places.proofs.applies.Tie as tie
 
-enum-told : tie.Need-enum-told
-enum-told c = search needs
+six-in-requires : tie.Need-six-in-requires
+six-in-requires c κs = search needs
 
 is-close-requires : tie.Need-is-close-requires
 is-close-requires c κs = search needs
 
-enum-known-rule : tie.Need-enum-known-rule
-enum-known-rule c = search needs
+returns : tie.Need-returns
+returns c =
+    let s = c .before .before .before in
+    let a = s .before .args in
+    rw (rule-empty (a .table .now) (a .r) _ (s .six-in .ensures) (c .before .if1 .taken)) (c .is-close .ensures)
 
 mark-applies-requires : tie.Need-mark-applies-requires
-mark-applies-requires c κs = (rw (c .before .rule .given .1) at (c .before .before .before .pre)) .1
-
-enum-known-rule-2 : tie.Need-enum-known-rule-2
-enum-known-rule-2 c = search needs
-
-step-applies-requires : tie.Need-step-applies-requires
-step-applies-requires c κs = let b = rw (c .before .rule2 .given .1) at (c .before .before .before .pre) in (b .1, b .2)
-
-returns : tie.Need-returns
-returns c = search needs
+mark-applies-requires c κs =
+    let s = c .before .before .before .before in
+    let a = s .before .args in
+    (rw (rule-mark (a .table .now) (a .r) _ (s .six-in .ensures) (c .if2 .taken)) at (s .before .pre .1)) .1
 
 returns-2 : tie.Need-returns-2
-returns-2 c = simp (c .mark-applies .ensures, c .before .before .rule .given .1)
+returns-2 c =
+    let s = c .before .before .before .before .before in
+    let a = s .before .args in
+    rw (rule-mark (a .table .now) (a .r) _ (s .six-in .ensures) (c .before .if2 .taken)) (c .mark-applies .ensures)
+
+step-applies-requires : tie.Need-step-applies-requires
+step-applies-requires c κs =
+    let s = c .before .before .before .before in
+    let a = s .before .args in
+    let b = rw (rule-step (a .table .now) (a .r) _ (s .six-in .ensures) (c .before .before .if1 .left) (c .if2 .left)) at (s .before .pre .1) in
+    (b .1, b .2)
 
 returns-3 : tie.Need-returns-3
-returns-3 c = simp (c .step-applies .ensures, c .before .before .rule2 .given .1)
+returns-3 c =
+    let s = c .before .before .before .before .before in
+    let a = s .before .args in
+    rw (rule-step (a .table .now) (a .r) _ (s .six-in .ensures) (c .before .before .before .if1 .left) (c .before .if2 .left)) (c .step-applies .ensures)
 
 pub applies-spec : {M : Type 1} → statement M
 applies-spec =
     tie.close
     (tie.spec
-    enum-told
+    six-in-requires
     is-close-requires
-    enum-known-rule
-    mark-applies-requires
-    enum-known-rule-2
-    step-applies-requires
     returns
+    mark-applies-requires
     returns-2
+    step-applies-requires
     returns-3)

@@ -19,11 +19,10 @@ loop-holds : tie.Need-loop-holds Inv-loop μ-loop
 unfolding levelIn
 loop-holds c = (omega arith, refl)
 
-rule-of-requires : tie.Need-rule-of-requires Inv-loop μ-loop
-rule-of-requires c κs = omega (arith, c .before .before .pre .few)
-
 with-left-requires : tie.Need-with-left-requires Inv-loop μ-loop
-with-left-requires c κs = rw (c .rule-of .ensures) (c .before .before .before .pre .small _ (c .before .loop-test .taken))
+with-left-requires c κs =
+    let s = c .before .before in
+    (omega (arith, s .pre .few), s .pre .small _ (c .loop-test .taken))
 
 add-r : tie.Need-add-r Inv-loop μ-loop
 add-r c = search needs
@@ -34,8 +33,8 @@ loop-less c = search needs
 loop-again : tie.Need-loop-again Inv-loop μ-loop
 unfolding levelIn
 loop-again c =
-    let l = c .before .before .before in
-    (omega arith, rw (add-one, c .with-left .ensures, c .before .rule-of .ensures, l .loop .inv .1))
+    let l = c .before .before in
+    (omega arith, rw (add-one, c .with-left .ensures, l .loop .inv .1))
 
 returns : tie.Need-returns Inv-loop μ-loop
 returns c = let e : c .before .loop .r ≡ c .before .before .args .count = omega arith in rw (c .before .loop .inv .1, e)
@@ -43,13 +42,4 @@ returns c = let e : c .before .loop .r ≡ c .before .before .args .count = omeg
 pub level-spec : {M : Type 1} → statement M
 level-spec =
     tie.close
-    (tie.spec
-    Inv-loop
-    μ-loop
-    loop-holds
-    rule-of-requires
-    with-left-requires
-    add-r
-    loop-less
-    loop-again
-    returns)
+    (tie.spec Inv-loop μ-loop loop-holds with-left-requires add-r loop-less loop-again returns)

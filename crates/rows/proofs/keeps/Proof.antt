@@ -1,29 +1,35 @@
 -- `keeps`: the nonterminal of a rule of the table is below 32.
 -- Assumes nothing.
-use Rattle.places.proofs.Places.{below-left}
 use mathlib.Core.Path.{sym, _∙_}
+use mathlib.Core.Bool.{and-true, and-false}
+use Rattle.tables.specs.Table.{ruleIn}
+use Rattle.tables.proofs.Tables.{below-left}
 use borrow.Author.Needs.{needs}
 use Rattle.rows.proofs.keeps.Statement.{statement}
 use Rattle.rows.proofs.keeps.Tie as tie
 
-left-of-requires : tie.Need-left-of-requires
-left-of-requires c κs = search needs
+applies-requires : tie.Need-applies-requires
+applies-requires c κs = search needs
+
+left-in-requires : tie.Need-left-in-requires
+left-in-requires c κs = search needs
 
 cast-has : tie.Need-cast-has
 cast-has c = search needs
 
 has-requires : tie.Need-has-requires
-has-requires c κs = rw (c .left-of .ensures) (below-left 32 (c .before .args .rule) (c .before .pre))
-
-applies-requires : tie.Need-applies-requires
-applies-requires c κs = search needs
+has-requires c κs =
+    let s = c .before .before .before in
+    rw (c .left-in .ensures) (below-left 32 (ruleIn (s .args .table .now) (s .args .r)) (s .pre .1))
 
 returns : tie.Need-returns
-returns c = let h = c .before .before in simp (c .applies .ensures, ← (h .before .left-of .ensures), sym (h .has .ensures) ∙ c .before .if1 .taken)
+returns c =
+    let yes = sym (c .before .before .before .applies .ensures) ∙ c .before .before .if1 .taken in
+    simp (c .has .ensures, c .before .left-in .ensures, yes, and-true)
 
 returns-2 : tie.Need-returns-2
-returns-2 c = simp (← (c .before .before .left-of .ensures), sym (c .before .has .ensures) ∙ c .if1 .left)
+returns-2 c = simp (sym (c .before .applies .ensures) ∙ c .if1 .left, and-false)
 
 pub keeps-spec : {M : Type 1} → statement M
 keeps-spec =
-    tie.close (tie.spec left-of-requires cast-has has-requires applies-requires returns returns-2)
+    tie.close (tie.spec applies-requires left-in-requires cast-has has-requires returns returns-2)

@@ -2,39 +2,50 @@
 -- Assumes nothing.
 use borrow.Author.Needs.{needs}
 use Prim.Native.Nat.{_-_, _≤_}
-use mathlib.Core.Path.{_≡_}
+use mathlib.Core.Path.{_≡_, refl, sym, ap, _∙_}
 use native.Mathlib.Numerals.{add-one}
 use native.Mathlib.Omega.{arith}
-use Rattle.rows.specs.Rows.{rowIn}
+use lib.ListN.{length}
+use Rattle.rows.specs.declared.Row.{Row}
+use Rattle.rows.specs.Rows.{rowOf, rowIn}
+use Rattle.rows.proofs.Words.{add-length}
 use Rattle.rows.proofs.Rows.{held-most}
 use Rattle.rows.proofs.row_at.Statement.{statement}
 use Rattle.rows.proofs.row_at.Tie as tie
 
 abbrev Inv-loop : tie.InvT-loop
-Inv-loop table count here place row₀ r₀ row r = (r ≤ count) × (row ≡ rowIn table here place r)
+Inv-loop table count here place words₀ ways₀ r₀ words ways r = (r ≤ count) × (length words ≡ 4) × (rowOf words ways ≡ rowIn table here place r)
 
 abbrev μ-loop : tie.MeasureT-loop
-μ-loop table count here place row₀ r₀ row r = count - r
-
-empty-row-requires : tie.Need-empty-row-requires Inv-loop μ-loop
-empty-row-requires c κs = search needs
+μ-loop table count here place words₀ ways₀ r₀ words ways r = count - r
 
 loop-holds : tie.Need-loop-holds Inv-loop μ-loop
 unfolding rowIn
-loop-holds c = (omega arith, c .empty-row .ensures)
-
-rule-of-requires : tie.Need-rule-of-requires Inv-loop μ-loop
-rule-of-requires c κs = omega (arith, c .before .before .before .pre .few)
-
-row-turn-requires : tie.Need-row-turn-requires Inv-loop μ-loop
-row-turn-requires c κs =
-    let s = c .before .before .before .before in
-    let l = c .before .before .loop in
-    let e = held-most (s .args .table .now) (s .args .here) (s .args .place) (l .r) in
-    (omega (arith, s .pre .few), rw (l .inv .1) (omega (arith, s .pre .few, e)), rw (c .rule-of .ensures) (s .pre .small _ (c .before .loop-test .taken)))
+loop-holds c = (omega arith, refl, refl)
 
 add-r : tie.Need-add-r Inv-loop μ-loop
 add-r c = search needs
+
+keeps-requires : tie.Need-keeps-requires Inv-loop μ-loop
+keeps-requires c κs =
+    let s = c .before .before in
+    (omega (arith, s .pre .few), s .pre .small _ (c .loop-test .taken))
+
+add-requires : tie.Need-add-requires Inv-loop μ-loop
+add-requires c κs =
+    let l = c .before .before .before .before in
+    (l .loop .inv .1, omega (arith, l .before .pre .few))
+
+rule-of-requires : tie.Need-rule-of-requires Inv-loop μ-loop
+rule-of-requires c κs = omega (arith, c .before .before .before .before .before .before .pre .few)
+
+ways-with-requires : tie.Need-ways-with-requires Inv-loop μ-loop
+ways-with-requires c κs =
+    let l = c .before .before .before .before .before .before in
+    let s = l .before in
+    let held : l .loop .ways .held ≡ rowIn (s .args .table .now) (s .args .here) (s .args .place) (l .loop .r) .held = ap (λ (x : Row). x .held) (l .loop .inv .2) in
+    let most = held-most (s .args .table .now) (s .args .here) (s .args .place) (l .loop .r) in
+    (omega (arith, s .pre .few, held, most), rw (c .rule-of .ensures) (s .pre .small _ (c .before .before .before .before .before .loop-test .taken)))
 
 loop-less : tie.Need-loop-less Inv-loop μ-loop
 loop-less c = search needs
@@ -42,11 +53,26 @@ loop-less c = search needs
 loop-again : tie.Need-loop-again Inv-loop μ-loop
 unfolding rowIn
 loop-again c =
-    let l = c .before .before .before .loop in
-    (omega arith, rw (add-one, c .row-turn .ensures, c .before .rule-of .ensures, l .inv .1))
+    let l = c .before .before .before .before .before .before .before in
+    let yes = sym (c .before .before .before .before .before .keeps .ensures) ∙ c .before .before .before .before .if1 .taken in
+    let added = c .before .before .add .ensures in (
+      omega arith,
+      ap length added ∙ add-length 32 (l .loop .words) (l .loop .r) ∙ l .loop .inv .1,
+      rw (add-one, yes, ← (l .loop .inv .2), c .ways-with .ensures, c .before .rule-of .ensures, added),
+    )
+
+loop-less-2 : tie.Need-loop-less-2 Inv-loop μ-loop
+loop-less-2 c = search needs
+
+loop-again-2 : tie.Need-loop-again-2 Inv-loop μ-loop
+unfolding rowIn
+loop-again-2 c =
+    let l = c .before .before .before in
+    let no = sym (c .before .keeps .ensures) ∙ c .if1 .left in
+    (omega arith, l .loop .inv .1, rw (add-one, no) (l .loop .inv .2))
 
 returns : tie.Need-returns Inv-loop μ-loop
-returns c = let e : c .before .loop .r ≡ c .before .before .before .args .count = omega arith in rw (c .before .loop .inv .1, e)
+returns c = let e : c .before .loop .r ≡ c .before .before .args .count = omega arith in rw (← e) (c .before .loop .inv .2)
 
 pub row-at-spec : {M : Type 1} → statement M
 row-at-spec =
@@ -54,11 +80,14 @@ row-at-spec =
     (tie.spec
     Inv-loop
     μ-loop
-    empty-row-requires
     loop-holds
-    rule-of-requires
-    row-turn-requires
     add-r
+    keeps-requires
+    add-requires
+    rule-of-requires
+    ways-with-requires
     loop-less
     loop-again
+    loop-less-2
+    loop-again-2
     returns)

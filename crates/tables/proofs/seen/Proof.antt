@@ -1,20 +1,25 @@
 -- `tables::seen` meets its contract.
 -- Assumes nothing.
 use Prim.Native.Nat.{_≤_}
-use mathlib.Core.Path.{_≡_}
+use mathlib.Core.Path.{_≡_, ap, _∙_}
 use borrow.Author.Needs.{needs}
 use native.Mathlib.Omega.{arith}
 use mathlib.Core.Bool.{or-true, or-false}
+use Rattle.tables.specs.declared.Six.{Six}
 use Rattle.tables.specs.Table.{earlier, rulesIn}
+use Rattle.tables.proofs.Tables.{left-of-six}
 use Rattle.tables.proofs.Earlier.{earlier-at}
 use Rattle.tables.proofs.seen.Statement.{statement}
 use Rattle.tables.proofs.seen.Tie as tie
 
 abbrev Inv-loop : tie.InvT-loop
-Inv-loop table n rule j₀ j = (j ≤ n) × (earlier rule (rulesIn table n) ≡ earlier rule (rulesIn table j))
+Inv-loop table n rule l j₀ j = (j ≤ n) × (earlier rule (rulesIn table n) ≡ earlier rule (rulesIn table j))
 
 abbrev μ-loop : tie.MeasureT-loop
-μ-loop table n rule j₀ j = j
+μ-loop table n rule l j₀ j = j
+
+six-of-requires : tie.Need-six-of-requires Inv-loop μ-loop
+six-of-requires c κs = search needs
 
 loop-holds : tie.Need-loop-holds Inv-loop μ-loop
 loop-holds c = search needs
@@ -22,21 +27,19 @@ loop-holds c = search needs
 sub-j : tie.Need-sub-j Inv-loop μ-loop
 sub-j c = search needs
 
-rule-of-requires : tie.Need-rule-of-requires Inv-loop μ-loop
-rule-of-requires c κs = search needs
-
-same-rule-requires : tie.Need-same-rule-requires Inv-loop μ-loop
-same-rule-requires c κs = search needs
+same-at-requires : tie.Need-same-at-requires Inv-loop μ-loop
+same-at-requires c κs =
+    let f = c .before .before in
+    (omega arith, ap (λ (x : Six). x .1) (f .six-of .ensures) ∙ left-of-six (f .before .args .rule))
 
 returns : tie.Need-returns Inv-loop μ-loop
 returns c =
-    let l = c .before .before .before .before in
-    let a = l .before .args in
+    let l = c .before .before .before in
+    let a = l .before .before .args in
     rw (
       l .loop .inv .1,
       earlier-at (a .rule) (a .table .now) (l .loop .j) (omega arith),
-      ← (c .before .before .rule-of .ensures),
-      ← (c .before .same-rule .ensures),
+      ← (c .before .same-at .ensures),
       c .if1 .taken,
       or-true,
     )
@@ -46,14 +49,13 @@ loop-less c = search needs
 
 loop-again : tie.Need-loop-again Inv-loop μ-loop
 loop-again c =
-    let l = c .before .before .before .before in
-    let a = l .before .args in (
+    let l = c .before .before .before in
+    let a = l .before .before .args in (
       omega arith,
       rw (
         l .loop .inv .1,
         earlier-at (a .rule) (a .table .now) (l .loop .j) (omega arith),
-        ← (c .before .before .rule-of .ensures),
-        ← (c .before .same-rule .ensures),
+        ← (c .before .same-at .ensures),
         c .if1 .left,
         or-false,
       ),
@@ -71,10 +73,10 @@ seen-spec =
     (tie.spec
     Inv-loop
     μ-loop
+    six-of-requires
     loop-holds
     sub-j
-    rule-of-requires
-    same-rule-requires
+    same-at-requires
     returns
     loop-less
     loop-again

@@ -6,17 +6,14 @@ use borrow.Author.Needs.{needs}
 use Rattle.walk.proofs.stands.Statement.{statement}
 use Rattle.walk.proofs.stands.Tie as tie
 
-rule-of-requires : tie.Need-rule-of-requires
-rule-of-requires c κs = omega (arith, c .before .pre .few)
-
 fits-requires : tie.Need-fits-requires
-fits-requires c κs = rw (c .rule-of .ensures) (c .before .before .pre .small _ (c .before .if1 .taken))
+fits-requires c κs = (omega (arith, c .before .pre .few), c .before .pre .small _ (c .if1 .taken))
 
 returns : tie.Need-returns
-returns c = simp (lt-ltb _ _ (c .before .before .if1 .taken), c .fits2 .ensures, c .before .rule-of .ensures)
+returns c = simp (lt-ltb _ _ (c .before .if1 .taken), c .fits2 .ensures)
 
 returns-2 : tie.Need-returns-2
 returns-2 c = simp (le-ltb _ _ (c .if1 .left))
 
 pub stands-spec : {M : Type 1} → statement M
-stands-spec = tie.close (tie.spec rule-of-requires fits-requires returns returns-2)
+stands-spec = tie.close (tie.spec fits-requires returns returns-2)
