@@ -30,9 +30,8 @@ use Rattle.places.specs.declared.Place.{Place}
 use Rattle.history_file.specs.HistoryFile.{tokenOf, tokensOf}
 use Rattle.levels.specs.Levels.{Stands, Setting}
 use Rattle.levels.proofs.Levels.{tokens-length, tokens-at, close-most}
-use Rattle.rows.specs.declared.Row.{Row}
 use Rattle.rows.specs.Words.{Held}
-use Rattle.rows.specs.Rows.{keepsAt, rowIn}
+use Rattle.rows.specs.Rows.{Row, keepsAt, rowIn}
 use Rattle.rows.proofs.Words.{held-word}
 use Rattle.rows.proofs.Rows.{held-count, words-held, next-going, behind-returning}
 use Rattle.kept.specs.Kept.{startSet, keepsHere, RowOf}

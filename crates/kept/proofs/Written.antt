@@ -5,9 +5,10 @@ use native.Mathlib.Nat.{zero-add, suc-add}
 use native.Mathlib.Numerals.{add-one}
 use native.Mathlib.Omega.{arith}
 use mathlib.Core.Path.{_≡_, refl, sym, _∙_, ap, ap₂}
-use mathlib.Core.List.{List, _∷_, _++_}
+use mathlib.Core.List.{List, _∷_, _++_, append-assoc}
 use lib.ListN.{length, take, drop, length-append, length-drop}
-use lib.Seq.{take-all, take-at, drop-at, drop-drop, paste}
+use lib.Seq.{take-at, drop-at, drop-drop}
+use borrow.Rule.Slice.PartMut.{putMid, post-is}
 use Rattle.vpg.specs.declared.Token.{Token}
 use Rattle.vpg.specs.Grammar.{Grammar}
 use Rattle.vpg.specs.Sets.{listed, setWord, setWords}
@@ -39,17 +40,16 @@ module _ (g : Grammar) (w : List Token) (old : List ℕ) where
   pub written-length : (p : ℕ) (words : List ℕ) → 4 * p ≤ length old → Written p words → length words ≡ length old
   written-length p words h e = rw (e, length-append, length-listed, length-drop) (omega arith)
 
-  pub written-next : (p : ℕ) (words set : List ℕ) → 4 * p + 4 ≤ length old → Written p words → set ≡ listed 4 (setWord g w p) → Written (p + 1) (paste words (4 * p) set 4)
+  pub written-next : (p : ℕ) (words set : List ℕ) → 4 * p + 4 ≤ length old → Written p words → set ≡ listed 4 (setWord g w p) → Written (p + 1) (putMid (4 * p) (4 * p + 4 - 4 * p) words set)
   written-next p words set h e q =
       let a = listed (4 * p) wordAt in
       let b = listed 4 (setWord g w p) in
       let la : length a ≡ 4 * p = length-listed (4 * p) wordAt in
       let i : take (4 * p) words ≡ a = ap (take (4 * p)) e ∙ take-at a (drop (4 * p) old) (4 * p) la in
-      let j : take 4 set ≡ b = ap (take 4) q ∙ take-all 4 b (omega arith) in
       let k : drop (4 * p + 4) words ≡ drop (4 * p + 4) old = sym (drop-drop 4 (4 * p) words) ∙ ap (drop 4) (ap (drop (4 * p)) e ∙ drop-at a (drop (4 * p) old) (4 * p) la) ∙ drop-drop 4 (4 * p) old in
       let l : 4 * (p + 1) ≡ 4 * p + 4 = omega arith in
       let s : listed 4 (λ i. wordAt (4 * p + i)) ≡ b = listed-same 4 (λ i. wordAt (4 * p + i)) (setWord g w p) place in
-      rw (i, j, k, l, listed-add (4 * p) 4 wordAt, s)
+      rw (post-is (4 * p) (4 * p + 4) words (omega arith), i, q, k, l, listed-add (4 * p) 4 wordAt, s) (sym (append-assoc a b (drop (4 * p + 4) old)))
     where
       place : (i : ℕ) → i < 4 → wordAt (4 * p + i) ≡ setWord g w p i
       place i h =

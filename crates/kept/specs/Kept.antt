@@ -11,7 +11,7 @@ use Rattle.vpg.specs.declared.Token.{Token}
 use Rattle.vpg.specs.Sets.{count}
 use Rattle.masks.specs.Kept.{keeps, going, returning}
 use Rattle.tables.specs.Table.{ruleIn, rulesIn}
-use Rattle.rows.specs.declared.Row.{Row}
+use Rattle.rows.specs.Rows.{Row}
 use Rattle.rows.specs.Words.{Held}
 
 -- the start, if it is in the word of position 0

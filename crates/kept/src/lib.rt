@@ -1,17 +1,17 @@
 // The cores of sets and of the doubtful count: one pass from left to right over the positions.
-use rows::Row;
+use rows::Ways;
 ghost use mathlib.Core.Path.{_≡_};
 ghost use mathlib.Core.List.{[], _++_};
 ghost use Prim.Native.Nat.{_+_, _*_, _<_, _≤_};
 ghost use lib.Bits.{bitOr};
 ghost use lib.Dec.{ltb};
 ghost use lib.ListN.{length, drop, getD, set};
-ghost use lib.Seq.{paste};
 ghost use Rattle.vpg.specs.Sets.{one, doubtfulCount, setWords};
 ghost use Rattle.masks.specs.Pending.{pendingAt};
 ghost use Rattle.tables.specs.Ready.{grammarIn};
 ghost use Rattle.history_file.specs.HistoryFile.{tokensOf};
 ghost use Rattle.levels.specs.Levels.{Setting};
+ghost use Rattle.rows.specs.Rows.{rowOf};
 ghost use Rattle.kept.specs.Kept.{startSet, RowOf};
 
 // The nonterminals that can stand at position 0: the start, if it derives the tokens.
@@ -26,7 +26,7 @@ fn start_set(mask: u32, start: u16) -> u32
     }
 }
 
-// The rules kept at position p, where the nonterminals `here` can stand.
+// The rules kept at position p, where the nonterminals `here` can stand: their set is written.
 fn row_of(
     table: &[u16; 768],
     count: usize,
@@ -35,36 +35,25 @@ fn row_of(
     mask: &[u32; 1025],
     here: u32,
     p: usize,
-) -> Row
+    words: &mut [u32],
+) -> Ways
     requires { ⌜ Setting (now table) count (now w) (now m) (now mask) ⌝ }
-    requires { ⌜ p ≤ length (now w) ⌝ }
-    ensures { λ r. ⌜ RowOf (now (table .entry)) count (tokensOf (now (w .entry))) here p r ⌝ }
+    requires { ⌜ (p ≤ length (now w)) × (length (now words) ≡ 4) ⌝ }
+    ensures { λ r. ⌜ RowOf (now (table .entry)) count (tokensOf (now (w .entry))) here p (rowOf (now (words .exit)) r) ⌝ }
 {
     let place = levels::place_at(w, m, mask, p);
-    rows::row_at(table, count, here, place)
+    rows::row_at(table, count, here, place, words)
 }
 
 // Stores the nonterminals that can stand behind the close at position j, and answers those that can stand at the next position.
 // Behind position p itself there are some only if a close stands there.
-fn onward(behind: &mut [u32; 1025], p: usize, j: usize, row: Row) -> u32
+fn onward(behind: &mut [u32; 1025], p: usize, j: usize, ways: Ways) -> u32
     requires { ⌜ (length (now behind) ≡ 1025) × (p < 1025) × (j < 1025) ⌝ }
-    ensures { λ r. ⌜ (r ≡ bitOr (getD (now (behind .entry)) p 0) (row .next)) × (now (behind .exit) ≡ set (now (behind .entry)) j (bitOr (getD (now (behind .entry)) j 0) (row .behind))) ⌝ }
+    ensures { λ r. ⌜ (r ≡ bitOr (getD (now (behind .entry)) p 0) (ways .next)) × (now (behind .exit) ≡ set (now (behind .entry)) j (bitOr (getD (now (behind .entry)) j 0) (ways .behind))) ⌝ }
 {
-    let next = behind[p] | row.next;
-    behind[j] = behind[j] | row.behind;
+    let next = behind[p] | ways.next;
+    behind[j] = behind[j] | ways.behind;
     next
-}
-
-// Writes the four words of position p.
-fn put(words: &mut [u32], p: usize, rules: [u32; 4])
-    requires { ⌜ 4 * p + 4 ≤ length (now words) ⌝ }
-    ensures { λ _. ⌜ now (words .exit) ≡ paste (now (words .entry)) (4 * p) rules 4 ⌝ }
-{
-    let mut k: usize = 0;
-    while k < 4 {
-        words[4 * p + k] = rules[k];
-        k += 1;
-    }
 }
 
 // Writes the set of rules at each position, four words each.
@@ -86,10 +75,17 @@ pub fn sets(
     let mut here = start_set(mask[0], start);
     let mut p: usize = 0;
     while p <= n {
-        let row = row_of(table, count, w, m, mask, here, p);
-        let rules = row.words;
-        put(words, p, rules);
-        here = onward(&mut behind, p, m[p], row);
+        let ways = row_of(
+            table,
+            count,
+            w,
+            m,
+            mask,
+            here,
+            p,
+            &mut words[4 * p..4 * p + 4],
+        );
+        here = onward(&mut behind, p, m[p], ways);
         p += 1;
     }
 }
@@ -117,12 +113,13 @@ pub fn doubtful(
 {
     let mut behind = [0u32; 1025];
     let mut here = start_set(mask[0], start);
+    let mut words = [0u32; 4];
     let mut total: u32 = 0;
     let mut p: usize = 0;
     while p <= w.len() {
-        let row = row_of(table, count, w, m, mask, here, p);
-        total = counted(total, row.held);
-        here = onward(&mut behind, p, m[p], row);
+        let ways = row_of(table, count, w, m, mask, here, p, &mut words);
+        total = counted(total, ways.held);
+        here = onward(&mut behind, p, m[p], ways);
         p += 1;
     }
     total

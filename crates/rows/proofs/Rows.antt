@@ -15,9 +15,8 @@ use Rattle.masks.specs.Kept.{goesTo, returnsTo, going, returning}
 use Rattle.tables.specs.Table.{ruleIn, rulesIn}
 use Rattle.places.specs.declared.Place.{Place}
 use Rattle.places.proofs.Places.{eqb-comm, any-snoc}
-use Rattle.rows.specs.declared.Row.{Row}
 use Rattle.rows.specs.Words.{Held}
-use Rattle.rows.specs.Rows.{keepsAt, nextWith, behindWith, rowWith, rowIn}
+use Rattle.rows.specs.Rows.{Row, keepsAt, nextWith, behindWith, rowWith, rowIn}
 use Rattle.rows.proofs.Words.{held-none, held-with, held-without}
 
 -- ── one rule ──

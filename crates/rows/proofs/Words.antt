@@ -6,12 +6,12 @@ use native.Mathlib.Omega.{arith}
 use mathlib.Core.Path.{_≡_, refl, sym, _∙_, ap}
 use mathlib.Core.Logic.{_⊎_, inl, inr, _≢_, ⊎-elim}
 use mathlib.Core.Bool.{Bool, true, false, _&&_, _||_, or-true, or-false}
-use mathlib.Core.List.{List}
+use mathlib.Core.List.{List, [], _∷_}
 use borrow.Author.Tests.{eqb-true, eqb-false, eq-eqb, ne-eqb, lt-ltb, le-ltb, ltb-true, ltb-false}
 use lib.Arith.{digits-div, digits-mod}
 use lib.Bits.{or-shifted-r}
 use lib.Dec.{eqb, ltb}
-use lib.ListN.{length, getD, length-set}
+use lib.ListN.{length, getD, set, replicate, length-set}
 use lib.Pow.{pow-pos}
 use lib.Seq.{getD-set-same, getD-set-other}
 use Rattle.bits.specs.Bit.{bit, addBit}
@@ -27,6 +27,14 @@ or-no a x e = rw e (or-false a)
 
 pub add-length : (W : ℕ) (ws : List ℕ) (r : ℕ) → length (addIn W ws r) ≡ length ws
 add-length W ws r = length-set ws (r / W) (addBit (getD ws (r / W) 0) (r % W))
+
+pub cleared : (ws : List ℕ) → length ws ≡ 4 → set (set (set (set ws 0 0) 1 0) 2 0) 3 0 ≡ replicate 4 0
+cleared [] h = absurd (omega arith)
+cleared (a ∷ []) h = absurd (omega arith)
+cleared (a ∷ (b ∷ [])) h = absurd (omega arith)
+cleared (a ∷ (b ∷ (c ∷ []))) h = absurd (omega arith)
+cleared (a ∷ (b ∷ (c ∷ (d ∷ [])))) h = refl
+cleared (a ∷ (b ∷ (c ∷ (d ∷ (e ∷ ws))))) h = absurd (omega arith)
 
 -- ── one word ──
 

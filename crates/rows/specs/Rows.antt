@@ -10,7 +10,6 @@ use Rattle.vpg.specs.Steps.{left}
 use Rattle.tables.specs.Table.{ruleIn}
 use Rattle.places.specs.declared.Place.{Place}
 use Rattle.places.specs.Place.{appliesTo}
-use Rattle.rows.specs.declared.Row.{Row}
 use Rattle.rows.specs.declared.Ways.{Ways}
 use Rattle.rows.specs.Words.{addIn}
 
@@ -27,6 +26,13 @@ abbrev pub behindWith : ℕ → Rule → ℕ
 behindWith x (Rule.Empty M) = x
 behindWith x (Rule.Mark M c M₁) = x
 behindWith x (Rule.Step M a M₁ b M₂) = addBit x M₂
+
+-- the rules kept at a position, as a set in words, and the ways on
+pub record Row : Type 0 where
+  pub words : List ℕ
+  pub held : ℕ
+  pub next : ℕ
+  pub behind : ℕ
 
 abbrev pub waysWith : Ways → Rule → Ways
 waysWith x R = record { held = x .held + 1; next = nextWith (x .next) R; behind = behindWith (x .behind) R }

@@ -3,26 +3,17 @@ use places::Place;
 use vpg::Rule;
 ghost use mathlib.Core.Path.{_≡_};
 ghost use Prim.Native.Nat.{_<_};
-ghost use lib.ListN.{length};
+ghost use lib.ListN.{length, replicate};
 ghost use Rattle.tables.specs.Table.{ruleIn};
 ghost use Rattle.tables.specs.Ready.{Below, Ready};
 ghost use Rattle.rows.specs.Words.{addIn};
-ghost use Rattle.rows.specs.Rows.{keepsAt, nextWith, behindWith, waysWith, rowIn};
+ghost use Rattle.rows.specs.Rows.{keepsAt, nextWith, behindWith, waysWith, rowOf, rowIn};
 
-// The rules kept at a position: rule 32k + b as digit b of word k, how many they are, the nonterminals at the next position and
-// those behind the close.
-pub struct Row {
-    pub words: [u32; 4],
+// How many rules are kept at a position, the nonterminals at the next position and those behind the close.
+pub struct Ways {
     pub held: u32,
     pub next: u32,
     pub behind: u32,
-}
-
-// How many rules are kept at a position, the nonterminals at the next position and those behind the close.
-struct Ways {
-    held: u32,
-    next: u32,
-    behind: u32,
 }
 
 // Whether the nonterminal of rule r can stand here, and the rule too. Few rules can, whatever their nonterminal: that is asked first.
@@ -62,7 +53,7 @@ fn behind_with(set: u32, rule: Rule) -> u32
 }
 
 // Adds rule r to the set of rules.
-fn add(words: &mut [u32; 4], r: usize)
+fn add(words: &mut [u32], r: usize)
     requires { ⌜ (length (now words) ≡ 4) × (r < 128) ⌝ }
     ensures { λ _. ⌜ now (words .exit) ≡ addIn 32 (now (words .entry)) r ⌝ }
 {
@@ -83,12 +74,24 @@ fn ways_with(ways: Ways, rule: Rule) -> Ways
     }
 }
 
-// The rules kept at a place, where the nonterminals `here` can stand.
-pub fn row_at(table: &[u16; 768], count: usize, here: u32, place: Place) -> Row
-    requires { ⌜ Ready (now table) count ⌝ }
-    ensures { λ x. ⌜ x ≡ rowIn (now (table .entry)) here place count ⌝ }
+// The empty set of rules.
+fn clear(words: &mut [u32])
+    requires { ⌜ length (now words) ≡ 4 ⌝ }
+    ensures { λ _. ⌜ now (words .exit) ≡ replicate 4 0 ⌝ }
 {
-    let mut words = [0u32; 4];
+    words[0] = 0;
+    words[1] = 0;
+    words[2] = 0;
+    words[3] = 0;
+}
+
+// The rules kept at a place, where the nonterminals `here` can stand: their set is written, rule 32k + b as digit b of word k.
+pub fn row_at(table: &[u16; 768], count: usize, here: u32, place: Place, words: &mut [u32]) -> Ways
+    requires { ⌜ Ready (now table) count ⌝ }
+    requires { ⌜ length (now words) ≡ 4 ⌝ }
+    ensures { λ x. ⌜ rowOf (now (words .exit)) x ≡ rowIn (now (table .entry)) here place count ⌝ }
+{
+    clear(words);
     let mut ways = Ways {
         held: 0,
         next: 0,
@@ -99,14 +102,9 @@ pub fn row_at(table: &[u16; 768], count: usize, here: u32, place: Place) -> Row
         let k = r;
         r += 1;
         if keeps(here, table, k, place) {
-            add(&mut words, k);
+            add(words, k);
             ways = ways_with(ways, tables::rule_of(table, k));
         }
     }
-    Row {
-        words,
-        held: ways.held,
-        next: ways.next,
-        behind: ways.behind,
-    }
+    ways
 }

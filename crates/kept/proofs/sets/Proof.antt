@@ -1,9 +1,10 @@
 -- `sets`: before position p the pass stands where `Going` says, and the words of the positions before p are written.
 -- Assumes nothing.
 use borrow.Author.Needs.{needs}
-use Prim.Native.Nat.{_+_, _-_, _≤_}
-use mathlib.Core.Path.{_≡_, refl}
+use Prim.Native.Nat.{_+_, _-_, _*_, _≤_}
+use mathlib.Core.Path.{_≡_, refl, _∙_}
 use native.Mathlib.Omega.{arith}
+use borrow.Rule.Slice.PartMut.{mid-len}
 use lib.ListN.{length}
 use Rattle.tables.specs.Ready.{grammarIn}
 use Rattle.history_file.specs.HistoryFile.{tokensOf}
@@ -31,15 +32,38 @@ loop-holds c =
     let a = s .args in
     (rw (c .start-set .ensures) (going-start (a .table .now) (a .count) (a .start) (a .w .now) (a .m .now) (a .mask .now) (s .pre .0) (s .pre .1 .1)), refl)
 
-row-of-requires : tie.Need-row-of-requires Inv-loop μ-loop
-row-of-requires c κs = let s = c .before .before .before .before .before .before in (s .pre .0, omega arith)
+mul-row-of : tie.Need-mul-row-of Inv-loop μ-loop
+mul-row-of c = omega (arith, c .before .before .before .before .before .before .pre .0 .tokens .few)
 
-put-requires : tie.Need-put-requires Inv-loop μ-loop
-put-requires c κs =
-    let s = c .before .before .before .before .before .before .before .before .before in
-    let l = c .before .before .before .before .loop in
+mul-row-of-2 : tie.Need-mul-row-of-2 Inv-loop μ-loop
+mul-row-of-2 c = omega (arith, c .before .before .before .before .before .before .pre .0 .tokens .few)
+
+add-row-of : tie.Need-add-row-of Inv-loop μ-loop
+add-row-of c = omega (arith, c .before .before .before .before .before .before .pre .0 .tokens .few)
+
+mul-row-of-3 : tie.Need-mul-row-of-3 Inv-loop μ-loop
+mul-row-of-3 c = omega (arith, c .before .before .before .before .before .before .pre .0 .tokens .few)
+
+sub-row-of : tie.Need-sub-row-of Inv-loop μ-loop
+sub-row-of c = omega (arith, c .before .before .before .before .before .before .pre .0 .tokens .few)
+
+part-row-of-start : tie.Need-part-row-of-start Inv-loop μ-loop
+part-row-of-start c = omega arith
+
+part-row-of-end : tie.Need-part-row-of-end Inv-loop μ-loop
+part-row-of-end c =
+    let s = c .before .before .before .before .before .before in
+    let l = c .before .loop in
     let e = written-length (grammarIn (s .args .table .now) (s .args .count) (s .args .start)) (tokensOf (s .args .w .now)) (s .args .words .now) (l .p) (l .words) (omega (arith, s .pre .1 .2)) (l .inv .1) in
     omega (arith, s .pre .1 .2, e)
+
+row-of-requires : tie.Need-row-of-requires Inv-loop μ-loop
+row-of-requires c κs =
+    let s = c .before .before .before .before .before .before .before in
+    let l = c .before .before .loop in
+    let e = written-length (grammarIn (s .args .table .now) (s .args .count) (s .args .start)) (tokensOf (s .args .w .now)) (s .args .words .now) (l .p) (l .words) (omega (arith, s .pre .1 .2)) (l .inv .1) in
+    let four : 4 * l .p + 4 - 4 * l .p ≡ 4 = omega arith in
+    (s .pre .0, (omega arith, mid-len (4 * l .p) (4 * l .p + 4) (l .words) (omega (arith, s .pre .1 .2, e)) ∙ four))
 
 mul-onward : tie.Need-mul-onward Inv-loop μ-loop
 mul-onward c = search needs
@@ -49,10 +73,10 @@ element-copy-out-onward c = search needs
 
 onward-requires : tie.Need-onward-requires Inv-loop μ-loop
 onward-requires c κs =
-    let s = c .before .before .before .before .before .before .before .before .before .before .before .before .before .before in
+    let s = c .before .before .before .before .before .before .before .before .before .before .before .before in
     let a = s .args in
-    let l = c .before .before .before .before .before .before .before .before .before .loop in
-    let h : l .p ≤ length (a .w .now) = omega (arith, c .before .before .before .before .before .before .before .before .loop-test .taken) in
+    let l = c .before .before .before .before .before .before .before .loop in
+    let h : l .p ≤ length (a .w .now) = omega (arith, c .before .before .before .before .before .before .loop-test .taken) in
     (l .inv .0 .long, omega (arith, s .pre .0 .tokens .few), close-room (a .table .now) (a .count) (a .start) (a .w .now) (a .m .now) (a .mask .now) (s .pre .0) (l .p) h)
 
 add-p : tie.Need-add-p Inv-loop μ-loop
@@ -63,16 +87,16 @@ loop-less c = search needs
 
 loop-again : tie.Need-loop-again Inv-loop μ-loop
 loop-again c =
-    let s = c .before .before .before .before .before .before .before .before .before .before .before .before .before .before .before in
+    let s = c .before .before .before .before .before .before .before .before .before .before .before .before .before in
     let a = s .args in
-    let l = c .before .before .before .before .before .before .before .before .before .before .loop in
-    let h : l .p ≤ length (a .w .now) = omega (arith, c .before .before .before .before .before .before .before .before .before .loop-test .taken) in
+    let l = c .before .before .before .before .before .before .before .before .loop in
+    let h : l .p ≤ length (a .w .now) = omega (arith, c .before .before .before .before .before .before .before .loop-test .taken) in
     let g = grammarIn (a .table .now) (a .count) (a .start) in
-    let row = c .before .before .before .before .before .before .before .before .row-of in
-    let set = words-here (a .table .now) (a .count) (a .start) (a .w .now) (a .m .now) (a .mask .now) (s .pre .0) (l .here) (l .p) (l .behind) (l .inv .0 .front h) (row .result) (row .ensures) in (
-      going-next (a .table .now) (a .count) (a .start) (a .w .now) (a .m .now) (a .mask .now) (s .pre .0) (l .here) (l .p) (c .onward .result) (l .behind) (c .onward .last .0) (row .result) h (l .inv .0)
+    let row = c .before .before .before .before .before .row-of in
+    let set = words-here (a .table .now) (a .count) (a .start) (a .w .now) (a .m .now) (a .mask .now) (s .pre .0) (l .here) (l .p) (l .behind) (l .inv .0 .front h) _ (row .ensures) in (
+      going-next (a .table .now) (a .count) (a .start) (a .w .now) (a .m .now) (a .mask .now) (s .pre .0) (l .here) (l .p) (c .onward .result) (l .behind) (c .onward .last .0) _ h (l .inv .0)
           (row .ensures) (c .onward .ensures .0) (c .onward .ensures .1),
-      rw (c .before .before .before .before .before .put .ensures) (written-next g (tokensOf (a .w .now)) (a .words .now) (l .p) (l .words) (row .result .words) (omega (arith, s .pre .1 .2)) (l .inv .1) set),
+      written-next g (tokensOf (a .w .now)) (a .words .now) (l .p) (l .words) _ (omega (arith, s .pre .1 .2)) (l .inv .1) set,
     )
 
 same-length : tie.Need-same-length Inv-loop μ-loop
@@ -99,8 +123,14 @@ sets-spec =
     element-copy-out-start-set
     start-set-requires
     loop-holds
+    mul-row-of
+    mul-row-of-2
+    add-row-of
+    mul-row-of-3
+    sub-row-of
+    part-row-of-start
+    part-row-of-end
     row-of-requires
-    put-requires
     mul-onward
     element-copy-out-onward
     onward-requires

@@ -7,8 +7,8 @@ use Rattle.rows.proofs.add.Tie as tie
 mul-with : tie.Need-mul-with
 mul-with c = search needs
 
-element-copy-out-with : tie.Need-element-copy-out-with
-element-copy-out-with c = search needs
+slice-read-with : tie.Need-slice-read-with
+slice-read-with c = search needs
 
 with-requires : tie.Need-with-requires
 with-requires c κs = search needs
@@ -16,8 +16,11 @@ with-requires c κs = search needs
 mul-words : tie.Need-mul-words
 mul-words c = search needs
 
-element-write-words : tie.Need-element-write-words
-element-write-words c = search needs
+slice-write-words : tie.Need-slice-write-words
+slice-write-words c = search needs
+
+same-length : tie.Need-same-length
+same-length c = search needs
 
 returns : tie.Need-returns
 returns c = simp (c .with .ensures)
@@ -25,4 +28,11 @@ returns c = simp (c .with .ensures)
 pub add-spec : {M : Type 1} → statement M
 add-spec =
     tie.close
-    (tie.spec mul-with element-copy-out-with with-requires mul-words element-write-words returns)
+    (tie.spec
+    mul-with
+    slice-read-with
+    with-requires
+    mul-words
+    slice-write-words
+    same-length
+    returns)
