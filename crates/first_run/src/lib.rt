@@ -1,6 +1,6 @@
 // The first reading: forward over the tokens, at each position the smallest rule that can stand there.
 use places::Place;
-use vpg::Rule;
+use tables::Six;
 ghost use mathlib.Core.Path.{_≡_};
 ghost use mathlib.Core.List.{[]};
 ghost use Prim.Native.Nat.{_+_, _<_, _≤_};
@@ -10,7 +10,7 @@ ghost use Rattle.vpg.specs.Calls.{callOn, overEntries};
 ghost use Rattle.masks.specs.Masks.{masks, Fits};
 ghost use Rattle.masks.specs.Pending.{pendingAt, dueAt};
 ghost use Rattle.masks.specs.Walk.{inner, later};
-ghost use Rattle.tables.specs.Table.{ruleIn, rulesIn};
+ghost use Rattle.tables.specs.Table.{ruleFrom, ruleIn, rulesIn};
 ghost use Rattle.tables.specs.Ready.{Below, Ready, grammarIn};
 ghost use Rattle.history_file.specs.HistoryFile.{tokensOf};
 ghost use Rattle.levels.specs.Levels.{Setting};
@@ -45,25 +45,26 @@ pub fn smallest(table: &[u16; 768], count: usize, l: u16, place: Place) -> usize
 }
 
 // The nonterminal at the next position; d is the one behind the close, where the token is a close.
-pub fn inner_of(rule: Rule, d: u16) -> u16
-    ensures { λ r. ⌜ r ≡ inner rule d ⌝ }
+pub fn inner_of(rule: Six, d: u16) -> u16
+    ensures { λ r. ⌜ r ≡ inner (ruleFrom rule) d ⌝ }
 {
-    match rule {
-        Rule::Empty(_) => d,
-        Rule::Mark(_, _, l1) => l1,
-        Rule::Step(_, _, l1, _, _) => l1,
+    if rule.0 == 0 {
+        return d;
     }
+    rule.3
 }
 
 // The nonterminal behind the close of a step; d is what stands there already.
-pub fn later_of(rule: Rule, d: u16) -> u16
-    ensures { λ r. ⌜ r ≡ later rule d ⌝ }
+pub fn later_of(rule: Six, d: u16) -> u16
+    ensures { λ r. ⌜ r ≡ later (ruleFrom rule) d ⌝ }
 {
-    match rule {
-        Rule::Empty(_) => d,
-        Rule::Mark(_, _, _) => d,
-        Rule::Step(_, _, _, _, l2) => l2,
+    if rule.0 == 0 {
+        return d;
     }
+    if rule.0 == 1 {
+        return d;
+    }
+    rule.5
 }
 
 // Writes the first run from a position on; behind has the nonterminal behind each pending close.
@@ -88,7 +89,7 @@ pub fn fill(
     let mut p = from;
     while p < w.len() {
         let r = smallest(table, count, l, levels::place_at(w, m, mask, p));
-        let rule = tables::rule_of(table, r);
+        let rule = tables::six_in(table, r);
         out[p] = r as u8;
         let j = m[p];
         l = inner_of(rule, due[p]);

@@ -72,7 +72,7 @@ fn rewrite(
 {
     buf[p] = r as u8;
     if p < w.len() {
-        let rule = tables::rule_of(table, r);
+        let rule = tables::six_in(table, r);
         let j = m[p];
         let mut due = behind;
         let l = first_run::inner_of(rule, behind[p]);

@@ -56,7 +56,7 @@ pub fn walk(
         let r = buf[p] as usize;
         let place = levels::place_at(w, m, mask, p);
         if stands(table, count, r, at[p], place) {
-            let rule = tables::rule_of(table, r);
+            let rule = tables::six_in(table, r);
             let j = m[p];
             at[p + 1] = first_run::inner_of(rule, behind[p]);
             behind[j] = first_run::later_of(rule, behind[j]);

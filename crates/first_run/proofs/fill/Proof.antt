@@ -4,6 +4,7 @@ use borrow.Author.Needs.{needs}
 use Prim.Native.Nat.{suc, _-_, _≤_, _<_}
 use mathlib.Core.Path.{_≡_, refl, sym, _∙_}
 use native.Mathlib.Omega.{arith}
+use Rattle.tables.specs.Table.{ruleIn}
 use lib.ListN.{length, length-set, getD}
 use Rattle.history_file.specs.HistoryFile.{tokensOf}
 use Rattle.levels.proofs.Levels.{tokens-length, close-most}
@@ -34,8 +35,8 @@ smallest-requires : tie.Need-smallest-requires Inv-loop μ-loop
 smallest-requires c κs =
     c .before .before .before .before .before .pre .0 .ready
 
-rule-of-requires : tie.Need-rule-of-requires Inv-loop μ-loop
-rule-of-requires c κs =
+six-in-requires : tie.Need-six-in-requires Inv-loop μ-loop
+six-in-requires c κs =
     let l = c .before .before .before in
     let s = l .before .before .before in
     let a = s .args in
@@ -116,12 +117,13 @@ loop-less : tie.Need-loop-less Inv-loop μ-loop
 loop-less c = search needs
 
 loop-again : tie.Need-loop-again Inv-loop μ-loop
+unfolding ruleIn
 loop-again c =
     let l = c .before .before .before .before .before .before .before in
     let s = l .before .before .before in
     let a = s .args in
     let k = l .loop .inv in
-    rw (c .later-of .ensures, c .before .inner-of .ensures, c .before .before .before .rule-of .ensures)
+    rw (c .later-of .ensures, c .before .inner-of .ensures, c .before .before .before .six-in .ensures)
     (going-next (a .table .now) (a .count) (a .w .now) (a .m .now) (a .mask .now) (s .pre .0) (a .l0) (a .from) (a .behind) (a .out .now) (s .pre .1 .0 .1) k (c .before .before .before .before .before .place-at .result) (c .before .before .before .before .before .place-at .ensures) (c .before .before .before .before .smallest .result) (c .before .before .before .before .smallest .ensures) (c .before .before .before .before .before .before .loop-test .taken))
 
 place-at-requires-2 : tie.Need-place-at-requires-2 Inv-loop μ-loop
@@ -164,7 +166,7 @@ fill-spec =
     loop-holds
     place-at-requires
     smallest-requires
-    rule-of-requires
+    six-in-requires
     cast-out
     slice-write-out
     mul-j

@@ -1,27 +1,27 @@
--- `first_run::inner_of` meets its contract.
+-- `first_run::inner_of`: the rules of forms 1 and 2 lead to the nonterminal that is their fourth number.
 -- Assumes nothing.
-use borrow.Author.Needs.{needs}
+use Prim.Native.Nat.{ℕ}
+use mathlib.Core.Path.{_≡_, refl, sym}
+use mathlib.Core.Bool.{Bool, true, false}
+use borrow.Author.Tests.{eq-eqb, ne-eqb}
+use lib.Dec.{eqb}
+use Rattle.vpg.specs.declared.Rule.{Rule}
+use Rattle.masks.specs.Walk.{inner}
+use Rattle.tables.specs.declared.Six.{Six}
+use Rattle.tables.specs.Table.{either}
 use Rattle.first_run.proofs.inner_of.Statement.{statement}
 use Rattle.first_run.proofs.inner_of.Tie as tie
 
-enum-told : tie.Need-enum-told
-enum-told c = search needs
-
-enum-known-rule : tie.Need-enum-known-rule
-enum-known-rule c = search needs
-
-enum-known-rule-2 : tie.Need-enum-known-rule-2
-enum-known-rule-2 c = search needs
+inner-step : (mark : Bool) (v : Six) (d : ℕ)
+    → inner (either mark (Rule.Mark (v .1) (record { 0 = v .2 }) (v .3)) (Rule.Step (v .1) (record { 0 = v .2 }) (v .3) (record { 0 = v .4 }) (v .5))) d ≡ v .3
+inner-step true v d = refl
+inner-step false v d = refl
 
 returns : tie.Need-returns
-returns c = search needs
+returns c = simp (eq-eqb _ _ (c .if1 .taken))
 
 returns-2 : tie.Need-returns-2
-returns-2 c = search needs
-
-returns-3 : tie.Need-returns-3
-returns-3 c = simp (c .before .rule2 .given .1)
+returns-2 c = let v = c .before .before .args .rule in simp (ne-eqb (v .0) 0 (c .if1 .left)) (sym (inner-step (eqb (v .0) 1) v _))
 
 pub inner-of-spec : {M : Type 1} → statement M
-inner-of-spec =
-    tie.close (tie.spec enum-told enum-known-rule enum-known-rule-2 returns returns-2 returns-3)
+inner-of-spec = tie.close (tie.spec returns returns-2)

@@ -5,7 +5,7 @@ use mathlib.Core.Path.{_≡_, refl, sym, _∙_}
 use native.Mathlib.Omega.{arith}
 use native.Mathlib.Numerals.{add-one}
 use lib.ListN.{length, length-set, set}
-use Rattle.tables.specs.Table.{rulesIn}
+use Rattle.tables.specs.Table.{ruleIn, rulesIn}
 use Rattle.history_file.specs.HistoryFile.{tokenOf, tokensOf}
 use Rattle.levels.proofs.Levels.{tokens-length, tokens-at, close-most}
 use Rattle.next_run.proofs.Rewriting.{rewritten-on, rewritten-end}
@@ -19,8 +19,8 @@ cast-buf c = search needs
 slice-write-buf : tie.Need-slice-write-buf
 slice-write-buf c = search needs
 
-rule-of-requires : tie.Need-rule-of-requires
-rule-of-requires c κs = search needs
+six-in-requires : tie.Need-six-in-requires
+six-in-requires c κs = search needs
 
 mul-j : tie.Need-mul-j
 mul-j c = search needs
@@ -72,11 +72,12 @@ add-fill : tie.Need-add-fill
 add-fill c = search needs
 
 fill-requires : tie.Need-fill-requires
+unfolding ruleIn
 fill-requires c κs =
     let s = c .before .before .before .before .before .before .before .before in
     let a = s .args in
     let f = s .pre .1 .1 (c .before .before .before .before .before .if1 .taken) in
-    (s .pre .0, ((omega arith, rw length-set (s .pre .1 .0 .1)), rw (c .before .later-of .ensures, c .before .before .inner-of .ensures, c .before .before .before .before .rule-of .ensures, add-one (a .p)) f))
+    (s .pre .0, ((omega arith, rw length-set (s .pre .1 .0 .1)), rw (c .before .later-of .ensures, c .before .before .inner-of .ensures, c .before .before .before .before .six-in .ensures, add-one (a .p)) f))
 
 same-length : tie.Need-same-length
 same-length c =
@@ -85,13 +86,14 @@ same-length c =
     c .before .buf .given ∙ length-set (a .buf .now) (a .p) (a .r)
 
 returns : tie.Need-returns
+unfolding ruleIn
 returns c =
     let s = c .before .before .before .before .before .before .before .before .before .before .before in
     let a = s .args in
     let k = c .before .before .before in
     let here = tokens-at (a .w .now) (a .p) (k .before .before .before .before .before .if1 .taken) in
     rewritten-on (rulesIn (a .table .now) (a .count)) (tokensOf (a .w .now)) _ (a .p) (a .r) (a .buf .now) (rw tokens-length (s .pre .1 .0 .1)) (tokenOf _) _ (rw tokens-length (k .before .before .before .before .before .if1 .taken)) here
-    (rw (k .before .later-of .ensures, k .before .before .inner-of .ensures, k .before .before .before .before .rule-of .ensures, add-one (a .p)) at (c .before .before .fill .ensures))
+    (rw (k .before .later-of .ensures, k .before .before .inner-of .ensures, k .before .before .before .before .six-in .ensures, add-one (a .p)) at (c .before .before .fill .ensures))
 
 same-length-2 : tie.Need-same-length-2
 same-length-2 c = search needs
@@ -108,7 +110,7 @@ rewrite-spec =
     (tie.spec
     cast-buf
     slice-write-buf
-    rule-of-requires
+    six-in-requires
     mul-j
     element-copy-out-j
     mul-inner-of

@@ -5,6 +5,7 @@ use Prim.Native.Nat.{suc, _-_, _≤_, _<_}
 use mathlib.Core.Path.{_≡_, refl, sym, _∙_}
 use mathlib.Core.Bool.{Bool, true, false}
 use native.Mathlib.Omega.{arith}
+use Rattle.tables.specs.Table.{ruleIn}
 use lib.ListN.{length, take}
 use Rattle.history_file.specs.HistoryFile.{tokensOf}
 use Rattle.levels.proofs.Levels.{tokens-length, close-most}
@@ -61,8 +62,8 @@ stands-requires c κs =
     let a = s .args in
     s .pre .0 .ready
 
-rule-of-requires : tie.Need-rule-of-requires Inv-loop μ-loop
-rule-of-requires c κs =
+six-in-requires : tie.Need-six-in-requires Inv-loop μ-loop
+six-in-requires c κs =
     let l = c .before .before .before .before .before in
     let s = l .before .before .before in
     let a = s .args in
@@ -152,11 +153,12 @@ loop-less : tie.Need-loop-less Inv-loop μ-loop
 loop-less c = search needs
 
 loop-again : tie.Need-loop-again Inv-loop μ-loop
+unfolding ruleIn
 loop-again c =
     let l = c .before .before .before .before .before .before .before .before .before in
     let s = l .before .before .before in
     let a = s .args in
-    rw (c .later-of .ensures, c .before .inner-of .ensures, c .before .before .before .rule-of .ensures)
+    rw (c .later-of .ensures, c .before .inner-of .ensures, c .before .before .before .six-in .ensures)
     (walking-next (a .table .now) (a .count) (a .w .now) (a .m .now) (a .mask .now) (s .pre .0) (a .start) (a .buf .now) (s .pre .1 .0 .0) (s .pre .1 .0 .1) (l .loop .inv) (c .before .before .before .before .before .before .place-at .result) (c .before .before .before .before .before .before .place-at .ensures) (sym (c .before .before .before .before .before .stands .ensures) ∙ c .before .before .before .before .if1 .taken) (c .before .before .before .before .before .before .before .before .loop-test .taken))
 
 returns : tie.Need-returns Inv-loop μ-loop
@@ -221,7 +223,7 @@ walk-spec =
     mul-stands
     array-read-stands
     stands-requires
-    rule-of-requires
+    six-in-requires
     mul-j
     element-copy-out-j
     mul-inner-of
