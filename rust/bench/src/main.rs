@@ -248,7 +248,7 @@ fn run(quick: bool) -> Vec<Row> {
     let (round, rounds) = if quick {
         (Duration::from_micros(500), 3)
     } else {
-        (Duration::from_millis(8), 7)
+        (Duration::from_millis(2), 40)
     };
     let unambiguous = grammar_file(
         1,
@@ -402,7 +402,7 @@ fn main() {
             "rules",
         ),
     ];
-    let below = "solid: the proved library; dashed: the same algorithm in plain Rust; one core, release builds, best of 7 rounds";
+    let below = "solid: the proved library; dashed: the same algorithm in plain Rust; one core, release builds, best of 40 rounds";
     let write = |name: &str, text: String| {
         let path = folder.join(name);
         if let Err(error) = std::fs::write(&path, text) {
