@@ -1,6 +1,6 @@
 // Sets of small numbers as the binary digits of a word.
 ghost use mathlib.Core.Path.{_≡_};
-ghost use Prim.Native.Nat.{ℕ, _<_};
+ghost use Prim.Native.Nat.{_<_};
 ghost use Rattle.bits.specs.Bit.{bit, addBit};
 
 // Whether b is in the set m: digit b of m is 1.

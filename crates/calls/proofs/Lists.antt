@@ -18,7 +18,7 @@ use Rattle.files.specs.Files.{Files, accepted, refused}
 use Rattle.frame.specs.Frame.{filesIn, served}
 use Rattle.history_file.specs.HistoryFile.{tokensOf}
 use Rattle.readings.specs.Answers.{subject}
-use Rattle.calls.specs.CallList.{codeOf, callOf, callsOf, coded, final, modelAnswers, modelBuffer, Outcome, made, refused-by, callsDue}
+use Rattle.calls.specs.CallList.{codeOf, callOf, callsOf, coded, final, modelAnswers, modelBuffer, made, refused-by, callsDue}
 
 -- the answers and the last buffer, call by call
 abbrev pub answersBy : Subject → List Call → List ℕ → List ℕ

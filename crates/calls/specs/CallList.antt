@@ -1,11 +1,10 @@
 -- A list of calls as the listing model goes through it (document 01, "The plain listing").
 -- Assumes nothing.
 use Prim.Native.Nat.{ℕ}
-use mathlib.Core.Bool.{Bool, true, false}
 use mathlib.Core.List.{List, [], _∷_, _++_, map}
 use lib.Dec.{eqb, ltb}
 use lib.ListN.{length, drop}
-use Rattle.vpg.specs.Listing.{Call, first, next, Answer, written, no-reading, no-further, refused, Subject, Shown, start, model, shows, trace}
+use Rattle.vpg.specs.Listing.{Call, first, next, Answer, written, no-reading, no-further, refused, Subject, start, model, shows, trace}
 use Rattle.numbers.specs.Number.{pick}
 use Rattle.calls.specs.declared.CallsAnswer.{CallsAnswer}
 

@@ -1,7 +1,6 @@
 // A whole list of the calls first reading and next reading on one buffer.
 use readings::Answer;
 ghost use mathlib.Core.Path.{_≡_};
-ghost use Prim.Native.Nat.{_≤_};
 ghost use lib.ListN.{length};
 ghost use Rattle.vpg.specs.Calls.{callOn};
 ghost use Rattle.readings.specs.Answers.{said, subject};

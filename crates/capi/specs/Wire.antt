@@ -2,7 +2,7 @@
 -- document 01's number, 1 to 16; 100 is "none" and 101 "no further" (`codeOf` of the crate calls).
 -- Assumes nothing.
 use Prim.Native.Nat.{ℕ}
-use mathlib.Core.List.{List, [], _∷_}
+use mathlib.Core.List.{List}
 use lib.ListN.{getD}
 use Rattle.files.specs.Checks.{Verdict, accepted, refused}
 use Rattle.sets.specs.Sets.{Given}

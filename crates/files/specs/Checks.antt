@@ -10,6 +10,7 @@ use Rattle.history_file.specs.HistoryFile
 use Rattle.files.specs.declared.GrammarCheck.{GrammarCheck}
 use Rattle.files.specs.declared.HistoryCheck.{HistoryCheck}
 
+-- "accepted, with the counts, or a number"
 pub data Verdict : Type 0 where
   accepted : List ℕ → Verdict
   refused : ℕ → Verdict

@@ -1,17 +1,16 @@
 -- The smallest rule that fits, as the theory of runs asks for it.
 -- Assumes nothing.
-use Prim.Native.Nat.{ℕ, zero, suc, _+_, _<_, _≤_}
+use Prim.Native.Nat.{ℕ, suc, _+_, _<_, _≤_}
 use native.Mathlib.Nat.{eq-or-lt-of-le}
 use native.Mathlib.Omega.{arith}
 use mathlib.Core.Path.{_≡_, refl, sym, _∙_, ap}
 use mathlib.Core.Logic.{⊎-elim}
-use mathlib.Core.Bool.{Bool, true, false, _&&_, false≢true}
-use mathlib.Core.List.{List, [], _∷_}
-use mathlib.Core.Option.{some, Option·some-injective}
+use mathlib.Core.Bool.{Bool, true, false, false≢true}
+use mathlib.Core.List.{List}
+use mathlib.Core.Option.{Option·some-injective}
 use borrow.Author.Tests.{eqb-true, eq-eqb, ltb-true, ltb-false}
 use lib.Dec.{eqb, ltb}
-use lib.ListN.{drop, getElem?}
-use Rattle.vpg.specs.declared.Rule.{Rule}
+use lib.ListN.{drop}
 use Rattle.vpg.specs.declared.Token.{Token}
 use Rattle.vpg.specs.Grammar.{Rules}
 use Rattle.vpg.specs.Runs.{Stack}

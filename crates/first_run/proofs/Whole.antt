@@ -2,13 +2,13 @@
 -- Assumes nothing.
 use Prim.Native.Nat.{ℕ, suc}
 use native.Mathlib.Omega.{arith}
-use mathlib.Core.Path.{_≡_, refl, sym, _∙_, ap, ap₂}
+use mathlib.Core.Path.{_≡_, sym, _∙_, ap, ap₂}
 use mathlib.Core.Bool.{true, false, false≢true}
-use mathlib.Core.List.{List, [], _∷_, _++_}
-use lib.ListN.{length, take, drop, getD, take-append-drop}
+use mathlib.Core.List.{List, [], _++_}
+use lib.ListN.{length, drop, getD, take-append-drop}
 use Rattle.bits.specs.Bit.{bit}
 use Rattle.vpg.specs.declared.Token.{Token}
-use Rattle.vpg.specs.Grammar.{Rules, Grammar}
+use Rattle.vpg.specs.Grammar.{Grammar}
 use Rattle.vpg.specs.Extremes.{Least}
 use Rattle.vpg.specs.Listing.{first, written, no-reading}
 use Rattle.vpg.specs.Calls.{callOn, overEntries}

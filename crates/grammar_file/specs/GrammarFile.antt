@@ -13,10 +13,12 @@ use Rattle.tables.specs.Table.{earlier}
 use Rattle.vpg.specs.declared.Rule.{Rule}
 use Rattle.vpg.specs.Grammar.{Grammar}
 
+-- the grammar, or the number of the refusal
 pub data GrammarFile : Type 0 where
   accepted : Grammar → GrammarFile
   refused : ℕ → GrammarFile
 
+-- a refusal stands, and what follows it is not read. So too `afterCount`
 abbrev pub afterRule : RuleRead → (Rule → ℕ → GrammarFile) → GrammarFile
 afterRule (Read r next) rest = rest r next
 afterRule (RuleRefused e) rest = refused e
@@ -41,5 +43,6 @@ grammarFrom x =
     afterCount (countAt (x .number) at1 128 4) λ due at2.
     rulesFrom x nonterminals 0 due at2 []
 
+-- of the bytes of a file
 abbrev pub grammarOf : List ℕ → GrammarFile
 grammarOf s = grammarFrom (bytes s)

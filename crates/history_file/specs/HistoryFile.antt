@@ -18,6 +18,7 @@ use Rattle.history_file.specs.declared.TokenRead.the-variants.{Token as 
 abbrev pub kind : ℕ → ℕ
 kind t = t % 4
 
+-- the token of a number, and of each number of a list
 unfoldable pub tokenOf : ℕ → Token
 tokenOf t =
     pick (eqb (kind t) 0) (Token.Mark (record { 0 = t / 4 }))
@@ -35,10 +36,12 @@ tokenJudged t next depth =
     (pick (eqb (kind t) 1 && leb 128 depth) (TokenRefused 14)
     (TokenIs t next)))
 
+-- 1 and 2, for the number itself, go before 11, 12 and 14
 abbrev pub judged : NumberRead → ℕ → TokenRead
 judged (Number t next) depth = tokenJudged t next depth
 judged (NumberRefused e) depth = TokenRefused e
 
+-- the token at a place
 unfoldable pub tokenAt : (ℕ → NumberRead) → ℕ → ℕ → TokenRead
 tokenAt number at depth = judged (number at) depth
 
@@ -46,10 +49,12 @@ tokenAt number at depth = judged (number at) depth
 unfoldable pub depthAfter : ℕ → ℕ → ℕ
 depthAfter t depth = pick (eqb (kind t) 1) (depth + 1) (pick (eqb (kind t) 2) (depth - 1) depth)
 
+-- the token numbers, or the number of the refusal
 pub data HistoryFile : Type 0 where
   accepted : List ℕ → HistoryFile
   refused : ℕ → HistoryFile
 
+-- a refusal stands, and what follows it is not read. So too `afterCount`
 abbrev pub afterToken : TokenRead → (ℕ → ℕ → HistoryFile) → HistoryFile
 afterToken (TokenIs t next) rest = rest t next
 afterToken (TokenRefused e) rest = refused e
@@ -69,5 +74,6 @@ afterCount (FieldRefused e) rest = refused e
 unfoldable pub historyFrom : Source → HistoryFile
 historyFrom x = afterCount (fieldAt (x .number) 0 1025 10) λ due at. tokensFrom x due at 0 []
 
+-- of the bytes of a file
 abbrev pub historyOf : List ℕ → HistoryFile
 historyOf s = historyFrom (bytes s)

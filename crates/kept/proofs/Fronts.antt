@@ -21,7 +21,7 @@ use Rattle.vpg.specs.Steps.{left}
 use Rattle.vpg.specs.Sets.{kept, count, doubtful, listed, wordOf, setWord}
 use Rattle.vpg.proofs.Sets.{length-listed, getD-listed}
 use Rattle.masks.specs.Pending.{pendingAt, closeOf}
-use Rattle.masks.specs.Kept.{keeps, going, returning, passed, Front}
+use Rattle.masks.specs.Kept.{going, returning, passed, Front}
 use Rattle.masks.proofs.Kept.{front-kept, front-start, front-next}
 use Rattle.tables.specs.Table.{ruleIn, rulesIn}
 use Rattle.tables.specs.Ready.{grammarIn}

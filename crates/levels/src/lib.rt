@@ -3,7 +3,7 @@ use places::Place;
 use vpg::CloseName;
 use vpg::Token;
 ghost use mathlib.Core.Path.{_≡_};
-ghost use Prim.Native.Nat.{ℕ, _/_, _<_, _≤_};
+ghost use Prim.Native.Nat.{_/_, _<_, _≤_};
 ghost use lib.ListN.{length};
 ghost use Rattle.places.specs.Place.{endPlace};
 ghost use Rattle.tables.specs.Table.{rulesIn};

@@ -1,9 +1,9 @@
 -- The digits that the kit writes are those of `decimal`.
 -- Assumes nothing.
 use Prim.Native.Nat.{ℕ, zero, suc, _+_, _-_, _/_, _%_, _^_, _*_, _<_, _≤_}
-use native.Mathlib.Nat.{pow-suc, pow-zero, mod-lt, le-div-iff-mul-le, div-lt-iff-lt-mul, pow-le-pow-right}
+use native.Mathlib.Nat.{pow-suc, le-div-iff-mul-le, div-lt-iff-lt-mul, pow-le-pow-right}
 use native.Mathlib.Omega.{arith}
-use mathlib.Core.Path.{_≡_, refl, sym, _∙_, ap, ap₂}
+use mathlib.Core.Path.{_≡_, refl, ap}
 use mathlib.Core.List.{List, [], _∷_, _++_}
 use mathlib.Core.Bool.{Bool, true, false}
 use borrow.Author.Tests.{lt-ltb, le-ltb, ltb-true, ltb-false}

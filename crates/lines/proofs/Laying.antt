@@ -7,13 +7,13 @@ use native.Mathlib.Omega.{arith}
 use mathlib.Core.Path.{_≡_, refl, sym, _∙_, ap, ap₂, subst}
 use mathlib.Core.Bool.{Bool, true, false}
 use mathlib.Core.List.{List, [], _∷_, _++_, append-nil, append-assoc}
-use borrow.Author.Tests.{lt-ltb, le-ltb, ltb-true, ltb-false}
+use borrow.Author.Tests.{lt-ltb, ltb-true, ltb-false}
 use lib.Dec.{ltb}
 use lib.ListN.{length, take, drop, set, getD, length-set, length-append, drop-of-length-le, take-append-drop}
 use lib.Seq.{drop-cons, length-take-le, take-suc-set, drop-set-lt}
 use Rattle.io.specs.Counts.{Counts}
 use Rattle.lines.specs.declared.Place.{Place}
-use Rattle.lines.specs.Laid.{Laid, putIf, put, laid, shown, window}
+use Rattle.lines.specs.Laid.{Laid, put, laid, shown, window}
 
 pub laid-append : (p : Laid) (a b : List ℕ) → laid p (a ++ b) ≡ laid (laid p a) b
 unfolding laid

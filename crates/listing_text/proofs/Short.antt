@@ -1,18 +1,16 @@
 -- No listing is longer than 22,000,000 bytes, so 21 windows of 1,048,576 bytes, one behind the other, show the whole of it.
 -- Assumes nothing.
-use Prim.Native.Nat.{ℕ, zero, suc, _+_, _*_, _/_, _%_, _<_, _≤_}
+use Prim.Native.Nat.{ℕ, zero, suc, _+_, _*_, _/_, _%_, _≤_}
 use native.Mathlib.Nat.{suc-mul}
 use native.Mathlib.Omega.{arith}
 use mathlib.Core.Path.{_≡_, refl, sym, _∙_, ap}
 use mathlib.Core.Bool.{Bool, true, false}
 use mathlib.Core.List.{List, [], _∷_, _++_, List·Memᴰ, List·Memᴰ·head, List·Memᴰ·tail}
 use lib.Dec.{ltb}
-use lib.ListN.{length, take, drop, length-append, length-map, drop-of-length-le, take-append-drop}
+use lib.ListN.{length, drop, length-append, length-map, drop-of-length-le, take-append-drop}
 use lib.Seq.{drop-drop}
 use Rattle.vpg.specs.Runs.{entries}
 use Rattle.vpg.specs.Sets.{doubtfulCount}
-use Rattle.vpg.specs.Grammar.{Grammar}
-use Rattle.vpg.specs.Calls.{overEntries}
 use Rattle.vpg.proofs.Listing.{entries-proper}
 use Rattle.grammar_file.specs.GrammarFile.{GrammarFile, grammarOf}
 use Rattle.grammar_file.specs.GrammarFile
@@ -21,7 +19,7 @@ use Rattle.history_file.specs.HistoryFile
 use Rattle.history_file.proofs.Accepted.{history-wellformed}
 use Rattle.numbers.specs.Number.{bytes}
 use Rattle.lines.specs.Laid.{shown}
-use Rattle.lines.specs.Text.{orNothing, decimalBy, decimal, blank, lineEnd, numberLine, readingText, readingLine, tokensLine, doubtfulLine, tokensWord, doubtfulWord, endWord, moreWord, refusedWord, grammarWord, historyWord}
+use Rattle.lines.specs.Text.{orNothing, decimalBy, decimal, lineEnd, numberLine, readingText, readingLine, tokensLine, doubtfulLine, tokensWord, doubtfulWord, endWord, moreWord, refusedWord, grammarWord, historyWord}
 use Rattle.listing_text.specs.Listing.{listedFrom, mostListed, readingsListed, filesListed, listing}
 
 -- ── lines ──

@@ -5,18 +5,17 @@ use native.Mathlib.Numerals.{add-one}
 use native.Mathlib.Omega.{arith}
 use mathlib.Core.Path.{_≡_, refl, sym, _∙_, ap, subst}
 use mathlib.Core.Bool.{Bool, true, false, not, false≢true}
-use mathlib.Core.List.{List, [], _∷_, _++_}
+use mathlib.Core.List.{List, [], _++_}
 use borrow.Author.Tests.{ltb-true, ltb-false}
 use lib.Dec.{ltb}
 use lib.ListN.{length, take, drop, getD, length-map, drop-of-length-le}
 use lib.Seq.{drop-cons, take-at}
-use Rattle.vpg.specs.Runs.{entries}
-use Rattle.vpg.specs.Listing.{Answer, Subject, due, over, first, next}
+use Rattle.vpg.specs.Listing.{Subject, due, over, next}
 use Rattle.vpg.specs.Calls.{callOn, successor, overEntries}
 use Rattle.vpg.proofs.Find.{at-mem, find-at}
 use Rattle.vpg.proofs.Listing.{Proper, entries-proper}
 use Rattle.history_file.specs.HistoryFile.{tokenOf, tokensOf}
-use Rattle.files.specs.Files.{Files, accepted}
+use Rattle.files.specs.Files.{accepted}
 use Rattle.frame.specs.Frame.{filesIn}
 use Rattle.frame.proofs.Served.{served-on}
 use Rattle.readings.specs.Answers.{subject}

@@ -1,6 +1,6 @@
 -- The listing by what the services answered.
 -- Assumes nothing.
-use Prim.Native.Nat.{ℕ, zero, suc, _+_, _<_, _≤_}
+use Prim.Native.Nat.{ℕ, suc, _+_, _<_, _≤_}
 use native.Mathlib.Numerals.{add-one}
 use native.Mathlib.Omega.{arith}
 use mathlib.Core.Path.{_≡_, refl, sym, _∙_, ap, subst}
@@ -9,7 +9,6 @@ use mathlib.Core.List.{List, [], _∷_, _++_, List·Memᴰ·head}
 use lib.ListN.{length, take, drop, getD, replicate, length-replicate}
 use lib.Seq.{take-at}
 use Rattle.vpg.specs.Sets.{doubtfulCount}
-use Rattle.vpg.specs.Runs.{entries}
 use Rattle.vpg.specs.Grammar.{Grammar}
 use Rattle.vpg.specs.Listing.{Subject, over, first}
 use Rattle.vpg.specs.Calls.{callOn}
@@ -20,14 +19,14 @@ use Rattle.history_file.specs.HistoryFile.{HistoryFile, historyOf, tokensOf}
 use Rattle.history_file.specs.HistoryFile
 use Rattle.history_file.proofs.Accepted.{history-wellformed}
 use Rattle.numbers.specs.Number.{bytes}
-use Rattle.files.specs.Checks.{Verdict, grammarSaid, grammarDue, historySaid, historyDue}
+use Rattle.files.specs.Checks.{grammarSaid, grammarDue, historySaid, historyDue}
 use Rattle.files.specs.Checks as checks
 use Rattle.files.specs.declared.GrammarCheck.{GrammarCheck}
 use Rattle.files.specs.declared.HistoryCheck.{HistoryCheck}
 use Rattle.frame.specs.Frame.{filesIn}
 use Rattle.frame.proofs.Served.{served-on}
 use Rattle.readings.specs.Answers.{subject}
-use Rattle.sets.specs.Sets.{Given, counted, refused, countDue}
+use Rattle.sets.specs.Sets.{counted, refused, countDue}
 use Rattle.lines.specs.Laid.{Laid, laid}
 use Rattle.lines.proofs.Laying.{laid-both}
 use Rattle.lines.specs.Text.{tokensLine, doubtfulLine, noneLine, refusedGrammarLine, refusedHistoryLine}

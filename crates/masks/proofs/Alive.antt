@@ -1,7 +1,7 @@
 -- `masks` says which nonterminals and stacks have a run.
 -- Assumes nothing.
 use Prim.Native.Nat.{ℕ, zero, suc}
-use mathlib.Core.Path.{_≡_, refl, sym, _∙_, ap}
+use mathlib.Core.Path.{_≡_, refl, ap}
 use mathlib.Core.Logic.{_↔_}
 use mathlib.Core.Bool.{Bool, true, false, _&&_, _||_, or-true, false≢true}
 use mathlib.Core.List.{List, [], _∷_, List·Memᴰ, List·Memᴰ·head, List·Memᴰ·not-nil}
@@ -19,7 +19,7 @@ use Rattle.vpg.specs.Runs.{Stack, runs}
 use Rattle.vpg.specs.Steps.{left}
 use Rattle.vpg.proofs.Basics.{and-left, and-right}
 use Rattle.vpg.proofs.Take.{Move, by-empty, by-mark, by-step, taken, take, ended, end, name-mark, name-open, name-close}
-use Rattle.masks.specs.Masks.{Nonterminals, Outer, Masks, any, behind, applies, finishes, lefts, outer, over, masks, Match, Fits}
+use Rattle.masks.specs.Masks.{Nonterminals, Outer, Masks, any, behind, applies, finishes, lefts, outer, masks, Match, Fits}
 
 -- ── any ──
 

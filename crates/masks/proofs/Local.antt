@@ -3,7 +3,7 @@
 use Prim.Native.Nat.{ℕ, zero, suc, _+_, _-_, _<_, _≤_}
 use native.Mathlib.Nat.{eq-or-lt-of-le, le-of-suc-le-suc}
 use native.Mathlib.Omega.{arith}
-use mathlib.Core.Path.{_≡_, refl, sym, _∙_, ap}
+use mathlib.Core.Path.{_≡_, sym, _∙_}
 use mathlib.Core.Logic.{⊎-elim}
 use mathlib.Core.Bool.{true}
 use mathlib.Core.List.{List, [], _∷_, _++_, append-assoc}
@@ -14,7 +14,7 @@ use Rattle.vpg.specs.declared.Rule.{Rule}
 use Rattle.vpg.specs.declared.Token.{Token}
 use Rattle.vpg.specs.Grammar.{Rules}
 use Rattle.vpg.specs.Extremes.{Least, Next, Last}
-use Rattle.vpg.specs.Runs.{Stack, State, move, runs}
+use Rattle.vpg.specs.Runs.{Stack, State, move}
 use Rattle.vpg.specs.Steps.{left}
 use Rattle.vpg.proofs.Take.{Move, moved, moves, taken}
 use Rattle.vpg.proofs.Take
@@ -22,8 +22,7 @@ use Rattle.masks.specs.Masks.{applies, outer, masks, Match, Fits}
 use Rattle.masks.specs.Pending.{pendingAt, closeOf, dueAt}
 use Rattle.masks.specs.Walk.{Run, testAt, inner}
 use Rattle.masks.specs.Local.{stateAt, LeadsAt, LeadsTo}
-use Rattle.masks.proofs.Alive.{Passes}
-use Rattle.masks.proofs.Search.{Leads, None, same-place, live, first-step, next-keep, next-turn, last-step}
+use Rattle.masks.proofs.Search.{Leads, None, same-place, first-step, next-keep, next-turn, last-step}
 use Rattle.masks.proofs.Walk.{stored, stable, onward}
 
 -- ── one position ──

@@ -2,19 +2,18 @@
 -- Assumes nothing.
 use Prim.Native.Nat.{ℕ, zero, suc, _+_, _-_, _<_, _≤_}
 use native.Mathlib.Omega.{arith}
-use native.Mathlib.Nat.{le-of-suc-le-suc}
-use mathlib.Core.Path.{_≡_, refl, sym, _∙_, ap, ap₂}
+use mathlib.Core.Path.{_≡_, refl, _∙_, ap}
 use mathlib.Core.Logic.{_⊎_, inl, inr, ⊎-elim}
 use mathlib.Core.List.{List, [], _∷_, map, List·Memᴰ, List·Memᴰ·head, List·Memᴰ·tail, List·Memᴰ·not-nil, List·Memᴰ·cases-cons}
 use mathlib.Core.Option.{some, Option·none-ne-some, Option·some-injective}
-use lib.ListN.{length, drop, getD, set, getElem?}
-use lib.Seq.{drop-cons, drop-drop, getD-set-other}
+use lib.ListN.{drop, set, getElem?}
+use lib.Seq.{drop-drop, getD-set-other}
 use Rattle.vpg.specs.declared.OpenName.{OpenName}
 use Rattle.vpg.specs.declared.CloseName.{CloseName}
 use Rattle.vpg.specs.declared.Token.{Token}
 use Rattle.vpg.specs.Grammar.{Rules}
-use Rattle.masks.specs.Masks.{Nonterminals, Outer, tail, outer, masks}
-use Rattle.masks.specs.Pending.{Closes, rest, pendingOver, pending, pendingAt, closeOf, dueAt}
+use Rattle.masks.specs.Masks.{Outer, tail, masks}
+use Rattle.masks.specs.Pending.{Closes, rest, pendingOver, pending, pendingAt, dueAt}
 
 abbrev Close : Type 0
 Close = CloseName × ℕ

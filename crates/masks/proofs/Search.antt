@@ -15,7 +15,7 @@ use Rattle.vpg.specs.Extremes.{Least, Next, Last}
 use Rattle.vpg.specs.Runs.{Stack, State, move}
 use Rattle.vpg.proofs.Basics.{trichotomy}
 use Rattle.vpg.proofs.Take.{Move, moves, Taken, taken, take, Ended, ended, end}
-use Rattle.masks.specs.Masks.{Masks, applies, finishes, masks}
+use Rattle.masks.specs.Masks.{applies, finishes, masks}
 use Rattle.masks.specs.Walk.{Run}
 use Rattle.masks.proofs.Alive.{Passes, goes-applies, run-fits, ends-empty}
 

@@ -2,13 +2,11 @@
 -- Assumes nothing.
 use Prim.Native.Nat.{ℕ, suc, _<_, _≤_}
 use native.Mathlib.Omega.{arith}
-use mathlib.Core.Path.{_≡_, refl, sym, _∙_, ap, ap₂}
+use mathlib.Core.Path.{_≡_, refl, sym, _∙_, ap}
 use mathlib.Core.Bool.{true}
 use mathlib.Core.List.{List, [], _∷_, map, List·Memᴰ}
-use mathlib.Core.Option.{some}
-use lib.ListN.{length, drop, getD, set, getElem?}
+use lib.ListN.{length, drop, getD, set}
 use lib.Seq.{set-getD, getD-set-same}
-use Rattle.vpg.specs.declared.OpenName.{OpenName}
 use Rattle.vpg.specs.declared.CloseName.{CloseName}
 use Rattle.vpg.specs.declared.Rule.{Rule}
 use Rattle.vpg.specs.declared.Token.{Token}
@@ -17,7 +15,7 @@ use Rattle.vpg.specs.Runs.{Stack}
 use Rattle.vpg.specs.Steps.{left}
 use Rattle.vpg.proofs.Take.{Move, by-empty, by-mark, by-step}
 use Rattle.masks.specs.Masks.{applies, finishes, lefts, outer, masks, Match, Fits}
-use Rattle.masks.specs.Pending.{Closes, rest, pendingOver, pendingAt, closeOf, dueAt}
+use Rattle.masks.specs.Pending.{Closes, rest, pendingAt, closeOf, dueAt}
 use Rattle.masks.specs.Walk.{testAt, inner, later}
 use Rattle.masks.proofs.Alive.{Passes, applies-goes}
 use Rattle.masks.proofs.Pending.{pending-next, close-fresh, masks-outer, due-set}

@@ -1,17 +1,16 @@
 -- The backward search, one position at a time.
 -- Assumes nothing.
-use Prim.Native.Nat.{ℕ, zero, suc, _+_, _-_, _<_, _≤_}
+use Prim.Native.Nat.{ℕ, suc, _+_, _-_, _<_, _≤_}
 use native.Mathlib.Nat.{eq-or-lt-of-le}
 use native.Mathlib.Omega.{arith}
-use mathlib.Core.Path.{_≡_, refl, sym, _∙_, ap}
+use mathlib.Core.Path.{_≡_, sym, _∙_, ap}
 use mathlib.Core.Logic.{⊎-elim}
 use mathlib.Core.Bool.{true, false, _&&_}
 use mathlib.Core.List.{List}
 use lib.Dec.{eqb}
-use lib.ListN.{length, drop, getD}
+use lib.ListN.{length, getD}
 use Rattle.vpg.specs.declared.Token.{Token}
 use Rattle.vpg.specs.Steps.{left}
-use Rattle.masks.specs.Walk.{testAt}
 use Rattle.places.specs.declared.Place.{Place}
 use Rattle.tables.specs.Table.{ruleIn, rulesIn}
 use Rattle.levels.specs.Levels.{Leveled, Stands}

@@ -3,23 +3,22 @@
 use Prim.Native.Nat.{ℕ, zero, suc, _+_, _-_, _<_, _≤_}
 use native.Mathlib.Nat.{eq-or-lt-of-le}
 use native.Mathlib.Omega.{arith}
-use mathlib.Core.Path.{_≡_, refl, sym, _∙_, ap, ap₂}
+use mathlib.Core.Path.{_≡_, sym, _∙_, ap, ap₂}
 use mathlib.Core.Logic.{⊎-elim}
-use mathlib.Core.Bool.{true, false, _&&_, false≢true}
+use mathlib.Core.Bool.{true, false, false≢true}
 use mathlib.Core.List.{List, [], _∷_, _++_}
-use mathlib.Core.Option.{some, Option·some-injective}
+use mathlib.Core.Option.{Option·some-injective}
 use borrow.Author.Tests.{eqb-true, eq-eqb}
 use lib.Dec.{eqb}
-use lib.ListN.{length, take, drop, getD, set, getElem?, take-append-drop, drop-of-length-le}
+use lib.ListN.{length, take, drop, getD, set, take-append-drop, drop-of-length-le}
 use lib.Seq.{drop-cons, getD-take, length-take-le, take-take}
 use Rattle.bits.specs.Bit.{bit}
-use Rattle.vpg.specs.declared.Rule.{Rule}
 use Rattle.vpg.specs.declared.Token.{Token}
 use Rattle.vpg.specs.Grammar.{Rules}
 use Rattle.vpg.specs.Extremes.{Least, Next, Last}
 use Rattle.vpg.specs.Listing.{next, written, no-further, refused}
 use Rattle.vpg.specs.Calls.{callOn, overEntries}
-use Rattle.vpg.specs.Runs.{Stack, State, entries}
+use Rattle.vpg.specs.Runs.{State, entries}
 use Rattle.vpg.specs.Steps.{left}
 use Rattle.vpg.proofs.Ascends.{entries-ascending}
 use Rattle.vpg.proofs.Basics.{and-left, and-right}

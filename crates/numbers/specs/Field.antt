@@ -8,6 +8,7 @@ use Rattle.numbers.specs.declared.FieldRead.{FieldRead}
 use Rattle.numbers.specs.declared.FieldRead.the-variants.{Field, Refused as FieldRefused}
 use Rattle.numbers.specs.Number.{pick}
 
+-- the range is asked of a number that could be read; 1 and 2 go before it
 abbrev pub limited : NumberRead → ℕ → ℕ → FieldRead
 limited (Number n p) limit refusal = pick (ltb n limit) (Field n p) (FieldRefused refusal)
 limited (NumberRefused e) limit refusal = FieldRefused e
@@ -16,6 +17,7 @@ limited (NumberRefused e) limit refusal = FieldRefused e
 unfoldable pub fieldAt : (ℕ → NumberRead) → ℕ → ℕ → ℕ → FieldRead
 fieldAt number at limit refusal = limited (number at) limit refusal
 
+-- "not 1 to .." (3, 4): 0 is refused by the same number
 abbrev pub positive : FieldRead → ℕ → FieldRead
 positive (Field n p) refusal = pick (eqb n 0) (FieldRefused refusal) (Field n p)
 positive (FieldRefused e) refusal = FieldRefused e

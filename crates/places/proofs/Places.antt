@@ -1,7 +1,7 @@
 -- Places and words: the rules that can stand at a place are those that can stand before the tokens there.
 -- Assumes nothing.
 use Prim.Native.Nat.{ℕ, zero, suc}
-use mathlib.Core.Path.{_≡_, refl, sym, _∙_, ap}
+use mathlib.Core.Path.{_≡_, refl, sym, _∙_}
 use mathlib.Core.Bool.{Bool, true, false, cond, _&&_, _||_, or-false, or-assoc, and-true, and-false}
 use mathlib.Core.List.{List, [], _∷_, _++_}
 use borrow.Author.Tests.{eqb-true, eqb-false, eq-eqb, ne-eqb}
@@ -14,7 +14,7 @@ use Rattle.vpg.specs.Steps.{left}
 use Rattle.masks.specs.Masks.{any, lefts}
 use Rattle.tables.specs.Table.{ruleIn, rulesIn}
 use Rattle.places.specs.declared.Place.{Place}
-use Rattle.places.specs.Place.{appliesTo, withLeft, levelIn}
+use Rattle.places.specs.Place.{appliesTo, levelIn}
 
 pub eqb-comm : (x y : ℕ) → eqb x y ≡ eqb y x
 eqb-comm x y = go (eqb y x) refl

@@ -1,12 +1,10 @@
 -- The entries by the table and by the grammar are the same.
 -- Assumes nothing.
-use Prim.Native.Nat.{ℕ, suc}
-use mathlib.Core.Path.{_≡_, refl, sym, _∙_}
-use mathlib.Core.List.{List, []}
-use lib.ListN.{length, take}
-use Rattle.vpg.specs.Listing.{Subject, over}
+use Prim.Native.Nat.{ℕ}
+use mathlib.Core.Path.{_≡_}
+use mathlib.Core.List.{List}
+use lib.ListN.{take}
 use Rattle.vpg.specs.Calls.{overEntries}
-use Rattle.vpg.specs.Runs.{runs}
 use Rattle.tables.specs.Ready.{grammarIn}
 use Rattle.history_file.specs.HistoryFile.{tokensOf}
 use Rattle.files.specs.declared.FilesRead.{FilesRead}

@@ -16,7 +16,7 @@ use lib.Pow.{pow-pos}
 use lib.Seq.{getD-set-same, getD-set-other}
 use Rattle.bits.specs.Bit.{bit, addBit}
 use Rattle.bits.proofs.Bits.{bit-zero, bit-above, bit-add, add-below, same}
-use Rattle.vpg.specs.Sets.{one, wordOf}
+use Rattle.vpg.specs.Sets.{wordOf}
 use Rattle.rows.specs.Words.{bitIn, addIn, Held}
 
 or-yes : (a x : Bool) → x ≡ true → (a || x) ≡ true

@@ -21,6 +21,7 @@ names = 64
 abbrev pub forms : ℕ
 forms = 3
 
+-- "the first fault met in file order is the one given": a refusal stands, and what follows it is not read. So too `second`, `after`
 abbrev pub first : FieldRead → (ℕ → ℕ → PairRead) → PairRead
 first (Field a p) rest = rest a p
 first (FieldRefused e) rest = PairRefused e
@@ -50,6 +51,7 @@ bodyAt number at nonterminals form from =
     after (pairAt number at names 7 nonterminals) λ name to next.
     pick (eqb form 1) (Read (Rule.Mark from (record { 0 = name }) to) next) (stepAt number next nonterminals from name to)
 
+-- "its form, then L; or L c L1; or L a L1 b L2": the form and L, then what the form asks for
 unfoldable pub ruleAt : (ℕ → NumberRead) → ℕ → ℕ → RuleRead
 ruleAt number at nonterminals =
     after (pairAt number at forms 5 nonterminals) λ form from next.

@@ -1,11 +1,11 @@
 -- Sets and the doubtful count by the table and by the grammar are the same: they go by the rules and the start alone.
 -- Assumes nothing.
 use Prim.Native.Nat.{ℕ, _+_, _*_}
-use mathlib.Core.Path.{_≡_, refl, sym, _∙_, ap}
+use mathlib.Core.Path.{_≡_, refl}
 use mathlib.Core.List.{List, _++_}
 use lib.ListN.{length, take, drop, length-map}
 use Rattle.vpg.specs.declared.Token.{Token}
-use Rattle.vpg.specs.Grammar.{Rules, Grammar}
+use Rattle.vpg.specs.Grammar.{Grammar}
 use Rattle.vpg.specs.Sets.{kept, doubtful, doubtfulCount, setWord, setWords}
 use Rattle.tables.specs.Ready.{grammarIn}
 use Rattle.history_file.specs.HistoryFile.{tokenOf, tokensOf}

@@ -1,7 +1,6 @@
 // The service stop marks, over the two files as bytes.
 use files::FilesAnswer;
 ghost use mathlib.Core.Path.{_≡_};
-ghost use lib.ListN.{length};
 ghost use Rattle.stops.specs.Stops.{marksSaid, marksDue};
 
 // The marks were written, or document 01's number of the refusal.

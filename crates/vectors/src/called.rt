@@ -1,5 +1,5 @@
 // A list of calls on one buffer, compared with document 01's plain listing over the enumerator's list.
-use crate::compare::LENT;
+use crate::compare::FILLER;
 use crate::compare::copy_from;
 use crate::compare::same;
 use crate::entries::Entries;
@@ -124,7 +124,7 @@ pub fn same_calls(
     list: &[u8],
     entries: Entries,
 ) -> bool {
-    let mut answers_space = [LENT; 300];
+    let mut answers_space = [FILLER; 300];
     let mut buffer_space = io::buffer();
     let n = io::count(buffer.len() as isize, &buffer_space);
     let due_answers: &mut [u8] = &mut answers_space;

@@ -3,7 +3,7 @@ use enumerator::at;
 ghost use Prim.Native.Nat.{_≤_};
 
 // What the buffers that are lent hold before a call.
-pub const LENT: u8 = 7;
+pub const FILLER: u8 = 7;
 
 // Whether the n bytes of xs from `from` on are the first n of ys.
 pub fn same(xs: &[u8], from: usize, ys: &[u8], n: usize) -> bool
@@ -19,7 +19,7 @@ pub fn same(xs: &[u8], from: usize, ys: &[u8], n: usize) -> bool
 // Whether every byte from `from` on is as it was lent.
 pub fn untouched(xs: &[u8], from: usize) -> bool {
     let mut i = from;
-    while i < xs.len() && xs[i] == LENT {
+    while i < xs.len() && xs[i] == FILLER {
         i += 1;
     }
     xs.len() <= i

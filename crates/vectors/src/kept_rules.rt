@@ -6,7 +6,7 @@ use sets::SetsAnswer;
 ghost use Prim.Native.Nat.{_≤_, _<_};
 
 // What the words that are lent hold before a call.
-pub const LENT: u32 = 4026531847;
+pub const FILLER: u32 = 4026531847;
 
 // Whether some entry has rule r at position p.
 fn stands(list: &[u8], entries: Entries, p: usize, r: usize) -> bool
@@ -47,7 +47,7 @@ fn right_bits(words: &[u32], list: &[u8], entries: Entries) -> bool {
 
 pub fn untouched(words: &[u32], from: usize) -> bool {
     let mut i = from;
-    while i < words.len() && words[i] == LENT {
+    while i < words.len() && words[i] == FILLER {
         i += 1;
     }
     words.len() <= i
@@ -55,7 +55,7 @@ pub fn untouched(words: &[u32], from: usize) -> bool {
 
 // Whether the sets are those of the entries, and the words behind them are as they were lent.
 pub fn same_sets(grammar: &[u8], history: &[u8], list: &[u8], entries: Entries) -> bool {
-    let mut space = [LENT; 4104];
+    let mut space = [FILLER; 4104];
     let words: &mut [u32] = &mut space;
     let answer = sets::sets(grammar, history, words);
     let SetsAnswer::Written = answer else {

@@ -1,5 +1,5 @@
 // First reading and next reading, call after call, compared with the enumerator's list.
-use crate::compare::LENT;
+use crate::compare::FILLER;
 use crate::compare::same;
 use crate::compare::untouched;
 use crate::entries::Entries;
@@ -58,7 +58,7 @@ fn nexts(grammar: &[u8], history: &[u8], list: &[u8], entries: Entries, buffer: 
 
 // Whether first reading and then next readings give the list, and none where it is empty.
 pub fn same_list(grammar: &[u8], history: &[u8], list: &[u8], entries: Entries) -> bool {
-    let mut space = [LENT; 1028];
+    let mut space = [FILLER; 1028];
     let buffer: &mut [u8] = &mut space;
     let answer = calls::call(grammar, history, 0, buffer);
     if entries.end == 0 {

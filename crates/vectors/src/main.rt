@@ -73,7 +73,7 @@ fn compare_read(
 {
     let mut list_space = io::large_buffer();
     let list: &mut [u8] = &mut list_space;
-    let mut answers_space = [compare::LENT; 300];
+    let mut answers_space = [compare::FILLER; 300];
     let answers: &mut [u8] = &mut answers_space;
     let entries = entries::enumerate(rules, tokens, limit, list);
     shown::say_count(entries);

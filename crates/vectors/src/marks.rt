@@ -1,5 +1,5 @@
 // Stop marks, compared with what the enumerator finds of each prefix alone.
-use crate::compare::LENT;
+use crate::compare::FILLER;
 use crate::compare::untouched;
 use crate::entries::readable;
 use stops::MarksAnswer;
@@ -12,7 +12,7 @@ fn right_mark(rules: &[u8], tokens: &[u8], marks: &[u8], i: usize) -> bool {
 
 // Whether every mark is right, and the bytes behind them are as they were lent.
 pub fn same_marks(grammar: &[u8], history: &[u8], rules: &[u8], tokens: &[u8]) -> bool {
-    let mut space = [LENT; 1028];
+    let mut space = [FILLER; 1028];
     let marks: &mut [u8] = &mut space;
     let answer = stops::stop_marks(grammar, history, marks);
     let MarksAnswer::Written = answer else {

@@ -5,16 +5,16 @@ use sets::SetsAnswer;
 use stops::MarksAnswer;
 ghost use Prim.Native.Nat.{_≤_};
 
-fn call_refused(grammar: &[u8], history: &[u8], kind: u8, lent: &mut [u8], due: u8) -> bool {
-    calls::call(grammar, history, kind, lent) == due && crate::compare::untouched(lent, 0)
+fn call_refused(grammar: &[u8], history: &[u8], kind: u8, buffer: &mut [u8], due: u8) -> bool {
+    calls::call(grammar, history, kind, buffer) == due && crate::compare::untouched(buffer, 0)
 }
 
-fn sets_refused(grammar: &[u8], history: &[u8], lent: &mut [u32], due: u8) -> bool {
-    let answer = sets::sets(grammar, history, lent);
+fn sets_refused(grammar: &[u8], history: &[u8], buffer: &mut [u32], due: u8) -> bool {
+    let answer = sets::sets(grammar, history, buffer);
     let SetsAnswer::Refused(number) = answer else {
         return false;
     };
-    number == due && crate::kept_rules::untouched(lent, 0)
+    number == due && crate::kept_rules::untouched(buffer, 0)
 }
 
 fn count_refused(grammar: &[u8], history: &[u8], due: u8) -> bool {
@@ -25,39 +25,39 @@ fn count_refused(grammar: &[u8], history: &[u8], due: u8) -> bool {
     number == due
 }
 
-fn marks_refused(grammar: &[u8], history: &[u8], lent: &mut [u8], due: u8) -> bool {
-    let answer = stops::stop_marks(grammar, history, lent);
+fn marks_refused(grammar: &[u8], history: &[u8], buffer: &mut [u8], due: u8) -> bool {
+    let answer = stops::stop_marks(grammar, history, buffer);
     let MarksAnswer::Refused(number) = answer else {
         return false;
     };
-    number == due && crate::compare::untouched(lent, 0)
+    number == due && crate::compare::untouched(buffer, 0)
 }
 
 // Whether each service that is lent a buffer of bytes or words answers the number.
-fn lenders_refused(
+fn buffers_refused(
     grammar: &[u8],
     history: &[u8],
-    lent: &mut [u8],
+    buffer: &mut [u8],
     words: &mut [u32],
     due: u8,
 ) -> bool {
-    if !call_refused(grammar, history, 0, lent, due) {
+    if !call_refused(grammar, history, 0, buffer, due) {
         return false;
     }
-    if !call_refused(grammar, history, 1, lent, due) {
+    if !call_refused(grammar, history, 1, buffer, due) {
         return false;
     }
     if !sets_refused(grammar, history, words, due) {
         return false;
     }
-    marks_refused(grammar, history, lent, due)
+    marks_refused(grammar, history, buffer, due)
 }
 
 // Whether every service answers the number of the file's fault.
 pub fn all_refused(grammar: &[u8], history: &[u8], due: u8) -> bool {
-    let mut lent = [crate::compare::LENT; 1028];
-    let mut words = [crate::kept_rules::LENT; 4104];
-    lenders_refused(grammar, history, &mut lent, &mut words, due)
+    let mut bytes = [crate::compare::FILLER; 1028];
+    let mut words = [crate::kept_rules::FILLER; 4104];
+    buffers_refused(grammar, history, &mut bytes, &mut words, due)
         && count_refused(grammar, history, due)
 }
 
@@ -65,12 +65,12 @@ pub fn all_refused(grammar: &[u8], history: &[u8], due: u8) -> bool {
 pub fn short_refused(grammar: &[u8], history: &[u8], n: usize) -> bool
     requires { ⌜ n ≤ 1024 ⌝ }
 {
-    let mut lent = [crate::compare::LENT; 1028];
-    let mut words = [crate::kept_rules::LENT; 4104];
-    lenders_refused(
+    let mut bytes = [crate::compare::FILLER; 1028];
+    let mut words = [crate::kept_rules::FILLER; 4104];
+    buffers_refused(
         grammar,
         history,
-        &mut lent[..n],
+        &mut bytes[..n],
         &mut words[..4 * n + 3],
         15,
     )
@@ -78,8 +78,8 @@ pub fn short_refused(grammar: &[u8], history: &[u8], n: usize) -> bool
 
 // Whether a list of calls is refused by 15 where one answer too few can be written.
 pub fn calls_refused(grammar: &[u8], history: &[u8]) -> bool {
-    let mut answers = [crate::compare::LENT; 2];
-    let mut buffer = [crate::compare::LENT; 1028];
+    let mut answers = [crate::compare::FILLER; 2];
+    let mut buffer = [crate::compare::FILLER; 1028];
     let answer = calls::run_calls(grammar, history, b"\x00\x01\x01", &mut answers, &mut buffer);
     let CallsAnswer::Refused(number) = answer else {
         return false;

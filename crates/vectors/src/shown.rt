@@ -73,7 +73,7 @@ pub fn show_list(list: &[u8], entries: Entries) {
 
 // Writes the stop marks.
 pub fn show_marks(grammar: &[u8], history: &[u8], tokens: &[u8]) {
-    let mut marks = [crate::compare::LENT; 1028];
+    let mut marks = [crate::compare::FILLER; 1028];
     stops::stop_marks(grammar, history, &mut marks);
     say(b"  marks");
     show_line(&marks, 0, shorter(tokens.len(), 1024) + 1);

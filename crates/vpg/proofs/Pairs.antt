@@ -17,7 +17,7 @@ use Rattle.vpg.specs.declared.CloseName.{CloseName}
 use Rattle.vpg.specs.declared.Rule.{Rule}
 use Rattle.vpg.specs.declared.Token.{Token}
 use Rattle.vpg.specs.Any.{anyBelow}
-use Rattle.vpg.specs.Grammar.{Rules, Grammar, Tree, mark, step, code, Derives, by-empty, by-mark, by-step, Reading}
+use Rattle.vpg.specs.Grammar.{Rules, Grammar, Tree, code, Derives, by-empty, by-mark, by-step, Reading}
 use Rattle.vpg.specs.Pairs.{PairState, PairStack, Configuration, single, begin, markTo, overMark, openTo, overOpen, endsFrom, finished, closeTo, overClose, closed, derivative, after, bottom, accepts, marksFrom, Takes, at-bottom, in-step, Proper, Contexts, Stacked, Within}
 use Rattle.vpg.specs.Sets.{one, stopMark, listed, stopMarks}
 use Rattle.vpg.proofs.Any.{both, eqb-refl, any-some, some-any, below-some, some-below}

@@ -7,6 +7,7 @@ use mathlib.Core.Option.{Option, none, some}
 use lib.Dec.{eqb, ltb}
 use lib.ListN.{getD, take, drop, length}
 
+-- "the calls first reading and next reading"
 pub data Call : Type 0 where
   first next : Call
 
@@ -24,16 +25,19 @@ pub data Subject : Type 0 where
 abbrev pub Shown : Type 0
 Shown = Option ℕ
 
+-- are two lists of numbers equal
 abbrev pub same : List ℕ → List ℕ → Bool
 same [] [] = true
 same [] (y ∷ f) = false
 same (x ∷ e) [] = false
 same (x ∷ e) (y ∷ f) = eqb x y && same e f
 
+-- the number of an entry in a list with one more entry before it
 abbrev pub later : Option ℕ → Option ℕ
 later none = none
 later (some i) = some (suc i)
 
+-- 1 where the first entry is the one looked for
 abbrev pub found : Bool → Option ℕ → Option ℕ
 found true o = some 1
 found false o = later o
@@ -58,6 +62,7 @@ abbrev pub modelFirst : ℕ → Shown → Answer × Shown
 modelFirst zero s = (no-reading, s)
 modelFirst (suc m) s = (written, some 1)
 
+-- is k below m
 abbrev pub onward : Bool → ℕ → Answer × Shown
 onward true k = (written, some (suc k))
 onward false k = (no-further, some k)

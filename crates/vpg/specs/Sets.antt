@@ -21,13 +21,16 @@ standsAt [] p r = false
 standsAt (x ∷ e) zero r = eqb x r
 standsAt (x ∷ e) (suc p) r = standsAt e p r
 
+-- of some entry
 abbrev pub standsIn : List (List ℕ) → ℕ → ℕ → Bool
 standsIn [] p r = false
 standsIn (e ∷ l) p r = standsAt e p r || standsIn l p r
 
+-- of some reading
 unfoldable pub kept : Grammar → List Token → ℕ → ℕ → Bool
 kept g w p r = standsIn (entries g w) p r
 
+-- 1 where a test passes, else 0
 abbrev pub one : Bool → ℕ
 one true = 1
 one false = 0
@@ -45,6 +48,7 @@ doubtful g w p = ltb 1 (count (length (g .rules)) (kept g w p))
 unfoldable pub doubtfulCount : Grammar → List Token → ℕ
 doubtfulCount g w = count (suc (length w)) (doubtful g w)
 
+-- 1 where there is an entry
 abbrev pub marked : List (List ℕ) → ℕ
 marked [] = 0
 marked (e ∷ l) = 1

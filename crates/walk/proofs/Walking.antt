@@ -1,15 +1,14 @@
 -- The walk, one position at a time.
 -- Assumes nothing.
-use Prim.Native.Nat.{ℕ, zero, suc, _+_, _<_, _≤_}
+use Prim.Native.Nat.{ℕ, suc, _+_, _<_, _≤_}
 use native.Mathlib.Numerals.{add-one}
 use native.Mathlib.Omega.{arith}
 use mathlib.Core.Path.{_≡_, refl, sym, _∙_, ap}
-use mathlib.Core.Bool.{Bool, true, false, _&&_, false≢true}
+use mathlib.Core.Bool.{Bool, true, false, _&&_}
 use mathlib.Core.List.{List, [], _∷_}
-use mathlib.Core.Option.{some}
 use borrow.Author.Tests.{eqb-true, ltb-true, lt-ltb}
 use lib.Dec.{eqb, ltb}
-use lib.ListN.{length, take, drop, getD, set, replicate, getElem?, length-set, length-take, drop-of-length-le}
+use lib.ListN.{length, take, drop, getD, set, replicate, length-set, drop-of-length-le}
 use lib.Seq.{drop-cons, getD-take, getD-set-other, length-take-le}
 use Rattle.vpg.specs.declared.Rule.{Rule}
 use Rattle.vpg.specs.declared.Token.{Token}
@@ -32,7 +31,7 @@ use Rattle.tables.specs.Table.{ruleIn, rulesIn}
 use Rattle.tables.proofs.Tables.{rules-at}
 use Rattle.history_file.specs.HistoryFile.{tokenOf, tokensOf}
 use Rattle.levels.specs.Levels.{Leveled, Stands, Setting}
-use Rattle.levels.proofs.Levels.{tokens-length, tokens-at, close-most, pending-end}
+use Rattle.levels.proofs.Levels.{tokens-length, tokens-at, close-most}
 use Rattle.first_run.specs.Fill.{ruleFits}
 use Rattle.first_run.proofs.Passing.{passes, none}
 use Rattle.walk.specs.Walked.{Reads, WalkIs}

@@ -1,6 +1,6 @@
 -- `capi::gaffmedlar_doubtful_count` meets its contract.
 -- Assumes nothing.
-use mathlib.Core.Path.{_≡_, sym, _∙_, ap}
+use mathlib.Core.Path.{sym, _∙_, ap}
 use Rattle.sets.specs.Sets.{countSaid}
 use Rattle.capi.specs.Wire.{countWire}
 use borrow.Author.Needs.{needs}

@@ -1,6 +1,6 @@
 -- `capi::gaffmedlar_first_reading` meets its contract.
 -- Assumes nothing.
-use mathlib.Core.Path.{_≡_, ap}
+use mathlib.Core.Path.{ap}
 use Rattle.calls.specs.CallList.{coded}
 use borrow.Author.Needs.{needs}
 use Rattle.capi.proofs.gaffmedlar_first_reading.Statement.{statement}

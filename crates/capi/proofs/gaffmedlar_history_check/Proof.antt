@@ -1,6 +1,6 @@
 -- `capi::gaffmedlar_history_check` meets its contract.
 -- Assumes nothing.
-use mathlib.Core.Path.{_≡_, sym, _∙_, ap}
+use mathlib.Core.Path.{sym, _∙_, ap}
 use Rattle.files.specs.Checks.{historySaid}
 use Rattle.capi.specs.Wire.{historyWire}
 use borrow.Author.Needs.{needs}

@@ -1,6 +1,6 @@
 -- `capi::gaffmedlar_sets` meets its contract.
 -- Assumes nothing.
-use mathlib.Core.Path.{_≡_, sym, _∙_, ap}
+use mathlib.Core.Path.{sym, _∙_, ap}
 use Rattle.sets.specs.Sets.{setsSaid}
 use Rattle.capi.specs.Wire.{setsWire}
 use borrow.Author.Needs.{needs}

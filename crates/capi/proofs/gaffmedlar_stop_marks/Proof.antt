@@ -1,6 +1,6 @@
 -- `capi::gaffmedlar_stop_marks` meets its contract.
 -- Assumes nothing.
-use mathlib.Core.Path.{_≡_, sym, _∙_, ap}
+use mathlib.Core.Path.{sym, _∙_, ap}
 use Rattle.stops.specs.Stops.{marksSaid}
 use Rattle.capi.specs.Wire.{marksWire}
 use borrow.Author.Needs.{needs}

@@ -1,11 +1,10 @@
 -- `first_run::fill` meets its contract.
 -- Assumes nothing.
 use borrow.Author.Needs.{needs}
-use Prim.Native.Nat.{suc, _-_, _≤_, _<_}
-use mathlib.Core.Path.{_≡_, refl, sym, _∙_}
+use Prim.Native.Nat.{suc, _-_}
 use native.Mathlib.Omega.{arith}
 use Rattle.tables.specs.Table.{ruleIn}
-use lib.ListN.{length, length-set, getD}
+use lib.ListN.{length}
 use Rattle.history_file.specs.HistoryFile.{tokensOf}
 use Rattle.levels.proofs.Levels.{tokens-length, close-most}
 use Rattle.first_run.proofs.Sofar.{Going, going-start, found-rule, going-next, going-end}

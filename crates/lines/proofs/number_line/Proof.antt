@@ -1,10 +1,6 @@
-use Prim.Native.Nat.{ℕ}
-use mathlib.Core.Path.{_≡_, refl, sym, _∙_, ap}
-use mathlib.Core.List.{List, [], _∷_, _++_, append-assoc}
-use native.Mathlib.Omega.{arith}
+use mathlib.Core.List.{_++_}
 use Rattle.lines.specs.Text.{decimal}
-use Rattle.lines.specs.Laid.{laid}
-use Rattle.lines.proofs.Laying.{laid-both, laid-then, laid-one}
+use Rattle.lines.proofs.Laying.{laid-both, laid-then}
 use borrow.Author.Needs.{needs}
 use Rattle.lines.proofs.number_line.Statement.{statement}
 use Rattle.lines.proofs.number_line.Tie as tie

@@ -1,10 +1,7 @@
-use Prim.Native.Nat.{ℕ}
-use mathlib.Core.Path.{_≡_, refl, sym, _∙_, ap}
-use mathlib.Core.List.{List, [], _∷_, _++_, append-assoc}
+use mathlib.Core.Path.{_∙_, ap}
 use native.Mathlib.Omega.{arith}
 use Rattle.lines.specs.Text.{decimal}
 use Rattle.lines.specs.Laid.{laid}
-use Rattle.lines.proofs.Laying.{laid-both, laid-then, laid-one}
 use Rattle.lines.proofs.Digits.{decimal-written}
 use borrow.Author.Needs.{needs}
 use Rattle.lines.proofs.put_number.Statement.{statement}

@@ -1,5 +1,3 @@
-use native.Mathlib.Omega.{arith}
-use mathlib.Core.Path.{_≡_, refl, sym, _∙_, ap}
 use Rattle.listing_text.proofs.Turns.{denied, affirmed}
 use Rattle.listing_text.proofs.Whole.{first-begun, first-none, whole-none, whole-some, enough, zeros}
 use borrow.Author.Needs.{needs}

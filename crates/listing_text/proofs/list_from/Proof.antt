@@ -1,4 +1,4 @@
-use mathlib.Core.Path.{_≡_, refl, sym, _∙_, ap}
+use mathlib.Core.Path.{sym, _∙_, ap}
 use Rattle.lines.specs.Laid.{laid}
 use Rattle.listing_text.proofs.Whole.{grammar-refused, grammar-taken, history-refused, both-taken}
 use borrow.Author.Needs.{needs}

@@ -1,8 +1,7 @@
-use Prim.Native.Nat.{_-_, _<_, _≤_}
-use mathlib.Core.Path.{_≡_, refl, sym, _∙_}
+use Prim.Native.Nat.{_-_}
+use mathlib.Core.Path.{sym, _∙_}
 use native.Mathlib.Omega.{arith}
 use borrow.Author.Needs.{needs}
-use lib.ListN.{length}
 use lib.Seq.{length-take-le}
 use Rattle.listing_text.specs.Passing.{entriesOf}
 use Rattle.listing_text.proofs.Turns.{Turns, turns-start, turns-next, turns-end, turns-more, denied, affirmed}

@@ -1,10 +1,10 @@
 -- `next_run::rewrite` meets its contract.
 -- Assumes nothing.
-use Prim.Native.Nat.{suc, _+_, _≤_, _<_}
-use mathlib.Core.Path.{_≡_, refl, sym, _∙_}
+use Prim.Native.Nat.{suc}
+use mathlib.Core.Path.{_∙_}
 use native.Mathlib.Omega.{arith}
 use native.Mathlib.Numerals.{add-one}
-use lib.ListN.{length, length-set, set}
+use lib.ListN.{length-set}
 use Rattle.tables.specs.Table.{ruleIn, rulesIn}
 use Rattle.history_file.specs.HistoryFile.{tokenOf, tokensOf}
 use Rattle.levels.proofs.Levels.{tokens-length, tokens-at, close-most}

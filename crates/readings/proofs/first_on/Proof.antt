@@ -1,6 +1,5 @@
 -- `readings::first_on` meets its contract.
 -- Assumes nothing.
-use Rattle.levels.specs.Levels.{Setting}
 use borrow.Author.Needs.{needs}
 use Rattle.readings.proofs.first_on.Statement.{statement}
 use Rattle.readings.proofs.first_on.Tie as tie

@@ -1,6 +1,5 @@
 -- `readings::next_on` meets its contract.
 -- Assumes nothing.
-use Rattle.levels.specs.Levels.{Setting}
 use borrow.Author.Needs.{needs}
 use Rattle.readings.proofs.next_on.Statement.{statement}
 use Rattle.readings.proofs.next_on.Tie as tie

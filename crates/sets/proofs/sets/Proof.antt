@@ -1,16 +1,16 @@
 -- `sets::sets` meets its contract.
 -- Assumes nothing.
-use Prim.Native.Nat.{ℕ, _+_, _*_, _≤_, _<_}
-use mathlib.Core.Path.{_≡_, refl, sym, _∙_, ap}
+use Prim.Native.Nat.{ℕ, _+_}
+use mathlib.Core.Path.{sym, _∙_, ap}
 use mathlib.Core.List.{List, _++_}
 use native.Mathlib.Omega.{arith}
 use lib.ListN.{length, drop}
-use Rattle.vpg.specs.Sets.{doubtfulCount, setWords}
+use Rattle.vpg.specs.Sets.{setWords}
 use Rattle.frame.specs.Frame.{filesIn}
 use Rattle.frame.proofs.Passed.{files-refused, files-passed}
 use Rattle.frame.proofs.Served.{served-refused, served-short, served-on}
-use Rattle.sets.specs.Sets.{Given, written, counted, refused, wordsFor}
-use Rattle.sets.proofs.SameSets.{same-sets, same-count}
+use Rattle.sets.specs.Sets.{Given, written, refused, wordsFor}
+use Rattle.sets.proofs.SameSets.{same-sets}
 use borrow.Author.Needs.{needs}
 use Rattle.sets.proofs.sets.Statement.{statement}
 use Rattle.sets.proofs.sets.Tie as tie

@@ -1,15 +1,14 @@
 -- `walk::walk` meets its contract.
 -- Assumes nothing.
 use borrow.Author.Needs.{needs}
-use Prim.Native.Nat.{suc, _-_, _≤_, _<_}
-use mathlib.Core.Path.{_≡_, refl, sym, _∙_}
-use mathlib.Core.Bool.{Bool, true, false}
+use Prim.Native.Nat.{suc, _-_}
+use mathlib.Core.Path.{sym, _∙_}
 use native.Mathlib.Omega.{arith}
 use Rattle.tables.specs.Table.{ruleIn}
 use lib.ListN.{length, take}
 use Rattle.history_file.specs.HistoryFile.{tokensOf}
 use Rattle.levels.proofs.Levels.{tokens-length, close-most}
-use Rattle.walk.proofs.Walking.{Walking, walking-start, walking-refused, rule-below, walking-end, walking-next, walking-last}
+use Rattle.walk.proofs.Walking.{Walking, walking-start, walking-refused, rule-below, walking-next, walking-last}
 use Rattle.walk.proofs.walk.Statement.{statement}
 use Rattle.walk.proofs.walk.Tie as tie
 

@@ -10,11 +10,11 @@ use lib.Seq.{length-take-le}
 use Rattle.vectors.proofs.refused.short_refused.Statement.{statement}
 use Rattle.vectors.proofs.refused.short_refused.Tie as tie
 
-array-borrow-prefix-lent : tie.Need-array-borrow-prefix-lent
-array-borrow-prefix-lent c = search needs
+array-borrow-prefix-bytes : tie.Need-array-borrow-prefix-bytes
+array-borrow-prefix-bytes c = search needs
 
-slice-aggregate-lenders-refused : tie.Need-slice-aggregate-lenders-refused
-slice-aggregate-lenders-refused c = sym (length-take-le _ _ (omega arith))
+slice-aggregate-buffers-refused : tie.Need-slice-aggregate-buffers-refused
+slice-aggregate-buffers-refused c = sym (length-take-le _ _ (omega arith))
 
 mul-words : tie.Need-mul-words
 mul-words c = search needs
@@ -25,11 +25,11 @@ add-words c = search needs
 array-borrow-prefix-words : tie.Need-array-borrow-prefix-words
 array-borrow-prefix-words c = search needs
 
-slice-aggregate-lenders-refused-2 : tie.Need-slice-aggregate-lenders-refused-2
-slice-aggregate-lenders-refused-2 c = sym (length-take-le _ _ (omega arith))
+slice-aggregate-buffers-refused-2 : tie.Need-slice-aggregate-buffers-refused-2
+slice-aggregate-buffers-refused-2 c = sym (length-take-le _ _ (omega arith))
 
-lenders-refused-requires : tie.Need-lenders-refused-requires
-lenders-refused-requires c κs = search needs
+buffers-refused-requires : tie.Need-buffers-refused-requires
+buffers-refused-requires c κs = search needs
 
 returns : tie.Need-returns
 returns c = search needs
@@ -38,11 +38,11 @@ pub short-refused-spec : {M : Type 1} → statement M
 short-refused-spec =
     tie.close
     (tie.spec
-    array-borrow-prefix-lent
-    slice-aggregate-lenders-refused
+    array-borrow-prefix-bytes
+    slice-aggregate-buffers-refused
     mul-words
     add-words
     array-borrow-prefix-words
-    slice-aggregate-lenders-refused-2
-    lenders-refused-requires
+    slice-aggregate-buffers-refused-2
+    buffers-refused-requires
     returns)
