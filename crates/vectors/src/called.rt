@@ -115,7 +115,7 @@ fn make(
 }
 
 // Whether the calls give the answers of the plain listing and leave its buffer. The answers are as they were lent before.
-pub fn same_calls(
+pub(crate) fn same_calls(
     grammar: &[u8],
     history: &[u8],
     kinds: &[u8],

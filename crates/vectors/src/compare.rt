@@ -6,7 +6,7 @@ ghost use Prim.Native.Nat.{_≤_};
 pub const FILLER: u8 = 7;
 
 // Whether the n bytes of xs from `from` on are the first n of ys.
-pub fn same(xs: &[u8], from: usize, ys: &[u8], n: usize) -> bool
+pub(crate) fn same(xs: &[u8], from: usize, ys: &[u8], n: usize) -> bool
     requires { ⌜ (from ≤ 70000) × (n ≤ 70000) ⌝ }
 {
     let mut i: usize = 0;
@@ -17,7 +17,7 @@ pub fn same(xs: &[u8], from: usize, ys: &[u8], n: usize) -> bool
 }
 
 // Whether every byte from `from` on is as it was lent.
-pub fn untouched(xs: &[u8], from: usize) -> bool {
+pub(crate) fn untouched(xs: &[u8], from: usize) -> bool {
     let mut i = from;
     while i < xs.len() && xs[i] == FILLER {
         i += 1;
@@ -26,7 +26,7 @@ pub fn untouched(xs: &[u8], from: usize) -> bool {
 }
 
 // Copies n bytes of xs from `from` on to the start of ys.
-pub fn copy_from(xs: &[u8], from: usize, ys: &mut [u8], n: usize)
+pub(crate) fn copy_from(xs: &[u8], from: usize, ys: &mut [u8], n: usize)
     requires { ⌜ (from ≤ 200000) × (n ≤ 70000) ⌝ }
 {
     let mut i: usize = 0;
@@ -37,7 +37,7 @@ pub fn copy_from(xs: &[u8], from: usize, ys: &mut [u8], n: usize)
 }
 
 // Copies the first n bytes of xs to the place `to` of ys.
-pub fn copy_to(xs: &[u8], ys: &mut [u8], to: usize, n: usize)
+pub(crate) fn copy_to(xs: &[u8], ys: &mut [u8], to: usize, n: usize)
     requires { ⌜ (to ≤ 70000) × (n ≤ 70000) ⌝ }
 {
     let mut i: usize = 0;

@@ -45,7 +45,7 @@ fn right_bits(words: &[u32], list: &[u8], entries: Entries) -> bool {
     i == bits
 }
 
-pub fn untouched(words: &[u32], from: usize) -> bool {
+pub(crate) fn untouched(words: &[u32], from: usize) -> bool {
     let mut i = from;
     while i < words.len() && words[i] == FILLER {
         i += 1;
@@ -54,7 +54,7 @@ pub fn untouched(words: &[u32], from: usize) -> bool {
 }
 
 // Whether the sets are those of the entries, and the words behind them are as they were lent.
-pub fn same_sets(grammar: &[u8], history: &[u8], list: &[u8], entries: Entries) -> bool {
+pub(crate) fn same_sets(grammar: &[u8], history: &[u8], list: &[u8], entries: Entries) -> bool {
     let mut space = [FILLER; 4104];
     let words: &mut [u32] = &mut space;
     let answer = sets::sets(grammar, history, words);
@@ -97,7 +97,7 @@ fn doubtful(list: &[u8], entries: Entries) -> u32 {
 }
 
 // Whether the doubtful count is the number of positions at which the entries differ.
-pub fn same_count(grammar: &[u8], history: &[u8], list: &[u8], entries: Entries) -> bool {
+pub(crate) fn same_count(grammar: &[u8], history: &[u8], list: &[u8], entries: Entries) -> bool {
     let answer = sets::doubtful_count(grammar, history);
     let CountAnswer::Count(count) = answer else {
         return false;

@@ -57,7 +57,7 @@ fn nexts(grammar: &[u8], history: &[u8], list: &[u8], entries: Entries, buffer: 
 }
 
 // Whether first reading and then next readings give the list, and none where it is empty.
-pub fn same_list(grammar: &[u8], history: &[u8], list: &[u8], entries: Entries) -> bool {
+pub(crate) fn same_list(grammar: &[u8], history: &[u8], list: &[u8], entries: Entries) -> bool {
     let mut space = [FILLER; 1028];
     let buffer: &mut [u8] = &mut space;
     let answer = calls::call(grammar, history, 0, buffer);

@@ -11,7 +11,7 @@ fn right_mark(rules: &[u8], tokens: &[u8], marks: &[u8], i: usize) -> bool {
 }
 
 // Whether every mark is right, and the bytes behind them are as they were lent.
-pub fn same_marks(grammar: &[u8], history: &[u8], rules: &[u8], tokens: &[u8]) -> bool {
+pub(crate) fn same_marks(grammar: &[u8], history: &[u8], rules: &[u8], tokens: &[u8]) -> bool {
     let mut space = [FILLER; 1028];
     let marks: &mut [u8] = &mut space;
     let answer = stops::stop_marks(grammar, history, marks);

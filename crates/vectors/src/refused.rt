@@ -54,7 +54,7 @@ fn buffers_refused(
 }
 
 // Whether every service answers the number of the file's fault.
-pub fn all_refused(grammar: &[u8], history: &[u8], due: u8) -> bool {
+pub(crate) fn all_refused(grammar: &[u8], history: &[u8], due: u8) -> bool {
     let mut bytes = [crate::compare::FILLER; 1028];
     let mut words = [crate::kept_rules::FILLER; 4104];
     buffers_refused(grammar, history, &mut bytes, &mut words, due)
@@ -62,7 +62,7 @@ pub fn all_refused(grammar: &[u8], history: &[u8], due: u8) -> bool {
 }
 
 // Whether each service refuses a buffer that is one element too short, by 15.
-pub fn short_refused(grammar: &[u8], history: &[u8], n: usize) -> bool
+pub(crate) fn short_refused(grammar: &[u8], history: &[u8], n: usize) -> bool
     requires { ⌜ n ≤ 1024 ⌝ }
 {
     let mut bytes = [crate::compare::FILLER; 1028];
@@ -77,7 +77,7 @@ pub fn short_refused(grammar: &[u8], history: &[u8], n: usize) -> bool
 }
 
 // Whether a list of calls is refused by 15 where one answer too few can be written.
-pub fn calls_refused(grammar: &[u8], history: &[u8]) -> bool {
+pub(crate) fn calls_refused(grammar: &[u8], history: &[u8]) -> bool {
     let mut answers = [crate::compare::FILLER; 2];
     let mut buffer = [crate::compare::FILLER; 1028];
     let answer = calls::run_calls(grammar, history, b"\x00\x01\x01", &mut answers, &mut buffer);

@@ -9,7 +9,7 @@ fn say(text: &[u8]) {
 }
 
 // How many readings the enumerator has listed, and whether these are all.
-pub fn say_count(entries: Entries) {
+pub(crate) fn say_count(entries: Entries) {
     if entries.lost {
         say(b" the enumerator gave up;");
         return;
@@ -27,7 +27,7 @@ pub fn say_count(entries: Entries) {
 }
 
 // What was compared, and whether it is the same.
-pub fn tell(what: &[u8], same: bool) {
+pub(crate) fn tell(what: &[u8], same: bool) {
     say(b" ");
     say(what);
     if same {
@@ -57,7 +57,7 @@ fn show_line(list: &[u8], from: usize, n: usize)
 }
 
 // Writes each reading of the list.
-pub fn show_list(list: &[u8], entries: Entries) {
+pub(crate) fn show_list(list: &[u8], entries: Entries) {
     let size = entries.size as usize;
     let end = entries.end as usize;
     if size == 0 {
@@ -72,7 +72,7 @@ pub fn show_list(list: &[u8], entries: Entries) {
 }
 
 // Writes the stop marks.
-pub fn show_marks(grammar: &[u8], history: &[u8], tokens: &[u8]) {
+pub(crate) fn show_marks(grammar: &[u8], history: &[u8], tokens: &[u8]) {
     let mut marks = [crate::compare::FILLER; 1028];
     stops::stop_marks(grammar, history, &mut marks);
     say(b"  marks");
@@ -80,7 +80,7 @@ pub fn show_marks(grammar: &[u8], history: &[u8], tokens: &[u8]) {
 }
 
 // Writes the answers to a list of calls.
-pub fn show_answers(answers: &[u8], kinds: &[u8]) {
+pub(crate) fn show_answers(answers: &[u8], kinds: &[u8]) {
     say(b"  answers");
     show_line(answers, 0, shorter(kinds.len(), 300));
 }
