@@ -125,7 +125,7 @@ module _ (x : Subject) (p : Proper x) (buf : List ℕ) where
       let a = call-agrees x p buf c s h in
       rw (a .0) (ap (λ (r : List (Answer × List ℕ)). seen x buf (model x c s) ∷ r) (traces cs (model x c s .1) (a .1)))
 
-  -- "after every such list each answer is the book's", and each buffer too
+  -- after every such list each answer is the model's, and each buffer too
   pub listing : (cs : List Call) → trace (callOn x) cs buf ≡ map (λ m. (m .0, shows x buf (m .1))) (trace (model x) cs (start x buf))
   listing cs =
       let h = start-agrees x buf in

@@ -1,4 +1,4 @@
--- A list of the calls first reading and next reading on one buffer: the listing model (document 01, "The plain listing": the book).
+-- A list of the calls first reading and next reading on one buffer: the listing model (document 01, "The plain listing").
 -- Assumes nothing.
 use Prim.Native.Nat.{ℕ, zero, suc}
 use mathlib.Core.Bool.{Bool, true, false, _&&_}

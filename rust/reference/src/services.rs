@@ -28,7 +28,7 @@ struct Served {
     sets: OnceCell<Vec<u32>>,
 }
 
-/// Where the book stands (document 01, "The plain listing"): at an entry, by its place from 0, or at none.
+/// Where the plain listing stands (document 01): at an entry, by its place from 0, or at none.
 type Entry = Option<Big>;
 
 impl Work {
@@ -100,7 +100,7 @@ impl Work {
         0
     }
 
-    /// The whole list by the book: no call looks at the buffer, which is filled at the end.
+    /// The whole list by the plain listing: no call looks at the buffer, which is filled at the end.
     pub fn run_calls(&self, calls: &[u8], answers: &mut [u8], buffer: &mut [u8]) -> u8 {
         if answers.len() < calls.len() {
             return 15;
