@@ -23,8 +23,8 @@ pub enum HistoryCheck {
 pub fn grammar_check(grammar: &[u8]) -> GrammarCheck
     ensures { λ r. ⌜ grammarSaid r ≡ grammarDue (grammarOf (now (grammar .entry))) ⌝ }
 {
-    let read = grammar_file::read_grammar(grammar);
-    let answer = read.answer;
+    let mut table = [0u16; 768];
+    let answer = grammar_file::read_into(grammar, &mut table);
     match answer {
         GrammarAnswer::Accepted(nonterminals, _, rules) => GrammarCheck::Accepted(
             nonterminals,

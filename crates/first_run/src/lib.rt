@@ -4,7 +4,7 @@ use tables::Six;
 ghost use mathlib.Core.Path.{_≡_};
 ghost use mathlib.Core.List.{[]};
 ghost use Prim.Native.Nat.{_+_, _<_, _≤_};
-ghost use lib.ListN.{length, drop};
+ghost use lib.ListN.{length, drop, getD, set};
 ghost use Rattle.vpg.specs.Listing.{first};
 ghost use Rattle.vpg.specs.Calls.{callOn, overEntries};
 ghost use Rattle.masks.specs.Masks.{masks, Fits};
@@ -54,17 +54,18 @@ pub fn inner_of(rule: Six, d: u16) -> u16
     rule.3
 }
 
-// The nonterminal behind the close of a step; d is what stands there already.
-pub fn later_of(rule: Six, d: u16) -> u16
-    ensures { λ r. ⌜ r ≡ later (ruleFrom rule) d ⌝ }
+// Stores at position j the nonterminal behind the close of a step; any other rule leaves all as it is.
+pub fn store_later(behind: &mut [u16; 1025], j: usize, rule: Six)
+    requires { ⌜ (length (now behind) ≡ 1025) × (j < 1025) ⌝ }
+    ensures { λ _. ⌜ now (behind .exit) ≡ set (now (behind .entry)) j (later (ruleFrom rule) (getD (now (behind .entry)) j 0)) ⌝ }
 {
     if rule.0 == 0 {
-        return d;
+        return;
     }
     if rule.0 == 1 {
-        return d;
+        return;
     }
-    rule.5
+    behind[j] = rule.5;
 }
 
 // Writes the first run from a position on; behind has the nonterminal behind each pending close.
@@ -93,7 +94,7 @@ pub fn fill(
         out[p] = r as u8;
         let j = m[p];
         l = inner_of(rule, due[p]);
-        due[j] = later_of(rule, due[j]);
+        store_later(&mut due, j, rule);
         p += 1;
     }
     let last = smallest(table, count, l, levels::place_at(w, m, mask, p));

@@ -29,7 +29,7 @@ pub enum TokenRead {
 
 // The token of a number.
 pub fn token_of(t: u32) -> Token
-    requires { ⌜ t < 262144 ⌝ }
+    requires { ⌜ t < 65536 ⌝ }
     ensures { λ r. ⌜ r ≡ tokenOf t ⌝ }
 {
     let name = (t / 4) as u16;

@@ -31,10 +31,11 @@ use Rattle.history_file.specs.HistoryFile.{tokenOf, tokensOf}
 use Rattle.levels.specs.Levels.{Stands, Setting}
 use Rattle.levels.proofs.Levels.{tokens-length, tokens-at, close-most}
 use Rattle.rows.specs.Words.{Held}
-use Rattle.rows.specs.Rows.{Row, keepsAt, rowIn}
+use Rattle.rows.specs.declared.Ways.{Ways}
+use Rattle.rows.specs.Rows.{keepsAt, waysIn, wordsIn}
 use Rattle.rows.proofs.Words.{held-word}
 use Rattle.rows.proofs.Rows.{held-count, words-held, next-going, behind-returning}
-use Rattle.kept.specs.Kept.{startSet, keepsHere, RowOf}
+use Rattle.kept.specs.Kept.{startSet, keepsHere, WaysOf, WordsOf}
 
 -- ── tests ──
 
@@ -80,17 +81,25 @@ module _ (t : List ℕ) (n start : ℕ) (ts m mask : List ℕ) (x : Setting t n 
 
   -- ── the row of a position ──
 
-  pub row-of : (here p : ℕ) (place : Place) (r : Row) → Stands W mask p place → r ≡ rowIn t here place n → RowOf t n W here p r
-  row-of here p place r s e = rw e (record {
-    long = words-held t here place n (x .ready .few) .0;
-    words = subst (λ (k : Rule → Bool). Held 32 n (λ q. k (ruleIn t q)) (rowIn t here place n .words)) same (words-held t here place n (x .ready .few) .1);
-    held = held-count t here place n ∙ ap (λ (k : Rule → Bool). count n (λ q. k (ruleIn t q))) same;
-    next = λ K. next-going t here place K n ∙ ap (λ (k : Rule → Bool). going k G K) same;
-    behind = λ K. behind-returning t here place K n ∙ ap (λ (k : Rule → Bool). returning k G K) same;
-  })
-    where
-      same : keepsAt here place ≡ keepsHere t n W here p
-      same = fun-ext (λ R. ap (λ (b : Bool). bit here (left R) && b) (s G (λ k a b. x .leveled k (omega arith) b) R))
+  keeps-same : (here p : ℕ) (place : Place) → Stands W mask p place → keepsAt here place ≡ keepsHere t n W here p
+  keeps-same here p place s = fun-ext (λ R. ap (λ (b : Bool). bit here (left R) && b) (s G (λ k a b. x .leveled k (omega arith) b) R))
+
+  pub ways-of : (here p : ℕ) (place : Place) (r : Ways) → Stands W mask p place → r ≡ waysIn t here place n → WaysOf t n W here p r
+  ways-of here p place r s e =
+      let same = keeps-same here p place s in
+      rw e (record {
+        held = held-count t here place n ∙ ap (λ (k : Rule → Bool). count n (λ q. k (ruleIn t q))) same;
+        next = λ K. next-going t here place K n ∙ ap (λ (k : Rule → Bool). going k G K) same;
+        behind = λ K. behind-returning t here place K n ∙ ap (λ (k : Rule → Bool). returning k G K) same;
+      })
+
+  pub words-of : (here p : ℕ) (place : Place) (ws : List ℕ) → Stands W mask p place → ws ≡ wordsIn t here place n → WordsOf t n W here p ws
+  words-of here p place ws s e =
+      let same = keeps-same here p place s in
+      rw e (record {
+        long = words-held t here place n (x .ready .few) .0;
+        words = subst (λ (k : Rule → Bool). Held 32 n (λ q. k (ruleIn t q)) (wordsIn t here place n)) same (words-held t here place n (x .ready .few) .1);
+      })
 
   -- ── the nonterminals that can stand ──
 
@@ -100,7 +109,7 @@ module _ (t : List ℕ) (n start : ℕ) (ts m mask : List ℕ) (x : Setting t n 
       (λ L. start-bit (getD mask 0 0) start L ∙ ap (λ (b : Bool). eqb L start && b) (x .leveled 0 (omega arith) (omega arith) L))
       (λ j K. rw (zeros 1025 j) (bit-zero K))
 
-  fronted-next : (here p j next : ℕ) (behind behind′ : List ℕ) (r : Row) → p < length ts → length behind ≡ 1025 → Fronted t n start ts p here behind → RowOf t n W here p r → j ≡ getD m p 0 →
+  fronted-next : (here p j next : ℕ) (behind behind′ : List ℕ) (r : Ways) → p < length ts → length behind ≡ 1025 → Fronted t n start ts p here behind → WaysOf t n W here p r → j ≡ getD m p 0 →
       next ≡ bitOr (getD behind p 0) (r .next) → behind′ ≡ set behind j (bitOr (getD behind j 0) (r .behind)) → Fronted t n start ts (suc p) next behind′
   fronted-next here p j next behind behind′ r h long f row e q q′ =
       front-next g W p (length W) (tokenOf (getD ts p 0)) (tokens-at ts p h) (bit here) (λ j. bit (getD behind j 0)) f (bit next) (λ j. bit (getD behind′ j 0))
@@ -132,7 +141,7 @@ module _ (t : List ℕ) (n start : ℕ) (ts m mask : List ℕ) (x : Setting t n 
   pub close-room : (p : ℕ) → p ≤ length ts → getD m p 0 < 1025
   close-room p h = let e = x .matched p (omega arith) (rw tokens-length h) in omega (arith, x .tokens .few, tokens-length ts, close-most W (suc p))
 
-  pub going-next : (here p next : ℕ) (behind behind′ : List ℕ) (r : Row) → p ≤ length ts → Going t n start ts p here behind → RowOf t n W here p r →
+  pub going-next : (here p next : ℕ) (behind behind′ : List ℕ) (r : Ways) → p ≤ length ts → Going t n start ts p here behind → WaysOf t n W here p r →
       next ≡ bitOr (getD behind p 0) (r .next) → behind′ ≡ set behind (getD m p 0) (bitOr (getD behind (getD m p 0) 0) (r .behind)) → Going t n start ts (p + 1) next behind′
   going-next here p next behind behind′ r h k row q q′ = record {
     within = omega arith;
@@ -155,18 +164,18 @@ module _ (t : List ℕ) (n start : ℕ) (ts m mask : List ℕ) (x : Setting t n 
             past (some R) q = absurd (omega (arith, rules-below t n r q, ltb-false r n e))
 
     -- the words of the row are those of the set
-    pub words-here : (r : Row) → RowOf t n W here p r → r .words ≡ listed 4 (setWord g W p)
+    pub words-here : (ws : List ℕ) → WordsOf t n W here p ws → ws ≡ listed 4 (setWord g W p)
     unfolding setWord
-    words-here r row = ext-getD 0 (r .words) (listed 4 (setWord g W p)) (row .long ∙ sym (length-listed 4 (setWord g W p))) word
+    words-here ws row = ext-getD 0 (ws) (listed 4 (setWord g W p)) (row .long ∙ sym (length-listed 4 (setWord g W p))) word
       where
-        word : (k : ℕ) → k < length (r .words) → getD (r .words) k 0 ≡ getD (listed 4 (setWord g W p)) k 0
+        word : (k : ℕ) → k < length (ws) → getD (ws) k 0 ≡ getD (listed 4 (setWord g W p)) k 0
         word k l =
-            held-word 32 n (λ q. keepsHere t n W here p (ruleIn t q)) (r .words) (row .words) k
+            held-word 32 n (λ q. keepsHere t n W here p (ruleIn t q)) (ws) (row .words) k
             ∙ ap (wordOf 32) (fun-ext (λ b. sym (kept-here (32 * k + b))))
             ∙ sym (getD-listed 4 (setWord g W p) k 0 (rw (row .long) at l))
 
     -- "a position is doubtful when its set holds more than one rule"
-    pub doubtful-here : (r : Row) → RowOf t n W here p r → doubtful g W p ≡ ltb 1 (r .held)
+    pub doubtful-here : (r : Ways) → WaysOf t n W here p r → doubtful g W p ≡ ltb 1 (r .held)
     unfolding doubtful
     doubtful-here r row =
         let e : count n (kept g W p) ≡ r .held = count-same n (kept g W p) (λ q. keepsHere t n W here p (ruleIn t q)) below ∙ sym (row .held) in

@@ -1,4 +1,4 @@
--- The row of a position, and where the pass begins.
+-- What is kept at a position, and where the pass begins.
 -- Assumes nothing.
 use Prim.Native.Nat.{ℕ}
 use mathlib.Core.Path.{_≡_}
@@ -11,7 +11,7 @@ use Rattle.vpg.specs.declared.Token.{Token}
 use Rattle.vpg.specs.Sets.{count}
 use Rattle.masks.specs.Kept.{keeps, going, returning}
 use Rattle.tables.specs.Table.{ruleIn, rulesIn}
-use Rattle.rows.specs.Rows.{Row}
+use Rattle.rows.specs.declared.Ways.{Ways}
 use Rattle.rows.specs.Words.{Held}
 
 -- the start, if it is in the word of position 0
@@ -22,10 +22,13 @@ startSet m start = cond (bit m start) (addBit 0 start) 0
 abbrev pub keepsHere : List ℕ → ℕ → List Token → ℕ → ℕ → Rule → Bool
 keepsHere t n w here p R = keeps (rulesIn t n) (drop p w) (bit here) R
 
--- the row has the rules that are kept at position p, how many they are, and the nonterminals with which they go on
-pub record RowOf (t : List ℕ) (n : ℕ) (w : List Token) (here p : ℕ) (x : Row) : Type 0 where
-  pub long : length (x .words) ≡ 4
-  pub words : Held 32 n (λ r. keepsHere t n w here p (ruleIn t r)) (x .words)
+-- so many rules are kept at position p, and with these nonterminals they go on
+pub record WaysOf (t : List ℕ) (n : ℕ) (w : List Token) (here p : ℕ) (x : Ways) : Type 0 where
   pub held : x .held ≡ count n (λ r. keepsHere t n w here p (ruleIn t r))
   pub next : (K : ℕ) → bit (x .next) K ≡ going (keepsHere t n w here p) (rulesIn t n) K
   pub behind : (K : ℕ) → bit (x .behind) K ≡ returning (keepsHere t n w here p) (rulesIn t n) K
+
+-- the words have the rules that are kept at position p
+pub record WordsOf (t : List ℕ) (n : ℕ) (w : List Token) (here p : ℕ) (ws : List ℕ) : Type 0 where
+  pub long : length ws ≡ 4
+  pub words : Held 32 n (λ r. keepsHere t n w here p (ruleIn t r)) ws

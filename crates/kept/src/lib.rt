@@ -11,8 +11,7 @@ ghost use Rattle.masks.specs.Pending.{pendingAt};
 ghost use Rattle.tables.specs.Ready.{grammarIn};
 ghost use Rattle.history_file.specs.HistoryFile.{tokensOf};
 ghost use Rattle.levels.specs.Levels.{Setting};
-ghost use Rattle.rows.specs.Rows.{rowOf};
-ghost use Rattle.kept.specs.Kept.{startSet, RowOf};
+ghost use Rattle.kept.specs.Kept.{startSet, WaysOf, WordsOf};
 
 // The nonterminals that can stand at position 0: the start, if it derives the tokens.
 fn start_set(mask: u32, start: u16) -> u32
@@ -39,10 +38,27 @@ fn row_of(
 ) -> Ways
     requires { ⌜ Setting (now table) count (now w) (now m) (now mask) ⌝ }
     requires { ⌜ (p ≤ length (now w)) × (length (now words) ≡ 4) ⌝ }
-    ensures { λ r. ⌜ RowOf (now (table .entry)) count (tokensOf (now (w .entry))) here p (rowOf (now (words .exit)) r) ⌝ }
+    ensures { λ r. ⌜ WaysOf (now (table .entry)) count (tokensOf (now (w .entry))) here p r × WordsOf (now (table .entry)) count (tokensOf (now (w .entry))) here p (now (words .exit)) ⌝ }
 {
     let place = levels::place_at(w, m, mask, p);
     rows::row_at(table, count, here, place, words)
+}
+
+// The ways on from position p, where the nonterminals `here` can stand.
+fn ways_of(
+    table: &[u16; 768],
+    count: usize,
+    w: &[u32],
+    m: &[usize; 1025],
+    mask: &[u32; 1025],
+    here: u32,
+    p: usize,
+) -> Ways
+    requires { ⌜ Setting (now table) count (now w) (now m) (now mask) ⌝ }
+    requires { ⌜ p ≤ length (now w) ⌝ }
+    ensures { λ r. ⌜ WaysOf (now (table .entry)) count (tokensOf (now (w .entry))) here p r ⌝ }
+{
+    rows::ways_at(table, count, here, levels::place_at(w, m, mask, p))
 }
 
 // Stores the nonterminals that can stand behind the close at position j, and answers those that can stand at the next position.
@@ -113,11 +129,10 @@ pub fn doubtful(
 {
     let mut behind = [0u32; 1025];
     let mut here = start_set(mask[0], start);
-    let mut words = [0u32; 4];
     let mut total: u32 = 0;
     let mut p: usize = 0;
     while p <= w.len() {
-        let ways = row_of(table, count, w, m, mask, here, p, &mut words);
+        let ways = ways_of(table, count, w, m, mask, here, p);
         total = counted(total, ways.held);
         here = onward(&mut behind, p, m[p], ways);
         p += 1;

@@ -22,7 +22,7 @@ use Rattle.masks.specs.Walk.{testAt}
 use Rattle.masks.proofs.Walk.{level-test}
 use Rattle.masks.proofs.Pending.{pending-from, pending-next, pending-close, pending-rest, masks-outer}
 use Rattle.places.specs.declared.Place.{Place}
-use Rattle.places.specs.Place.{appliesTo, endPlace, levelIn}
+use Rattle.places.specs.Place.{appliesTo, appliesHere, endPlace, levelIn}
 use Rattle.places.proofs.Places.{level-bit}
 use Rattle.tables.specs.Table.{rulesIn}
 use Rattle.numbers.specs.Number.{pick}
@@ -99,7 +99,7 @@ top-next w i (Token.Open a) v top beyond e p q = rw (pending-next w i e) (go (pe
 
 -- words and names that say what masks say
 applies-words : (m : Masks) (t : Token) (x : ℕ) (b : CloseName) (y : ℕ) → ((L : ℕ) → bit x L ≡ m .0 L) → ((c : CloseName) (L : ℕ) → (eqb (c .0) (b .0) && bit y L) ≡ behind (m .1) c L) →
-    (R : Rule) → appliesTo R (record { token = t; inside = x; close = b; after = y }) ≡ applies m t R
+    (R : Rule) → appliesHere R t x b y ≡ applies m t R
 applies-words m (Token.Mark c) x b y h k (Rule.Empty M) = refl
 applies-words m (Token.Mark c) x b y h k (Rule.Mark M c′ M₁) = rw (h M₁)
 applies-words m (Token.Mark c) x b y h k (Rule.Step M a M₁ b′ M₂) = refl
@@ -111,7 +111,7 @@ applies-words m (Token.Close c) x b y h k (Rule.Mark M c′ M₁) = refl
 applies-words m (Token.Close c) x b y h k (Rule.Step M a M₁ b′ M₂) = refl
 
 pub stands-end : (w : List Token) (mask : List ℕ) (p : ℕ) → length w ≤ p → Stands w mask p endPlace
-unfolding testAt
+unfolding testAt tokenOf
 stands-end w mask p h g l R = rw (drop-of-length-le w h) (go R)
   where
     go : (R : Rule) → appliesTo R endPlace ≡ testAt g [] R
@@ -127,14 +127,14 @@ module _ (ts mask : List ℕ) (p : ℕ) (here : p < length ts) where
   Closing = closeOf (pendingAt W (suc p)) (length W)
 
   stands : (b : CloseName) (y : ℕ) → ((g : Rules) → Leveled g W mask (suc p) → (c : CloseName) (L : ℕ) → (eqb (c .0) (b .0) && bit y L) ≡ behind (masks g (drop (suc p) W) .1) c L) →
-      Stands W mask p (record { token = tokenOf (getD ts p 0); inside = getD mask (suc p) 0; close = b; after = y })
+      Stands W mask p (record { number = getD ts p 0; inside = getD mask (suc p) 0; close = b; after = y })
   unfolding testAt
   stands b y k g l R =
       rw (tokens-at ts p here)
       (applies-words (masks g (drop (suc p) W)) (tokenOf (getD ts p 0)) (getD mask (suc p) 0) b y (l (suc p) (omega arith) (rw tokens-length here)) (k g l) R)
 
   pub stands-closed : (b : CloseName) → Closing < length ts → b .0 ≡ getD ts Closing 0 / 4 →
-      Stands W mask p (record { token = tokenOf (getD ts p 0); inside = getD mask (suc p) 0; close = b; after = getD mask (suc Closing) 0 })
+      Stands W mask p (record { number = getD ts p 0; inside = getD mask (suc p) 0; close = b; after = getD mask (suc Closing) 0 })
   stands-closed b h e = stands b (getD mask (suc Closing) 0) (λ g l c L. rw (masks-outer g W (suc p)) (go g l (pendingAt W (suc p)) refl c L))
     where
       go : (g : Rules) → Leveled g W mask (suc p) → (q : Closes) → pendingAt W (suc p) ≡ q → (c : CloseName) (L : ℕ) →
@@ -153,7 +153,7 @@ module _ (ts mask : List ℕ) (p : ℕ) (here : p < length ts) where
           after : pendingAt W (suc p) ≡ d ∷ q → suc p ≤ suc (d .1)
           after f = omega (arith, pending-from (drop (suc p) W) (suc p) d (rw f (List·Memᴰ·head refl)))
 
-  pub stands-open : (b : CloseName) → length ts ≤ Closing → Stands W mask p (record { token = tokenOf (getD ts p 0); inside = getD mask (suc p) 0; close = b; after = 0 })
+  pub stands-open : (b : CloseName) → length ts ≤ Closing → Stands W mask p (record { number = getD ts p 0; inside = getD mask (suc p) 0; close = b; after = 0 })
   stands-open b h = stands b 0 (λ g l c L. rw (masks-outer g W (suc p)) (go g (pendingAt W (suc p)) refl c L))
     where
       go : (g : Rules) (q : Closes) → pendingAt W (suc p) ≡ q → (c : CloseName) (L : ℕ) →

@@ -45,10 +45,9 @@ pub fn closes(w: &[u32]) -> [usize; 1025]
 fn end_place() -> Place
     ensures { λ r. ⌜ r ≡ endPlace ⌝ }
 {
-    let token = Token::Close(CloseName(0));
     let close = CloseName(0);
     Place {
-        token,
+        number: 2,
         inside: 0,
         close,
         after: 0,
@@ -56,7 +55,7 @@ fn end_place() -> Place
 }
 
 fn close_name(t: u32) -> CloseName
-    requires { ⌜ t < 262144 ⌝ }
+    requires { ⌜ t < 65536 ⌝ }
     ensures { λ r. ⌜ r .0 ≡ t / 4 ⌝ }
 {
     CloseName((t / 4) as u16)
@@ -72,14 +71,14 @@ pub fn place_at(w: &[u32], m: &[usize; 1025], mask: &[u32; 1025], p: usize) -> P
     if p == w.len() {
         return end_place();
     }
-    let token = history_file::token_of(w[p]);
+    let number = w[p] as u16;
     let inside = mask[p + 1];
     let j = m[p];
     if j < w.len() {
         let close = close_name(w[j]);
         let after = mask[j + 1];
         return Place {
-            token,
+            number,
             inside,
             close,
             after,
@@ -87,7 +86,7 @@ pub fn place_at(w: &[u32], m: &[usize; 1025], mask: &[u32; 1025], p: usize) -> P
     }
     let close = CloseName(0);
     Place {
-        token,
+        number,
         inside,
         close,
         after: 0,

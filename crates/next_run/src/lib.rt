@@ -76,7 +76,7 @@ fn rewrite(
         let j = m[p];
         let mut due = behind;
         let l = first_run::inner_of(rule, behind[p]);
-        due[j] = first_run::later_of(rule, behind[j]);
+        first_run::store_later(&mut due, j, rule);
         first_run::fill(table, count, w, m, mask, due, l, p + 1, buf);
     }
 }

@@ -8,15 +8,23 @@ ghost use Prim.Native.Nat.{_<_};
 ghost use lib.Dec.{eqb};
 ghost use Rattle.tables.specs.Table.{ruleIn};
 ghost use Rattle.tables.specs.Ready.{Below, Ready};
+ghost use Rattle.history_file.specs.HistoryFile.{tokenOf};
 ghost use Rattle.places.specs.Place.{isClose, markApplies, stepApplies, appliesTo, withLeft, levelIn};
 
-// What stands at a position: the token, the nonterminals that derive what follows it, and for an open the name of its close and
-// the nonterminals that derive what follows that. At the end stands a close.
+// What stands at a position: the number of the token, the nonterminals that derive what follows it, and for an open the name of its close
+// and the nonterminals that derive what follows that. At the end stands a close. The number and not the token: a place is made at one of
+// several points, and compiled code that carried a token from there would put it together and take it apart again.
 pub struct Place {
-    pub token: Token,
+    pub number: u16,
     pub inside: u32,
     pub close: CloseName,
     pub after: u32,
+}
+
+fn token_of(place: Place) -> Token
+    ensures { λ r. ⌜ r ≡ tokenOf (place .number) ⌝ }
+{
+    history_file::token_of(place.number as u32)
 }
 
 fn same_mark(a: MarkName, b: MarkName) -> bool
@@ -52,7 +60,7 @@ fn mark_applies(name: MarkName, to: u16, place: Place) -> bool
     requires { ⌜ to < 32 ⌝ }
     ensures { λ r. ⌜ r ≡ markApplies name to place ⌝ }
 {
-    let token = place.token;
+    let token = token_of(place);
     match token {
         Token::Mark(c) => if same_mark(name, c) {
             bits::has(place.inside, to as usize)
@@ -69,7 +77,7 @@ fn step_applies(a: OpenName, to: u16, b: CloseName, last: u16, place: Place) -> 
     requires { ⌜ (to < 32) × (last < 32) ⌝ }
     ensures { λ r. ⌜ r ≡ stepApplies a to b last place ⌝ }
 {
-    let token = place.token;
+    let token = token_of(place);
     let close = place.close;
     match token {
         Token::Mark(_) => false,
@@ -98,7 +106,7 @@ pub fn applies(table: &[u16; 768], r: usize, place: Place) -> bool
     ensures { λ x. ⌜ x ≡ appliesTo (ruleIn (now (table .entry)) r) place ⌝ }
 {
     let v = tables::six_in(table, r);
-    let token = place.token;
+    let token = token_of(place);
     if v.0 == 0 {
         return is_close(token);
     }

@@ -27,29 +27,21 @@ behindWith x (Rule.Empty M) = x
 behindWith x (Rule.Mark M c M₁) = x
 behindWith x (Rule.Step M a M₁ b M₂) = addBit x M₂
 
--- the rules kept at a position, as a set in words, and the ways on
-pub record Row : Type 0 where
-  pub words : List ℕ
-  pub held : ℕ
-  pub next : ℕ
-  pub behind : ℕ
-
 abbrev pub waysWith : Ways → Rule → Ways
 waysWith x R = record { held = x .held + 1; next = nextWith (x .next) R; behind = behindWith (x .behind) R }
 
-abbrev pub rowOf : List ℕ → Ways → Row
-rowOf ws x = record { words = ws; held = x .held; next = x .next; behind = x .behind }
+abbrev pub waysTurn : Ways → ℕ → Place → Rule → Ways
+waysTurn x here p R = cond (keepsAt here p R) (waysWith x R) x
 
-abbrev pub emptyRow : Row
-emptyRow = record { words = replicate 4 0; held = 0; next = 0; behind = 0 }
+abbrev pub noWays : Ways
+noWays = record { held = 0; next = 0; behind = 0 }
 
-abbrev pub rowWith : Row → ℕ → Rule → Row
-rowWith x r R = record { words = addIn 32 (x .words) r; held = x .held + 1; next = nextWith (x .next) R; behind = behindWith (x .behind) R }
+-- the ways on of the kept ones of the first n rules of a table
+unfoldable pub waysIn : List ℕ → ℕ → Place → ℕ → Ways
+waysIn t here p zero = noWays
+waysIn t here p (suc n) = waysTurn (waysIn t here p n) here p (ruleIn t n)
 
-abbrev pub rowTurn : Row → ℕ → ℕ → Rule → Place → Row
-rowTurn x r here R p = cond (keepsAt here p R) (rowWith x r R) x
-
--- of the first n rules of a table
-unfoldable pub rowIn : List ℕ → ℕ → Place → ℕ → Row
-rowIn t here p zero = emptyRow
-rowIn t here p (suc n) = rowTurn (rowIn t here p n) n here (ruleIn t n) p
+-- and their set in words
+unfoldable pub wordsIn : List ℕ → ℕ → Place → ℕ → List ℕ
+wordsIn t here p zero = replicate 4 0
+wordsIn t here p (suc n) = cond (keepsAt here p (ruleIn t n)) (addIn 32 (wordsIn t here p n) n) (wordsIn t here p n)

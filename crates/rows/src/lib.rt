@@ -7,7 +7,7 @@ ghost use lib.ListN.{length, replicate};
 ghost use Rattle.tables.specs.Table.{ruleIn};
 ghost use Rattle.tables.specs.Ready.{Below, Ready};
 ghost use Rattle.rows.specs.Words.{addIn};
-ghost use Rattle.rows.specs.Rows.{keepsAt, nextWith, behindWith, waysWith, rowOf, rowIn};
+ghost use Rattle.rows.specs.Rows.{keepsAt, nextWith, behindWith, waysWith, waysTurn, noWays, waysIn, wordsIn};
 
 // How many rules are kept at a position, the nonterminals at the next position and those behind the close.
 pub struct Ways {
@@ -74,6 +74,17 @@ fn ways_with(ways: Ways, rule: Rule) -> Ways
     }
 }
 
+// None of them yet.
+fn no_ways() -> Ways
+    ensures { λ x. ⌜ x ≡ noWays ⌝ }
+{
+    Ways {
+        held: 0,
+        next: 0,
+        behind: 0,
+    }
+}
+
 // The empty set of rules.
 fn clear(words: &mut [u32])
     requires { ⌜ length (now words) ≡ 4 ⌝ }
@@ -89,14 +100,10 @@ fn clear(words: &mut [u32])
 pub fn row_at(table: &[u16; 768], count: usize, here: u32, place: Place, words: &mut [u32]) -> Ways
     requires { ⌜ Ready (now table) count ⌝ }
     requires { ⌜ length (now words) ≡ 4 ⌝ }
-    ensures { λ x. ⌜ rowOf (now (words .exit)) x ≡ rowIn (now (table .entry)) here place count ⌝ }
+    ensures { λ x. ⌜ (x ≡ waysIn (now (table .entry)) here place count) × (now (words .exit) ≡ wordsIn (now (table .entry)) here place count) ⌝ }
 {
     clear(words);
-    let mut ways = Ways {
-        held: 0,
-        next: 0,
-        behind: 0,
-    };
+    let mut ways = no_ways();
     let mut r: usize = 0;
     while r < count {
         let k = r;
@@ -105,6 +112,32 @@ pub fn row_at(table: &[u16; 768], count: usize, here: u32, place: Place, words: 
             add(words, k);
             ways = ways_with(ways, tables::rule_of(table, k));
         }
+    }
+    ways
+}
+
+// The ways on, with those of rule r where it is kept.
+fn ways_turn(ways: Ways, here: u32, table: &[u16; 768], r: usize, place: Place) -> Ways
+    requires { ⌜ (ways .held < 128) × (r < 128) × Below 32 (ruleIn (now table) r) ⌝ }
+    ensures { λ x. ⌜ x ≡ waysTurn ways here place (ruleIn (now (table .entry)) r) ⌝ }
+{
+    if keeps(here, table, r, place) {
+        ways_with(ways, tables::rule_of(table, r))
+    } else {
+        ways
+    }
+}
+
+// The ways on alone, where nobody asks for the set.
+pub fn ways_at(table: &[u16; 768], count: usize, here: u32, place: Place) -> Ways
+    requires { ⌜ Ready (now table) count ⌝ }
+    ensures { λ x. ⌜ x ≡ waysIn (now (table .entry)) here place count ⌝ }
+{
+    let mut ways = no_ways();
+    let mut r: usize = 0;
+    while r < count {
+        ways = ways_turn(ways, here, table, r, place);
+        r += 1;
     }
     ways
 }

@@ -59,7 +59,7 @@ pub fn walk(
             let rule = tables::six_in(table, r);
             let j = m[p];
             at[p + 1] = first_run::inner_of(rule, behind[p]);
-            behind[j] = first_run::later_of(rule, behind[j]);
+            first_run::store_later(&mut behind, j, rule);
             p += 1;
         } else {
             return Walked {

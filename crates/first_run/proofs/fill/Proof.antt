@@ -74,40 +74,13 @@ array-read-inner-of c =
 inner-of-requires : tie.Need-inner-of-requires Inv-loop μ-loop
 inner-of-requires c κs = search needs
 
-mul-later-of : tie.Need-mul-later-of Inv-loop μ-loop
-mul-later-of c =
-    let l = c .before .before .before .before .before .before in
-    let s = l .before .before .before in
-    let a = s .args in
-    let j = s .pre .0 .matched (l .loop .p) (omega arith) (rw tokens-length (omega arith)) in
-    omega (arith, s .pre .0 .tokens .few, j, tokens-length (a .w .now), close-most (tokensOf (a .w .now)) (suc (l .loop .p)))
-
-array-read-later-of : tie.Need-array-read-later-of Inv-loop μ-loop
-array-read-later-of c =
-    let l = c .before .before .before .before .before .before in
-    let s = l .before .before .before in
-    let a = s .args in
-    let j = s .pre .0 .matched (l .loop .p) (omega arith) (rw tokens-length (omega arith)) in
-    omega (arith, s .pre .0 .tokens .few, j, tokens-length (a .w .now), close-most (tokensOf (a .w .now)) (suc (l .loop .p)))
-
-later-of-requires : tie.Need-later-of-requires Inv-loop μ-loop
-later-of-requires c κs = search needs
-
-mul-due : tie.Need-mul-due Inv-loop μ-loop
-mul-due c =
+store-later-requires : tie.Need-store-later-requires Inv-loop μ-loop
+store-later-requires c κs =
     let l = c .before .before .before .before .before .before .before in
     let s = l .before .before .before in
     let a = s .args in
     let j = s .pre .0 .matched (l .loop .p) (omega arith) (rw tokens-length (omega arith)) in
-    omega (arith, s .pre .0 .tokens .few, j, tokens-length (a .w .now), close-most (tokensOf (a .w .now)) (suc (l .loop .p)))
-
-array-write-due : tie.Need-array-write-due Inv-loop μ-loop
-array-write-due c =
-    let l = c .before .before .before .before .before .before .before in
-    let s = l .before .before .before in
-    let a = s .args in
-    let j = s .pre .0 .matched (l .loop .p) (omega arith) (rw tokens-length (omega arith)) in
-    omega (arith, s .pre .0 .tokens .few, j, tokens-length (a .w .now), close-most (tokensOf (a .w .now)) (suc (l .loop .p)))
+    (l .loop .inv .room, omega (arith, s .pre .0 .tokens .few, j, tokens-length (a .w .now), close-most (tokensOf (a .w .now)) (suc (l .loop .p))))
 
 add-p : tie.Need-add-p Inv-loop μ-loop
 add-p c = search needs
@@ -118,12 +91,14 @@ loop-less c = search needs
 loop-again : tie.Need-loop-again Inv-loop μ-loop
 unfolding ruleIn
 loop-again c =
-    let l = c .before .before .before .before .before .before .before in
+    let l = c .before .before .before .before .before .before .before .before in
     let s = l .before .before .before in
     let a = s .args in
     let k = l .loop .inv in
-    rw (c .later-of .ensures, c .before .inner-of .ensures, c .before .before .before .six-in .ensures)
-    (going-next (a .table .now) (a .count) (a .w .now) (a .m .now) (a .mask .now) (s .pre .0) (a .l0) (a .from) (a .behind) (a .out .now) (s .pre .1 .0 .1) k (c .before .before .before .before .before .place-at .result) (c .before .before .before .before .before .place-at .ensures) (c .before .before .before .before .smallest .result) (c .before .before .before .before .smallest .ensures) (c .before .before .before .before .before .before .loop-test .taken))
+    let place = c .before .before .before .before .before .before .place-at in
+    let r = c .before .before .before .before .before .smallest in
+    rw (c .store-later .ensures, c .before .before .inner-of .ensures, c .before .before .before .before .six-in .ensures)
+    (going-next (a .table .now) (a .count) (a .w .now) (a .m .now) (a .mask .now) (s .pre .0) (a .l0) (a .from) (a .behind) (a .out .now) (s .pre .1 .0 .1) k (place .result) (place .ensures) (r .result) (r .ensures) (c .before .before .before .before .before .before .before .loop-test .taken))
 
 place-at-requires-2 : tie.Need-place-at-requires-2 Inv-loop μ-loop
 place-at-requires-2 c κs =
@@ -173,11 +148,7 @@ fill-spec =
     mul-inner-of
     array-read-inner-of
     inner-of-requires
-    mul-later-of
-    array-read-later-of
-    later-of-requires
-    mul-due
-    array-write-due
+    store-later-requires
     add-p
     loop-less
     loop-again

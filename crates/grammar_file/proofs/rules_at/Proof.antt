@@ -2,7 +2,7 @@
 -- Assumes nothing.
 use borrow.Author.Needs.{needs}
 use Prim.Native.Nat.{_+_, _*_, _≤_, _-_}
-use mathlib.Core.Path.{_≡_, refl, sym, ap, _∙_}
+use mathlib.Core.Path.{_≡_, sym, ap, _∙_}
 use mathlib.Core.List.{[]}
 use borrow.Author.Tests.{le-ltb, lt-ltb}
 use native.Mathlib.Omega.{arith}
@@ -17,18 +17,18 @@ use Rattle.grammar_file.proofs.rules_at.Statement.{statement}
 use Rattle.grammar_file.proofs.rules_at.Tie as tie
 
 abbrev Inv-loop : tie.InvT-loop
-Inv-loop s from nonterminals start due n table₀ at₀ k₀ table at k =
+Inv-loop s from nonterminals start due table₀ n at₀ k₀ table at k =
     (k ≤ due)
     × (length table ≡ 768)
     × (table ≡ tableOf (rulesIn table k))
     × (rulesFrom (bytes s) nonterminals start (due - k) at (rulesIn table k) ≡ rulesFrom (bytes s) nonterminals start due from [])
 
 abbrev μ-loop : tie.MeasureT-loop
-μ-loop s from nonterminals start due n table₀ at₀ k₀ table at k = due - k
+μ-loop s from nonterminals start due table₀ n at₀ k₀ table at k = due - k
 
 loop-holds : tie.Need-loop-holds Inv-loop μ-loop
 unfolding tableOf fill rulesIn
-loop-holds c = (omega arith, refl, refl, rw sub-zero)
+loop-holds c = let z = c .before .pre .1 in (omega arith, ap length z, z, rw sub-zero)
 
 rule-at-requires : tie.Need-rule-at-requires Inv-loop μ-loop
 rule-at-requires c κs = search needs
@@ -47,16 +47,16 @@ refused-requires c κs = search needs
 
 returns : tie.Need-returns Inv-loop μ-loop
 returns c =
-    let d = c .before .before .before .before in
+    let d = c .before .before .before .before .before in
     let l = d .before .before in
     let a = l .before .before .args in
-    rw (
-      c .refused .ensures,
+    let told = c .before .before .before .enum-told .given .1 in
+    c .refused .ensures
+    ∙ rw (
       c .before .rule-refusal .ensures,
-      c .before .before .enum-told .given .1,
+      told,
       ← (l .loop .inv .3),
-      turn-refused (bytes (a .s .now)) _ (a .start) (a .due) _ _ (rulesIn (l .loop .table) (l .loop .k)) (d .before .loop-test .taken) _
-          (sym (d .rule-at .ensures) ∙ c .before .before .enum-told .given .1),
+      turn-refused (bytes (a .s .now)) _ (a .start) (a .due) _ _ (rulesIn (l .loop .table) (l .loop .k)) (d .before .loop-test .taken) _ (sym (d .rule-at .ensures) ∙ told),
     )
 
 seen-requires : tie.Need-seen-requires Inv-loop μ-loop
@@ -67,16 +67,16 @@ refused-requires-2 c κs = search needs
 
 returns-2 : tie.Need-returns-2 Inv-loop μ-loop
 returns-2 c =
-    let q = c .before .before in
+    let q = c .before .before .before in
     let p = q .before .before in
     let d = p .before .before .before in
     let l = d .before .before in
     let a = l .before .before .args in
-    rw (
-      c .refused2 .ensures,
+    c .refused2 .ensures
+    ∙ rw (
       ← (l .loop .inv .3),
       turn-seen (bytes (a .s .now)) _ (a .start) (a .due) _ _ (rulesIn (l .loop .table) (l .loop .k)) (d .before .loop-test .taken) _ _
-          (sym (d .rule-at .ensures) ∙ p .before .read .given .1) (sym (q .seen .ensures) ∙ c .before .if1 .taken),
+          (sym (d .rule-at .ensures) ∙ p .before .read .given .1) (sym (q .seen .ensures) ∙ c .before .before .if1 .taken),
     )
 
 six-of-requires : tie.Need-six-of-requires Inv-loop μ-loop
@@ -117,9 +117,9 @@ refused-requires-3 c κs = search needs
 returns-3 : tie.Need-returns-3 Inv-loop μ-loop
 unfolding rulesFrom
 returns-3 c =
-    let l = c .before .before .before in
+    let l = c .before .before .before .before in
     let none : l .before .before .args .due - l .loop .k ≡ 0 = omega arith in
-    rw (c .refused3 .ensures, ← (l .loop .inv .3), none, lt-ltb _ _ (c .before .if2 .taken))
+    c .refused3 .ensures ∙ rw (← (l .loop .inv .3), none, lt-ltb _ _ (c .before .before .if2 .taken))
 
 returns-4 : tie.Need-returns-4 Inv-loop μ-loop
 unfolding rulesFrom

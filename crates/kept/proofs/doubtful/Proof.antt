@@ -2,7 +2,7 @@
 -- Assumes nothing.
 use borrow.Author.Needs.{needs}
 use Prim.Native.Nat.{_+_, _-_, _≤_}
-use mathlib.Core.Path.{_≡_, refl, sym}
+use mathlib.Core.Path.{_≡_}
 use native.Mathlib.Omega.{arith}
 use lib.ListN.{length}
 use Rattle.tables.specs.Ready.{grammarIn}
@@ -14,10 +14,10 @@ use Rattle.kept.proofs.doubtful.Statement.{statement}
 use Rattle.kept.proofs.doubtful.Tie as tie
 
 abbrev Inv-loop : tie.InvT-loop
-Inv-loop table count start w m mask behind₀ here₀ words₀ total₀ p₀ behind here words total p = (length words ≡ 4) × Going table count start w p here behind × Doubts (grammarIn table count start) (tokensOf w) p total
+Inv-loop table count start w m mask behind₀ here₀ total₀ p₀ behind here total p = Going table count start w p here behind × Doubts (grammarIn table count start) (tokensOf w) p total
 
 abbrev μ-loop : tie.MeasureT-loop
-μ-loop table count start w m mask behind₀ here₀ words₀ total₀ p₀ behind here words total p = length w + 1 - p
+μ-loop table count start w m mask behind₀ here₀ total₀ p₀ behind here total p = length w + 1 - p
 
 element-copy-out-start-set : tie.Need-element-copy-out-start-set Inv-loop μ-loop
 element-copy-out-start-set c = search needs
@@ -31,20 +31,17 @@ loop-holds c =
     let a = s .args in
     let g = grammarIn (a .table .now) (a .count) (a .start) in
     let going = going-start (a .table .now) (a .count) (a .start) (a .w .now) (a .m .now) (a .mask .now) (s .pre .0) (s .pre .1 .1) in
-    (refl, rw (c .start-set .ensures) going, doubts-none g (tokensOf (a .w .now)))
+    (rw (c .start-set .ensures) going, doubts-none g (tokensOf (a .w .now)))
 
-slice-aggregate-row-of : tie.Need-slice-aggregate-row-of Inv-loop μ-loop
-slice-aggregate-row-of c = sym (c .before .before .loop .inv .0)
-
-row-of-requires : tie.Need-row-of-requires Inv-loop μ-loop
-row-of-requires c κs = let s = c .before .before .before .before .before .before in (s .pre .0, (omega arith, c .before .before .loop .inv .0))
+ways-of-requires : tie.Need-ways-of-requires Inv-loop μ-loop
+ways-of-requires c κs = (c .before .before .before .before .before .pre .0, omega arith)
 
 counted-requires : tie.Need-counted-requires Inv-loop μ-loop
 counted-requires c κs =
-    let s = c .before .before .before .before .before .before .before .before in
+    let s = c .before .before .before .before .before .before in
     let a = s .args in
-    let l = c .before .before .before .before .loop in
-    omega (arith, s .pre .0 .tokens .few, doubts-most (grammarIn (a .table .now) (a .count) (a .start)) (tokensOf (a .w .now)) (l .p) (l .total) (l .inv .2))
+    let l = c .before .before .loop in
+    omega (arith, s .pre .0 .tokens .few, doubts-most (grammarIn (a .table .now) (a .count) (a .start)) (tokensOf (a .w .now)) (l .p) (l .total) (l .inv .1))
 
 mul-onward : tie.Need-mul-onward Inv-loop μ-loop
 mul-onward c = search needs
@@ -54,11 +51,11 @@ element-copy-out-onward c = search needs
 
 onward-requires : tie.Need-onward-requires Inv-loop μ-loop
 onward-requires c κs =
-    let s = c .before .before .before .before .before .before .before .before .before .before .before in
+    let s = c .before .before .before .before .before .before .before .before .before in
     let a = s .args in
-    let l = c .before .before .before .before .before .before .before .loop in
-    let h : l .p ≤ length (a .w .now) = omega (arith, c .before .before .before .before .before .before .loop-test .taken) in
-    (l .inv .1 .long, omega (arith, s .pre .0 .tokens .few), close-room (a .table .now) (a .count) (a .start) (a .w .now) (a .m .now) (a .mask .now) (s .pre .0) (l .p) h)
+    let l = c .before .before .before .before .before .loop in
+    let h : l .p ≤ length (a .w .now) = omega (arith, c .before .before .before .before .loop-test .taken) in
+    (l .inv .0 .long, omega (arith, s .pre .0 .tokens .few), close-room (a .table .now) (a .count) (a .start) (a .w .now) (a .m .now) (a .mask .now) (s .pre .0) (l .p) h)
 
 add-p : tie.Need-add-p Inv-loop μ-loop
 add-p c = search needs
@@ -68,17 +65,16 @@ loop-less c = search needs
 
 loop-again : tie.Need-loop-again Inv-loop μ-loop
 loop-again c =
-    let s = c .before .before .before .before .before .before .before .before .before .before .before .before in
+    let s = c .before .before .before .before .before .before .before .before .before .before in
     let a = s .args in
-    let l = c .before .before .before .before .before .before .before .before .loop in
-    let h : l .p ≤ length (a .w .now) = omega (arith, c .before .before .before .before .before .before .before .loop-test .taken) in
+    let l = c .before .before .before .before .before .before .loop in
+    let h : l .p ≤ length (a .w .now) = omega (arith, c .before .before .before .before .before .loop-test .taken) in
     let g = grammarIn (a .table .now) (a .count) (a .start) in
-    let row = c .before .before .before .before .before .row-of in
-    let d = doubtful-here (a .table .now) (a .count) (a .start) (a .w .now) (a .m .now) (a .mask .now) (s .pre .0) (l .here) (l .p) (l .behind) (l .inv .1 .front h) _ (row .ensures) in (
-      row .ensures .long,
-      going-next (a .table .now) (a .count) (a .start) (a .w .now) (a .m .now) (a .mask .now) (s .pre .0) (l .here) (l .p) (c .onward .result) (l .behind) (c .onward .last .0) _ h (l .inv .1)
-          (row .ensures) (c .onward .ensures .0) (c .onward .ensures .1),
-      doubts-next g (tokensOf (a .w .now)) (l .p) (l .total) (c .before .before .before .counted .result) (row .result .held) (l .inv .2) d (c .before .before .before .counted .ensures),
+    let ways = c .before .before .before .before .ways-of in
+    let d = doubtful-here (a .table .now) (a .count) (a .start) (a .w .now) (a .m .now) (a .mask .now) (s .pre .0) (l .here) (l .p) (l .behind) (l .inv .0 .front h) _ (ways .ensures) in (
+      going-next (a .table .now) (a .count) (a .start) (a .w .now) (a .m .now) (a .mask .now) (s .pre .0) (l .here) (l .p) (c .onward .result) (l .behind) (c .onward .last .0) _ h (l .inv .0)
+          (ways .ensures) (c .onward .ensures .0) (c .onward .ensures .1),
+      doubts-next g (tokensOf (a .w .now)) (l .p) (l .total) (c .before .before .before .counted .result) (ways .result .held) (l .inv .1) d (c .before .before .before .counted .ensures),
     )
 
 returns : tie.Need-returns Inv-loop μ-loop
@@ -87,7 +83,7 @@ returns c =
     let a = s .args in
     let l = c .before .loop in
     let e : l .p ≡ length (a .w .now) + 1 = omega arith in
-    doubts-all (grammarIn (a .table .now) (a .count) (a .start)) (tokensOf (a .w .now)) (length (a .w .now)) (l .p) (l .total) (tokens-length (a .w .now)) e (l .inv .2)
+    doubts-all (grammarIn (a .table .now) (a .count) (a .start)) (tokensOf (a .w .now)) (length (a .w .now)) (l .p) (l .total) (tokens-length (a .w .now)) e (l .inv .1)
 
 pub doubtful-spec : {M : Type 1} → statement M
 doubtful-spec =
@@ -98,8 +94,7 @@ doubtful-spec =
     element-copy-out-start-set
     start-set-requires
     loop-holds
-    slice-aggregate-row-of
-    row-of-requires
+    ways-of-requires
     counted-requires
     mul-onward
     element-copy-out-onward

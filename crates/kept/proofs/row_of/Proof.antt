@@ -1,7 +1,7 @@
--- `row_of`: what stands at the position, and the row of it.
+-- `row_of`: what stands at the position, and what is kept there.
 -- Assumes nothing.
 use borrow.Author.Needs.{needs}
-use Rattle.kept.proofs.Fronts.{row-of}
+use Rattle.kept.proofs.Fronts.{ways-of, words-of}
 use Rattle.kept.proofs.row_of.Statement.{statement}
 use Rattle.kept.proofs.row_of.Tie as tie
 
@@ -18,9 +18,11 @@ returns : tie.Need-returns
 returns c =
     let s = c .before .before .before .before .before .before .before in
     let a = s .args in
-    let row = c .before .before in
-    let place = c .before .before .before .before in
-    row-of (a .table .now) (a .count) 0 (a .w .now) (a .m .now) (a .mask .now) (s .pre .0) (a .here) (a .p) (place .place-at .result) _ (place .place-at .ensures) (row .row-at .ensures)
+    let row = c .before .before .row-at .ensures in
+    let place = c .before .before .before .before .place-at in (
+      ways-of (a .table .now) (a .count) 0 (a .w .now) (a .m .now) (a .mask .now) (s .pre .0) (a .here) (a .p) (place .result) _ (place .ensures) (row .0),
+      words-of (a .table .now) (a .count) 0 (a .w .now) (a .m .now) (a .mask .now) (s .pre .0) (a .here) (a .p) (place .result) _ (place .ensures) (row .1),
+    )
 
 pub row-of-spec : {M : Type 1} → statement M
 row-of-spec = tie.close (tie.spec place-at-requires row-at-requires same-length returns)

@@ -93,9 +93,9 @@ loop-again c =
     let h : l .p ≤ length (a .w .now) = omega (arith, c .before .before .before .before .before .before .before .loop-test .taken) in
     let g = grammarIn (a .table .now) (a .count) (a .start) in
     let row = c .before .before .before .before .before .row-of in
-    let set = words-here (a .table .now) (a .count) (a .start) (a .w .now) (a .m .now) (a .mask .now) (s .pre .0) (l .here) (l .p) (l .behind) (l .inv .0 .front h) _ (row .ensures) in (
+    let set = words-here (a .table .now) (a .count) (a .start) (a .w .now) (a .m .now) (a .mask .now) (s .pre .0) (l .here) (l .p) (l .behind) (l .inv .0 .front h) _ (row .ensures .1) in (
       going-next (a .table .now) (a .count) (a .start) (a .w .now) (a .m .now) (a .mask .now) (s .pre .0) (l .here) (l .p) (c .onward .result) (l .behind) (c .onward .last .0) _ h (l .inv .0)
-          (row .ensures) (c .onward .ensures .0) (c .onward .ensures .1),
+          (row .ensures .0) (c .onward .ensures .0) (c .onward .ensures .1),
       written-next g (tokensOf (a .w .now)) (a .words .now) (l .p) (l .words) _ (omega (arith, s .pre .1 .2)) (l .inv .1) set,
     )
 

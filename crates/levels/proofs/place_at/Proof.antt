@@ -16,14 +16,16 @@ end-place-requires c κs = search needs
 returns : tie.Need-returns
 returns c = rw (c .end-place .ensures) (stands-end (tokensOf (c .before .before .before .args .w .now)) (c .before .before .before .args .mask .now) (c .before .before .before .args .p) (omega (arith, tokens-length (c .before .before .before .args .w .now))))
 
-mul-token-of : tie.Need-mul-token-of
-mul-token-of c = search needs
+mul-number : tie.Need-mul-number
+mul-number c = search needs
 
-shared-slice-read-token-of : tie.Need-shared-slice-read-token-of
-shared-slice-read-token-of c = search needs
+shared-slice-read-number : tie.Need-shared-slice-read-number
+shared-slice-read-number c = search needs
 
-token-of-requires : tie.Need-token-of-requires
-token-of-requires c κs = c .before .before .before .pre .0 .small _ (omega arith)
+cast-number : tie.Need-cast-number
+cast-number c =
+    let s = c .before .before .before in
+    omega (arith, s .pre .0 .small (s .args .p) (omega arith))
 
 add-inside : tie.Need-add-inside
 add-inside c = search needs
@@ -47,7 +49,7 @@ shared-slice-read-close-name : tie.Need-shared-slice-read-close-name
 shared-slice-read-close-name c = search needs
 
 close-name-requires : tie.Need-close-name-requires
-close-name-requires c κs = c .before .before .before .before .before .before .before .before .pre .0 .small _ (omega arith)
+close-name-requires c κs = c .before .before .before .before .before .before .before .pre .0 .small _ (omega arith)
 
 add-after : tie.Need-add-after
 add-after c = search needs
@@ -60,23 +62,22 @@ element-copy-out-after c = search needs
 
 returns-2 : tie.Need-returns-2
 returns-2 c =
-    let k = c .before .before .before .before .before .before in
-    let s = k .before .before .before .before in
+    let k = c .before .before .before .before .before .before .before in
+    let s = k .before .before in
     let a = s .args in
     let j = s .pre .1 .1 (a .p) (omega arith) (rw tokens-length (s .pre .1 .0)) in
-    let here : a .p < length (a .w .now) = omega (arith, k .before .before .if1 .left) in
-    rw (k .token-of .ensures, add-one (a .p), j, add-one)
+    let here : a .p < length (a .w .now) = omega (arith, k .if1 .left) in
+    rw (add-one (a .p), j, add-one)
     (stands-closed (a .w .now) (a .mask .now) (a .p) here (c .before .close-name .result) (rw j at (c .before .before .before .if2 .taken)) (rw j at (c .before .close-name .ensures)))
 
 returns-3 : tie.Need-returns-3
 returns-3 c =
-    let k = c .before .before .before in
-    let s = k .before .before .before .before in
+    let k = c .before .before .before .before in
+    let s = k .before .before in
     let a = s .args in
     let j = s .pre .1 .1 (a .p) (omega arith) (rw tokens-length (s .pre .1 .0)) in
-    let here : a .p < length (a .w .now) = omega (arith, k .before .before .if1 .left) in
-    rw (k .token-of .ensures, add-one (a .p))
-    (stands-open (a .w .now) (a .mask .now) (a .p) here (record { 0 = 0 }) (rw j at (c .if2 .left)))
+    let here : a .p < length (a .w .now) = omega (arith, k .if1 .left) in
+    rw (add-one (a .p)) (stands-open (a .w .now) (a .mask .now) (a .p) here (record { 0 = 0 }) (rw j at (c .if2 .left)))
 
 pub place-at-spec : {M : Type 1} → statement M
 place-at-spec =
@@ -84,9 +85,9 @@ place-at-spec =
     (tie.spec
     end-place-requires
     returns
-    mul-token-of
-    shared-slice-read-token-of
-    token-of-requires
+    mul-number
+    shared-slice-read-number
+    cast-number
     add-inside
     mul-inside
     element-copy-out-inside

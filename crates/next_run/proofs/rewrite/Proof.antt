@@ -37,36 +37,12 @@ array-read-inner-of c = search needs
 inner-of-requires : tie.Need-inner-of-requires
 inner-of-requires c κs = search needs
 
-mul-later-of : tie.Need-mul-later-of
-mul-later-of c =
-    let s = c .before .before .before .before .before .before in
-    let a = s .args in
-    let j = s .pre .0 .matched (a .p) (omega arith) (rw tokens-length (s .pre .1 .0 .0)) in
-    omega (arith, s .pre .0 .tokens .few, j, tokens-length (a .w .now), close-most (tokensOf (a .w .now)) (suc (a .p)))
-
-array-read-later-of : tie.Need-array-read-later-of
-array-read-later-of c =
-    let s = c .before .before .before .before .before .before in
-    let a = s .args in
-    let j = s .pre .0 .matched (a .p) (omega arith) (rw tokens-length (s .pre .1 .0 .0)) in
-    omega (arith, s .pre .0 .tokens .few, j, tokens-length (a .w .now), close-most (tokensOf (a .w .now)) (suc (a .p)))
-
-later-of-requires : tie.Need-later-of-requires
-later-of-requires c κs = search needs
-
-mul-due : tie.Need-mul-due
-mul-due c =
+store-later-requires : tie.Need-store-later-requires
+store-later-requires c κs =
     let s = c .before .before .before .before .before .before .before in
     let a = s .args in
     let j = s .pre .0 .matched (a .p) (omega arith) (rw tokens-length (s .pre .1 .0 .0)) in
-    omega (arith, s .pre .0 .tokens .few, j, tokens-length (a .w .now), close-most (tokensOf (a .w .now)) (suc (a .p)))
-
-array-write-due : tie.Need-array-write-due
-array-write-due c =
-    let s = c .before .before .before .before .before .before .before in
-    let a = s .args in
-    let j = s .pre .0 .matched (a .p) (omega arith) (rw tokens-length (s .pre .1 .0 .0)) in
-    omega (arith, s .pre .0 .tokens .few, j, tokens-length (a .w .now), close-most (tokensOf (a .w .now)) (suc (a .p)))
+    (search needs, omega (arith, s .pre .0 .tokens .few, j, tokens-length (a .w .now), close-most (tokensOf (a .w .now)) (suc (a .p))))
 
 add-fill : tie.Need-add-fill
 add-fill c = search needs
@@ -74,26 +50,27 @@ add-fill c = search needs
 fill-requires : tie.Need-fill-requires
 unfolding ruleIn
 fill-requires c κs =
-    let s = c .before .before .before .before .before .before .before .before in
+    let s = c .before .before .before .before .before .before .before .before .before in
     let a = s .args in
-    let f = s .pre .1 .1 (c .before .before .before .before .before .if1 .taken) in
-    (s .pre .0, ((omega arith, rw length-set (s .pre .1 .0 .1)), rw (c .before .later-of .ensures, c .before .before .inner-of .ensures, c .before .before .before .before .six-in .ensures, add-one (a .p)) f))
+    let f = s .pre .1 .1 (c .before .before .before .before .before .before .if1 .taken) in
+    (s .pre .0, ((omega arith, rw length-set (s .pre .1 .0 .1)), rw (c .before .store-later .ensures, c .before .before .before .inner-of .ensures, c .before .before .before .before .before .six-in .ensures, add-one (a .p)) f))
 
 same-length : tie.Need-same-length
 same-length c =
-    let s = c .before .before .before .before .before .before .before .before .before .before .before in
+    let s = c .before .before .before .before .before .before .before .before .before .before .before .before in
     let a = s .args in
     c .before .buf .given ∙ length-set (a .buf .now) (a .p) (a .r)
 
 returns : tie.Need-returns
 unfolding ruleIn
 returns c =
-    let s = c .before .before .before .before .before .before .before .before .before .before .before in
+    let s = c .before .before .before .before .before .before .before .before .before .before .before .before in
     let a = s .args in
     let k = c .before .before .before in
-    let here = tokens-at (a .w .now) (a .p) (k .before .before .before .before .before .if1 .taken) in
-    rewritten-on (rulesIn (a .table .now) (a .count)) (tokensOf (a .w .now)) _ (a .p) (a .r) (a .buf .now) (rw tokens-length (s .pre .1 .0 .1)) (tokenOf _) _ (rw tokens-length (k .before .before .before .before .before .if1 .taken)) here
-    (rw (k .before .later-of .ensures, k .before .before .inner-of .ensures, k .before .before .before .before .six-in .ensures, add-one (a .p)) at (c .before .before .fill .ensures))
+    let within = k .before .before .before .before .before .before .if1 .taken in
+    let here = tokens-at (a .w .now) (a .p) within in
+    rewritten-on (rulesIn (a .table .now) (a .count)) (tokensOf (a .w .now)) _ (a .p) (a .r) (a .buf .now) (rw tokens-length (s .pre .1 .0 .1)) (tokenOf _) _ (rw tokens-length within) here
+    (rw (k .before .store-later .ensures, k .before .before .before .inner-of .ensures, k .before .before .before .before .before .six-in .ensures, add-one (a .p)) at (c .before .before .fill .ensures))
 
 same-length-2 : tie.Need-same-length-2
 same-length-2 c = search needs
@@ -116,11 +93,7 @@ rewrite-spec =
     mul-inner-of
     array-read-inner-of
     inner-of-requires
-    mul-later-of
-    array-read-later-of
-    later-of-requires
-    mul-due
-    array-write-due
+    store-later-requires
     add-fill
     fill-requires
     same-length

@@ -5,6 +5,9 @@ use borrow.Author.Needs.{needs}
 use Rattle.places.proofs.mark_applies.Statement.{statement}
 use Rattle.places.proofs.mark_applies.Tie as tie
 
+token-of-requires : tie.Need-token-of-requires
+token-of-requires c κs = search needs
+
 enum-known-token : tie.Need-enum-known-token
 enum-known-token c = search needs
 
@@ -22,22 +25,25 @@ enum-told-2 c = search needs
 
 returns : tie.Need-returns
 returns c =
-    let d = c .before .before .before in
-    simp (c .has .ensures, d .before .token .given .1, sym (c .before .before .same-mark .ensures) ∙ c .before .if1 .taken)
+    let d = c .before .before .before .before in
+    simp (c .has .ensures, sym (d .before .before .token-of .ensures) ∙ d .token .given .1, sym (c .before .before .same-mark .ensures) ∙ c .before .if1 .taken)
 
 returns-2 : tie.Need-returns-2
-returns-2 c = simp (c .before .before .before .token .given .1, sym (c .before .same-mark .ensures) ∙ c .if1 .left)
+returns-2 c =
+    let d = c .before .before .before in
+    simp (sym (d .before .before .token-of .ensures) ∙ d .token .given .1, sym (c .before .same-mark .ensures) ∙ c .if1 .left)
 
 returns-3 : tie.Need-returns-3
-returns-3 c = search needs
+returns-3 c = simp (sym (c .before .before .token-of .ensures) ∙ c .enum-told .given .1)
 
 returns-4 : tie.Need-returns-4
-returns-4 c = search needs
+returns-4 c = simp (sym (c .before .before .token-of .ensures) ∙ c .enum-told2 .given .1)
 
 pub mark-applies-spec : {M : Type 1} → statement M
 mark-applies-spec =
     tie.close
     (tie.spec
+    token-of-requires
     enum-known-token
     same-mark-requires
     has-requires

@@ -110,43 +110,16 @@ array-write-at-2 c =
     let l = c .before .before .before .before .before .before .before .before in
     omega (arith, l .before .before .before .pre .0 .tokens .few, c .before .before .before .before .before .before .before .loop-test .taken)
 
-mul-later-of : tie.Need-mul-later-of Inv-loop μ-loop
-mul-later-of c =
-    let l = c .before .before .before .before .before .before .before .before in
-    let s = l .before .before .before in
-    let a = s .args in
-    let j = s .pre .0 .matched (l .loop .p) (omega arith) (rw tokens-length (omega arith)) in
-    omega (arith, s .pre .0 .tokens .few, j, tokens-length (a .w .now), close-most (tokensOf (a .w .now)) (suc (l .loop .p)))
-
-array-read-later-of : tie.Need-array-read-later-of Inv-loop μ-loop
-array-read-later-of c =
-    let l = c .before .before .before .before .before .before .before .before in
-    let s = l .before .before .before in
-    let a = s .args in
-    let j = s .pre .0 .matched (l .loop .p) (omega arith) (rw tokens-length (omega arith)) in
-    omega (arith, s .pre .0 .tokens .few, j, tokens-length (a .w .now), close-most (tokensOf (a .w .now)) (suc (l .loop .p)))
-
-later-of-requires : tie.Need-later-of-requires Inv-loop μ-loop
-later-of-requires c κs = search needs
-
-mul-behind : tie.Need-mul-behind Inv-loop μ-loop
-mul-behind c =
+store-later-requires : tie.Need-store-later-requires Inv-loop μ-loop
+store-later-requires c κs =
     let l = c .before .before .before .before .before .before .before .before .before in
     let s = l .before .before .before in
     let a = s .args in
     let j = s .pre .0 .matched (l .loop .p) (omega arith) (rw tokens-length (omega arith)) in
-    omega (arith, s .pre .0 .tokens .few, j, tokens-length (a .w .now), close-most (tokensOf (a .w .now)) (suc (l .loop .p)))
-
-array-write-behind : tie.Need-array-write-behind Inv-loop μ-loop
-array-write-behind c =
-    let l = c .before .before .before .before .before .before .before .before .before in
-    let s = l .before .before .before in
-    let a = s .args in
-    let j = s .pre .0 .matched (l .loop .p) (omega arith) (rw tokens-length (omega arith)) in
-    omega (arith, s .pre .0 .tokens .few, j, tokens-length (a .w .now), close-most (tokensOf (a .w .now)) (suc (l .loop .p)))
+    (l .loop .inv .room-behind, omega (arith, s .pre .0 .tokens .few, j, tokens-length (a .w .now), close-most (tokensOf (a .w .now)) (suc (l .loop .p))))
 
 add-p : tie.Need-add-p Inv-loop μ-loop
-add-p c = search needs
+add-p c = omega (arith, c .before .before .before .before .before .before .before .before .before .loop-test .taken, c .before .before .before .before .before .before .before .before .before .before .before .before .before .pre .0 .tokens .few)
 
 loop-less : tie.Need-loop-less Inv-loop μ-loop
 loop-less c = search needs
@@ -154,11 +127,12 @@ loop-less c = search needs
 loop-again : tie.Need-loop-again Inv-loop μ-loop
 unfolding ruleIn
 loop-again c =
-    let l = c .before .before .before .before .before .before .before .before .before in
+    let l = c .before .before .before .before .before .before .before .before .before .before in
     let s = l .before .before .before in
     let a = s .args in
-    rw (c .later-of .ensures, c .before .inner-of .ensures, c .before .before .before .six-in .ensures)
-    (walking-next (a .table .now) (a .count) (a .w .now) (a .m .now) (a .mask .now) (s .pre .0) (a .start) (a .buf .now) (s .pre .1 .0 .0) (s .pre .1 .0 .1) (l .loop .inv) (c .before .before .before .before .before .before .place-at .result) (c .before .before .before .before .before .before .place-at .ensures) (sym (c .before .before .before .before .before .stands .ensures) ∙ c .before .before .before .before .if1 .taken) (c .before .before .before .before .before .before .before .before .loop-test .taken))
+    let place = c .before .before .before .before .before .before .before .place-at in
+    rw (c .store-later .ensures, c .before .before .inner-of .ensures, c .before .before .before .before .six-in .ensures)
+    (walking-next (a .table .now) (a .count) (a .w .now) (a .m .now) (a .mask .now) (s .pre .0) (a .start) (a .buf .now) (s .pre .1 .0 .0) (s .pre .1 .0 .1) (l .loop .inv) (place .result) (place .ensures) (sym (c .before .before .before .before .before .before .stands .ensures) ∙ c .before .before .before .before .before .if1 .taken) (c .before .before .before .before .before .before .before .before .before .loop-test .taken))
 
 returns : tie.Need-returns Inv-loop μ-loop
 returns c =
@@ -231,11 +205,7 @@ walk-spec =
     add-at
     mul-at
     array-write-at-2
-    mul-later-of
-    array-read-later-of
-    later-of-requires
-    mul-behind
-    array-write-behind
+    store-later-requires
     add-p
     loop-less
     loop-again
