@@ -6,13 +6,13 @@ use Rattle.numbers.specs.Field.{fieldAt, countAt}
 use Rattle.rules.specs.Rule.{pairAt, stepAt, bodyAt, ruleAt}
 use Rattle.tables.specs.Table.{sameRule, earlier}
 use Rattle.grammar_file.specs.GrammarFile.{rulesFrom, grammarFrom}
-use Rattle.history_file.specs.HistoryFile.{tokenOf, tokenJudged, tokenAt, depthAfter, tokensFrom, historyFrom}
+use Rattle.history_file.specs.HistoryFile.{tokenWith, tokenOf, tokenJudged, tokenAt, depthAfter, tokensFrom, historyFrom}
 use Rattle.vpg.specs.Runs.{runs}
 use Rattle.vpg.specs.Sets.{kept, count, doubtful, doubtfulCount, stopMark, stopMarks}
 use Rattle.examples.specs.Examples.{Examples}
 
 pub examples : Examples
-unfolding numberAt fieldAt countAt pairAt stepAt bodyAt ruleAt sameRule earlier rulesFrom grammarFrom tokenJudged tokenAt depthAfter tokensFrom historyFrom tokenOf runs kept count doubtful doubtfulCount stopMark stopMarks
+unfolding numberAt fieldAt countAt pairAt stepAt bodyAt ruleAt sameRule earlier rulesFrom grammarFrom tokenJudged tokenAt depthAfter tokensFrom historyFrom tokenOf tokenWith runs kept count doubtful doubtfulCount stopMark stopMarks
 examples = record {
   G-is = refl;
   history-3-1-0-2 = refl;

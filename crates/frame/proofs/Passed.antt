@@ -20,7 +20,7 @@ use Rattle.grammar_file.specs.GrammarFile.{grammarOf, GrammarFile}
 use Rattle.grammar_file.specs.GrammarFile as grammar-file
 use Rattle.grammar_file.proofs.Accepted.{grammar-wellformed}
 use Rattle.grammar_file.proofs.Ready.{wellformed-ready}
-use Rattle.history_file.specs.HistoryFile.{kind, tokenOf, tokensOf, depthAfter, historyOf, HistoryFile}
+use Rattle.history_file.specs.HistoryFile.{kind, tokenWith, tokenOf, tokensOf, depthAfter, historyOf, HistoryFile}
 use Rattle.history_file.specs.HistoryFile as history-file
 use Rattle.history_file.specs.HistoryTokens.{padded, Tokens}
 use Rattle.history_file.specs.Wellformed.{TokenNumber, Nested, Wellformed}
@@ -45,7 +45,7 @@ data Shape (t : ℕ) : Token → Type 0 where
   is-close : {b : CloseName} → kind t ≡ 2 → Shape t (Token.Close b)
 
 shape : (t : ℕ) → kind t < 3 → Shape t (tokenOf t)
-unfolding tokenOf
+unfolding tokenOf tokenWith
 shape t h = go (eqb (kind t) 0) refl (eqb (kind t) 1) refl
   where
     go : (x : Bool) → eqb (kind t) 0 ≡ x → (y : Bool) → eqb (kind t) 1 ≡ y →

@@ -18,11 +18,15 @@ use Rattle.history_file.specs.declared.TokenRead.the-variants.{Token as 
 abbrev pub kind : ℕ → ℕ
 kind t = t % 4
 
+-- the token of a kind and a name
+unfoldable pub tokenWith : ℕ → ℕ → Token
+tokenWith k name =
+    pick (eqb k 0) (Token.Mark (record { 0 = name }))
+    (pick (eqb k 1) (Token.Open (record { 0 = name })) (Token.Close (record { 0 = name })))
+
 -- the token of a number, and of each number of a list
 unfoldable pub tokenOf : ℕ → Token
-tokenOf t =
-    pick (eqb (kind t) 0) (Token.Mark (record { 0 = t / 4 }))
-    (pick (eqb (kind t) 1) (Token.Open (record { 0 = t / 4 })) (Token.Close (record { 0 = t / 4 })))
+tokenOf t = tokenWith (kind t) (t / 4)
 
 abbrev pub tokensOf : List ℕ → List Token
 tokensOf ts = map tokenOf ts

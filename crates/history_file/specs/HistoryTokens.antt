@@ -18,7 +18,7 @@ abbrev pub historyRead : HistoryFile → HistoryRead
 historyRead (accepted ts) = record { answer = Accepted (length ts); tokens = padded ts }
 historyRead (refused e) = refusedRead e
 
--- what the layers above may take for granted of token numbers: at most 1,024, and each has 16 bits
+-- what the layers above may take for granted of token numbers: at most 1,024, and each name has 16 bits
 pub record Tokens (ts : List ℕ) : Type 0 where
   pub few : length ts ≤ 1024
-  pub small : (i : ℕ) → i < length ts → getD ts i 0 < 65536
+  pub small : (i : ℕ) → i < length ts → getD ts i 0 < 262144

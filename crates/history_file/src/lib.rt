@@ -10,7 +10,7 @@ ghost use mathlib.Core.List.{[]};
 ghost use Prim.Native.Nat.{_≤_, _<_};
 ghost use Rattle.numbers.specs.Number.{numberAt, bytes};
 ghost use Rattle.history_file.specs.Refusals.{refusalOfToken};
-ghost use Rattle.history_file.specs.HistoryFile.{tokenOf, tokenJudged, tokenAt, depthAfter, tokensFrom, historyOf};
+ghost use Rattle.history_file.specs.HistoryFile.{tokenWith, tokenOf, tokenJudged, tokenAt, depthAfter, tokensFrom, historyOf};
 ghost use Rattle.history_file.specs.HistoryTokens.{refusedRead, historyRead};
 
 // At most this many tokens (refusal 10), and this many steps open together (refusal 14).
@@ -27,13 +27,10 @@ pub enum TokenRead {
     Refused(u8),
 }
 
-// The token of a number.
-pub fn token_of(t: u32) -> Token
-    requires { ⌜ t < 65536 ⌝ }
-    ensures { λ r. ⌜ r ≡ tokenOf t ⌝ }
+// The token of a kind and a name.
+pub fn token_with(kind: u32, name: u16) -> Token
+    ensures { λ r. ⌜ r ≡ tokenWith kind name ⌝ }
 {
-    let name = (t / 4) as u16;
-    let kind = t % 4;
     if kind == 0 {
         return Token::Mark(MarkName(name));
     }
@@ -41,6 +38,14 @@ pub fn token_of(t: u32) -> Token
         return Token::Open(OpenName(name));
     }
     Token::Close(CloseName(name))
+}
+
+// The token of a number.
+pub fn token_of(t: u32) -> Token
+    requires { ⌜ t < 262144 ⌝ }
+    ensures { λ r. ⌜ r ≡ tokenOf t ⌝ }
+{
+    token_with(t % 4, (t / 4) as u16)
 }
 
 // How many tokens there are, or the refusal.

@@ -26,7 +26,7 @@ use Rattle.places.specs.Place.{appliesTo, appliesHere, endPlace, levelIn}
 use Rattle.places.proofs.Places.{level-bit}
 use Rattle.tables.specs.Table.{rulesIn}
 use Rattle.numbers.specs.Number.{pick}
-use Rattle.history_file.specs.HistoryFile.{kind, tokenOf, tokensOf}
+use Rattle.history_file.specs.HistoryFile.{kind, tokenWith, tokenOf, tokensOf}
 use Rattle.levels.specs.Levels.{nextTop, Matched, Leveled, Stands}
 
 -- ── tokens and their numbers ──
@@ -40,7 +40,7 @@ tokens-at (t ∷ ts) zero h = refl
 tokens-at (t ∷ ts) (suc p) h = tokens-at ts p (le-of-suc-le-suc h)
 
 close-of : (t : ℕ) (b : CloseName) → tokenOf t ≡ Token.Close b → b .0 ≡ t / 4
-unfolding tokenOf
+unfolding tokenOf tokenWith
 close-of t b h = go (eqb (kind t) 0) (eqb (kind t) 1) h
   where
     go : (x y : Bool) → pick x (Token.Mark (record { 0 = t / 4 })) (pick y (Token.Open (record { 0 = t / 4 })) (Token.Close (record { 0 = t / 4 }))) ≡ Token.Close b → b .0 ≡ t / 4
@@ -111,7 +111,7 @@ applies-words m (Token.Close c) x b y h k (Rule.Mark M c′ M₁) = refl
 applies-words m (Token.Close c) x b y h k (Rule.Step M a M₁ b′ M₂) = refl
 
 pub stands-end : (w : List Token) (mask : List ℕ) (p : ℕ) → length w ≤ p → Stands w mask p endPlace
-unfolding testAt tokenOf
+unfolding testAt tokenWith
 stands-end w mask p h g l R = rw (drop-of-length-le w h) (go R)
   where
     go : (R : Rule) → appliesTo R endPlace ≡ testAt g [] R
@@ -127,14 +127,14 @@ module _ (ts mask : List ℕ) (p : ℕ) (here : p < length ts) where
   Closing = closeOf (pendingAt W (suc p)) (length W)
 
   stands : (b : CloseName) (y : ℕ) → ((g : Rules) → Leveled g W mask (suc p) → (c : CloseName) (L : ℕ) → (eqb (c .0) (b .0) && bit y L) ≡ behind (masks g (drop (suc p) W) .1) c L) →
-      Stands W mask p (record { number = getD ts p 0; inside = getD mask (suc p) 0; close = b; after = y })
-  unfolding testAt
+      Stands W mask p (record { kind = kind (getD ts p 0); name = getD ts p 0 / 4; inside = getD mask (suc p) 0; close = b; after = y })
+  unfolding testAt tokenOf
   stands b y k g l R =
       rw (tokens-at ts p here)
       (applies-words (masks g (drop (suc p) W)) (tokenOf (getD ts p 0)) (getD mask (suc p) 0) b y (l (suc p) (omega arith) (rw tokens-length here)) (k g l) R)
 
   pub stands-closed : (b : CloseName) → Closing < length ts → b .0 ≡ getD ts Closing 0 / 4 →
-      Stands W mask p (record { number = getD ts p 0; inside = getD mask (suc p) 0; close = b; after = getD mask (suc Closing) 0 })
+      Stands W mask p (record { kind = kind (getD ts p 0); name = getD ts p 0 / 4; inside = getD mask (suc p) 0; close = b; after = getD mask (suc Closing) 0 })
   stands-closed b h e = stands b (getD mask (suc Closing) 0) (λ g l c L. rw (masks-outer g W (suc p)) (go g l (pendingAt W (suc p)) refl c L))
     where
       go : (g : Rules) → Leveled g W mask (suc p) → (q : Closes) → pendingAt W (suc p) ≡ q → (c : CloseName) (L : ℕ) →
@@ -153,7 +153,7 @@ module _ (ts mask : List ℕ) (p : ℕ) (here : p < length ts) where
           after : pendingAt W (suc p) ≡ d ∷ q → suc p ≤ suc (d .1)
           after f = omega (arith, pending-from (drop (suc p) W) (suc p) d (rw f (List·Memᴰ·head refl)))
 
-  pub stands-open : (b : CloseName) → length ts ≤ Closing → Stands W mask p (record { number = getD ts p 0; inside = getD mask (suc p) 0; close = b; after = 0 })
+  pub stands-open : (b : CloseName) → length ts ≤ Closing → Stands W mask p (record { kind = kind (getD ts p 0); name = getD ts p 0 / 4; inside = getD mask (suc p) 0; close = b; after = 0 })
   stands-open b h = stands b 0 (λ g l c L. rw (masks-outer g W (suc p)) (go g (pendingAt W (suc p)) refl c L))
     where
       go : (g : Rules) (q : Closes) → pendingAt W (suc p) ≡ q → (c : CloseName) (L : ℕ) →

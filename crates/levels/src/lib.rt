@@ -47,7 +47,8 @@ fn end_place() -> Place
 {
     let close = CloseName(0);
     Place {
-        number: 2,
+        kind: 2,
+        name: 0,
         inside: 0,
         close,
         after: 0,
@@ -55,7 +56,7 @@ fn end_place() -> Place
 }
 
 fn close_name(t: u32) -> CloseName
-    requires { ⌜ t < 65536 ⌝ }
+    requires { ⌜ t < 262144 ⌝ }
     ensures { λ r. ⌜ r .0 ≡ t / 4 ⌝ }
 {
     CloseName((t / 4) as u16)
@@ -71,14 +72,17 @@ pub fn place_at(w: &[u32], m: &[usize; 1025], mask: &[u32; 1025], p: usize) -> P
     if p == w.len() {
         return end_place();
     }
-    let number = w[p] as u16;
+    let t = w[p];
+    let kind = t % 4;
+    let name = (t / 4) as u16;
     let inside = mask[p + 1];
     let j = m[p];
     if j < w.len() {
         let close = close_name(w[j]);
         let after = mask[j + 1];
         return Place {
-            number,
+            kind,
+            name,
             inside,
             close,
             after,
@@ -86,7 +90,8 @@ pub fn place_at(w: &[u32], m: &[usize; 1025], mask: &[u32; 1025], p: usize) -> P
     }
     let close = CloseName(0);
     Place {
-        number,
+        kind,
+        name,
         inside,
         close,
         after: 0,

@@ -12,7 +12,7 @@ use Rattle.vpg.specs.declared.Rule.{Rule}
 use Rattle.vpg.specs.declared.Token.{Token}
 use Rattle.vpg.specs.Steps.{left}
 use Rattle.tables.specs.Table.{ruleIn}
-use Rattle.history_file.specs.HistoryFile.{tokenOf}
+use Rattle.history_file.specs.HistoryFile.{tokenWith}
 use Rattle.places.specs.declared.Place.{Place}
 
 abbrev pub isClose : Token → Bool
@@ -26,7 +26,7 @@ markHere name to (Token.Open a) x = false
 markHere name to (Token.Close b) x = false
 
 abbrev pub markApplies : MarkName → ℕ → Place → Bool
-markApplies name to p = markHere name to (tokenOf (p .number)) (p .inside)
+markApplies name to p = markHere name to (tokenWith (p .kind) (p .name)) (p .inside)
 
 abbrev pub stepHere : OpenName → ℕ → CloseName → ℕ → Token → ℕ → CloseName → ℕ → Bool
 stepHere a to b last (Token.Mark c) x d y = false
@@ -34,7 +34,7 @@ stepHere a to b last (Token.Open c) x d y = eqb (a .0) (c .0) && (bit x to && (e
 stepHere a to b last (Token.Close c) x d y = false
 
 abbrev pub stepApplies : OpenName → ℕ → CloseName → ℕ → Place → Bool
-stepApplies a to b last p = stepHere a to b last (tokenOf (p .number)) (p .inside) (p .close) (p .after)
+stepApplies a to b last p = stepHere a to b last (tokenWith (p .kind) (p .name)) (p .inside) (p .close) (p .after)
 
 abbrev pub appliesHere : Rule → Token → ℕ → CloseName → ℕ → Bool
 appliesHere (Rule.Empty M) t x d y = isClose t
@@ -42,11 +42,11 @@ appliesHere (Rule.Mark M c M₁) t x d y = markHere c M₁ t x
 appliesHere (Rule.Step M a M₁ b M₂) t x d y = stepHere a M₁ b M₂ t x d y
 
 abbrev pub appliesTo : Rule → Place → Bool
-appliesTo R p = appliesHere R (tokenOf (p .number)) (p .inside) (p .close) (p .after)
+appliesTo R p = appliesHere R (tokenWith (p .kind) (p .name)) (p .inside) (p .close) (p .after)
 
--- what stands at the end: the number of a close, whose name no rule asks for
+-- what stands at the end: a close, whose name no rule asks for
 abbrev pub endPlace : Place
-endPlace = record { number = 2; inside = 0; close = record { 0 = 0 }; after = 0 }
+endPlace = record { kind = 2; name = 0; inside = 0; close = record { 0 = 0 }; after = 0 }
 
 abbrev pub withLeft : ℕ → Rule → Place → ℕ
 withLeft set rule p = cond (appliesTo rule p) (addBit set (left rule)) set

@@ -5,7 +5,7 @@ use native.Mathlib.Omega.{arith}
 use mathlib.Core.Path.{_≡_, refl}
 use mathlib.Core.List.{List, [], _∷_, List·Memᴰ, List·Memᴰ·head, List·Memᴰ·tail}
 use Rattle.vpg.specs.Depth.{openAfter, Shallow}
-use Rattle.history_file.specs.HistoryFile.{kind, tokenOf, tokensOf, depthAfter}
+use Rattle.history_file.specs.HistoryFile.{kind, tokenWith, tokenOf, tokensOf, depthAfter}
 use Rattle.history_file.specs.Wellformed.{TokenNumber, Nested, Wellformed}
 
 -- both ways to count the open steps agree
@@ -14,7 +14,7 @@ record Counts (t d : ℕ) : Type 0 where
   most : (kind t ≡ 1 → d < 128) → d ≤ 128 → depthAfter t d ≤ 128
 
 counts : (t d : ℕ) → kind t < 3 → Counts t d
-unfolding depthAfter tokenOf
+unfolding depthAfter tokenOf tokenWith
 counts t d h = go (kind t) refl h
   where
     go : (k : ℕ) → kind t ≡ k → k < 3 → Counts t d

@@ -16,14 +16,14 @@ end-place-requires c κs = search needs
 returns : tie.Need-returns
 returns c = rw (c .end-place .ensures) (stands-end (tokensOf (c .before .before .before .args .w .now)) (c .before .before .before .args .mask .now) (c .before .before .before .args .p) (omega (arith, tokens-length (c .before .before .before .args .w .now))))
 
-mul-number : tie.Need-mul-number
-mul-number c = search needs
+mul-t : tie.Need-mul-t
+mul-t c = search needs
 
-shared-slice-read-number : tie.Need-shared-slice-read-number
-shared-slice-read-number c = search needs
+shared-slice-read-t : tie.Need-shared-slice-read-t
+shared-slice-read-t c = search needs
 
-cast-number : tie.Need-cast-number
-cast-number c =
+cast-name : tie.Need-cast-name
+cast-name c =
     let s = c .before .before .before in
     omega (arith, s .pre .0 .small (s .args .p) (omega arith))
 
@@ -85,9 +85,9 @@ place-at-spec =
     (tie.spec
     end-place-requires
     returns
-    mul-number
-    shared-slice-read-number
-    cast-number
+    mul-t
+    shared-slice-read-t
+    cast-name
     add-inside
     mul-inside
     element-copy-out-inside

@@ -20,30 +20,30 @@ returns : tie.Need-returns
 returns c =
     let s = c .before .before .before .before in
     let a = s .before .args in
-    rw (rule-empty (a .table .now) (a .r) _ (s .six-in .ensures) (c .before .if1 .taken)) (c .is-close .ensures ∙ ap isClose (c .before .before .before .token-of .ensures))
+    rw (rule-empty (a .table .now) (a .r) _ (s .six-in .ensures) (c .before .before .if1 .taken)) (c .is-close .ensures ∙ ap isClose (c .before .token-of .ensures))
 
 mark-applies-requires : tie.Need-mark-applies-requires
 mark-applies-requires c κs =
-    let s = c .before .before .before .before .before in
+    let s = c .before .before .before .before in
     let a = s .before .args in
     (rw (rule-mark (a .table .now) (a .r) _ (s .six-in .ensures) (c .if2 .taken)) at (s .before .pre .1)) .1
 
 returns-2 : tie.Need-returns-2
 returns-2 c =
-    let s = c .before .before .before .before .before .before in
+    let s = c .before .before .before .before .before in
     let a = s .before .args in
     rw (rule-mark (a .table .now) (a .r) _ (s .six-in .ensures) (c .before .if2 .taken)) (c .mark-applies .ensures)
 
 step-applies-requires : tie.Need-step-applies-requires
 step-applies-requires c κs =
-    let s = c .before .before .before .before .before in
+    let s = c .before .before .before .before in
     let a = s .before .args in
     let b = rw (rule-step (a .table .now) (a .r) _ (s .six-in .ensures) (c .before .before .if1 .left) (c .if2 .left)) at (s .before .pre .1) in
     (b .1, b .2)
 
 returns-3 : tie.Need-returns-3
 returns-3 c =
-    let s = c .before .before .before .before .before .before in
+    let s = c .before .before .before .before .before in
     let a = s .before .args in
     rw (rule-step (a .table .now) (a .r) _ (s .six-in .ensures) (c .before .before .before .if1 .left) (c .before .if2 .left)) (c .step-applies .ensures)
 
