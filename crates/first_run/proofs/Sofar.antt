@@ -29,7 +29,8 @@ use Rattle.tables.specs.Table.{ruleIn, rulesIn}
 use Rattle.tables.proofs.Tables.{rules-at}
 use Rattle.history_file.specs.HistoryFile.{tokenOf, tokensOf}
 use Rattle.levels.specs.Levels.{Leveled, Stands, Setting}
-use Rattle.levels.proofs.Levels.{tokens-length, tokens-at, close-most, pending-end}
+use Rattle.levels.proofs.Levels.{tokens-length, tokens-at, pending-end}
+use Rattle.levels.proofs.Setting.{closing, closing-room}
 use Rattle.first_run.specs.Fill.{Smallest, Filled}
 use Rattle.first_run.proofs.Passing.{passes, found, least}
 
@@ -125,11 +126,8 @@ module _ (t : List ℕ) (n : ℕ) (ts m mask : List ℕ) (set-up : Setting t n t
       here : drop p W ≡ tokenOf (getD ts p 0) ∷ drop (suc p) W
       here = tokens-at ts p more
 
-      closing : getD m p 0 ≡ closeOf (pendingAt W (suc p)) (length W)
-      closing = set-up .matched p (omega arith) (rw tokens-length (omega arith))
-
       inside : closeOf (pendingAt W (suc p)) (length W) < length due
-      inside = let c = close-most W (suc p) in omega (arith, tokens-length ts, k .room, set-up .tokens .few)
+      inside = rw (k .room) (closing-room set-up p (omega arith))
 
       here-turn : Turn G W (length W) due p (tokenOf (getD ts p 0)) here L r (ruleIn t r)
       here-turn =
@@ -138,7 +136,7 @@ module _ (t : List ℕ) (n : ℕ) (ts m mask : List ℕ) (set-up : Setting t n t
 
       pub going-next : Goes (set new p r) (set due (getD m p 0) (later (ruleIn t r) (getD due (getD m p 0) 0))) (inner (ruleIn t r) (getD due p 0)) (p + 1)
       going-next =
-          rw (closing, add-one p)
+          rw (closing set-up p (omega arith), add-one p)
           (record {
             passed = omega (arith, k .passed);
             most = more;

@@ -29,7 +29,8 @@ use Rattle.tables.proofs.Tables.{length-rules, rules-at, rules-below}
 use Rattle.places.specs.declared.Place.{Place}
 use Rattle.history_file.specs.HistoryFile.{tokenOf, tokensOf}
 use Rattle.levels.specs.Levels.{Stands, Setting}
-use Rattle.levels.proofs.Levels.{tokens-length, tokens-at, close-most}
+use Rattle.levels.proofs.Levels.{tokens-at}
+use Rattle.levels.proofs.Setting.{closing, closing-room}
 use Rattle.rows.specs.Words.{Held}
 use Rattle.rows.specs.declared.Ways.{Ways}
 use Rattle.rows.specs.Rows.{keepsAt, waysIn, wordsIn}
@@ -120,10 +121,10 @@ module _ (t : List ℕ) (n start : ℕ) (ts m mask : List ℕ) (x : Setting t n 
       close = closeOf (pendingAt W (suc p)) (length W)
 
       is : j ≡ close
-      is = e ∙ x .matched p (omega arith) (rw tokens-length (omega arith))
+      is = e ∙ closing x p (omega arith)
 
       room : close < length behind
-      room = omega (arith, x .tokens .few, tokens-length ts, close-most W (suc p))
+      room = rw long (closing-room x p (omega arith))
 
       stored : (i K : ℕ) (b : Bool) → eqb i close ≡ b →
           bit (getD (set behind j (bitOr (getD behind j 0) (r .behind))) i 0) K ≡ (bit (getD behind i 0) K || (eqb i close && returning (keepsHere t n W here p) G K))
@@ -137,9 +138,6 @@ module _ (t : List ℕ) (n start : ℕ) (ts m mask : List ℕ) (x : Setting t n 
 
   pub going-start : pendingAt W 0 ≡ [] → Going t n start ts 0 (startSet (getD mask 0 0) start) (replicate 1025 0)
   going-start closed = record { within = omega arith; long = refl; front = λ h. fronted-start closed }
-
-  pub close-room : (p : ℕ) → p ≤ length ts → getD m p 0 < 1025
-  close-room p h = let e = x .matched p (omega arith) (rw tokens-length h) in omega (arith, x .tokens .few, tokens-length ts, close-most W (suc p))
 
   pub going-next : (here p next : ℕ) (behind behind′ : List ℕ) (r : Ways) → p ≤ length ts → Going t n start ts p here behind → WaysOf t n W here p r →
       next ≡ bitOr (getD behind p 0) (r .next) → behind′ ≡ set behind (getD m p 0) (bitOr (getD behind (getD m p 0) 0) (r .behind)) → Going t n start ts (p + 1) next behind′

@@ -37,7 +37,8 @@ use Rattle.tables.specs.Ready.{grammarIn}
 use Rattle.tables.proofs.Tables.{rules-at, rules-below}
 use Rattle.history_file.specs.HistoryFile.{tokenOf, tokensOf}
 use Rattle.levels.specs.Levels.{Setting}
-use Rattle.levels.proofs.Levels.{tokens-length, tokens-at, close-most, pending-end}
+use Rattle.levels.proofs.Levels.{tokens-length, tokens-at, pending-end}
+use Rattle.levels.proofs.Setting.{closing, closing-room}
 use Rattle.walk.specs.Walked.{Reads}
 use Rattle.next_run.specs.Next.{fitsAt, NoneFrom, LastAt, Follows, Rewritten}
 
@@ -145,11 +146,8 @@ module _ (t : List ℕ) (n : ℕ) (ts m mask : List ℕ) (set-up : Setting t n t
         here : drop p W ≡ tokenOf (getD ts p 0) ∷ drop (suc p) W
         here = tokens-at ts p more
 
-        closing : getD m p 0 ≡ closeOf (pendingAt W (suc p)) (length W)
-        closing = set-up .matched p (omega arith) (rw tokens-length (omega arith))
-
         inside : closeOf (pendingAt W (suc p)) (length W) < length f
-        inside = let c = close-most W (suc p) in omega (arith, tokens-length ts, k .room-behind, set-up .tokens .few)
+        inside = rw (k .room-behind) (closing-room set-up p (omega arith))
 
         -- where rule r leads from the state at p
         found-turn : (u : Token) (e : drop p W ≡ u ∷ drop (suc p) W) → Turn G W (length W) f p u e (getD at p 0) r (ruleIn t r)
@@ -160,7 +158,7 @@ module _ (t : List ℕ) (n : ℕ) (ts m mask : List ℕ) (set-up : Setting t n t
             (run-fits G (drop p W) (getD at p 0) (dueAt f (pendingAt W p)) (drop p E) (run-from (length W - p) p (omega (arith, h .place)))) (x .is) (x .from) (x .passes)
 
         pub rewrite-fits : Fits (inner (ruleIn t r) (getD f p 0)) (dueAt (set f (getD m p 0) (later (ruleIn t r) (getD f (getD m p 0) 0))) (pendingAt W (suc p))) (masks G (drop (suc p) W))
-        rewrite-fits = rw closing (found-turn (tokenOf (getD ts p 0)) here .fits)
+        rewrite-fits = rw (closing set-up p (omega arith)) (found-turn (tokenOf (getD ts p 0)) here .fits)
 
       -- the state behind position p
       abbrev S : State
@@ -169,7 +167,7 @@ module _ (t : List ℕ) (n : ℕ) (ts m mask : List ℕ) (set-up : Setting t n t
       next-on : (x : List ℕ) → p < length ts → Least (Run G S (drop (suc p) W)) x → NextFrom G W at f E p (r ∷ x)
       next-on x more l =
           next-here G W at f E p (k .leads p (rw tokens-length more)) (omega (arith, numbers)) (length W) r (ruleIn t r) x (last-behind (rw tokens-length more)) above
-          (found-turn more (k .leads p (rw tokens-length more) .token) (k .leads p (rw tokens-length more) .here)) between (rw (closing more) at l)
+          (found-turn more (k .leads p (rw tokens-length more) .token) (k .leads p (rw tokens-length more) .here)) between (rw (closing set-up p (omega arith)) at l)
 
       next-end : p ≡ length W → NextFrom G W at f E p (r ∷ [])
       next-end e = go p e (passes-at p r (h .rule) (h .fits)) above between

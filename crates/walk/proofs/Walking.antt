@@ -31,7 +31,8 @@ use Rattle.tables.specs.Table.{ruleIn, rulesIn}
 use Rattle.tables.proofs.Tables.{rules-at}
 use Rattle.history_file.specs.HistoryFile.{tokenOf, tokensOf}
 use Rattle.levels.specs.Levels.{Leveled, Stands, Setting}
-use Rattle.levels.proofs.Levels.{tokens-length, tokens-at, close-most}
+use Rattle.levels.proofs.Levels.{tokens-length, tokens-at}
+use Rattle.levels.proofs.Setting.{closing, closing-room}
 use Rattle.first_run.specs.Fill.{ruleFits}
 use Rattle.first_run.proofs.Passing.{passes, none}
 use Rattle.walk.specs.Walked.{Reads, WalkIs}
@@ -145,11 +146,8 @@ module _ (t : List ℕ) (n : ℕ) (ts m mask : List ℕ) (set-up : Setting t n t
         here : drop p W ≡ tokenOf (getD ts p 0) ∷ drop (suc p) W
         here = tokens-at ts p more
 
-        closing : getD m p 0 ≡ closeOf (pendingAt W (suc p)) (length W)
-        closing = set-up .matched p (omega arith) (rw tokens-length (omega arith))
-
         inside : closeOf (pendingAt W (suc p)) (length W) < length f
-        inside = let c = close-most W (suc p) in omega (arith, tokens-length ts, k .room-behind, set-up .tokens .few)
+        inside = rw (k .room-behind) (closing-room set-up p (omega arith))
 
         here-turn : Turn G W (length W) f p (tokenOf (getD ts p 0)) here (getD at p 0) (getD E p 0) (ruleIn t (getD buf p 0))
         here-turn =
@@ -160,7 +158,7 @@ module _ (t : List ℕ) (n : ℕ) (ts m mask : List ℕ) (set-up : Setting t n t
         pub walking-next : Walks (set at (p + 1) (inner (ruleIn t (getD buf p 0)) (getD f p 0))) (set f (getD m p 0) (later (ruleIn t (getD buf p 0)) (getD f (getD m p 0) 0))) (p + 1)
         walking-next =
             let room : suc p < length at = omega (arith, k .room-at, set-up .tokens .few) in
-            rw (closing, add-one p)
+            rw (closing set-up p (omega arith), add-one p)
             (record {
               most = more;
               room-at = length-set at _ _ ∙ k .room-at;

@@ -6,7 +6,7 @@ use native.Mathlib.Omega.{arith}
 use Rattle.tables.specs.Table.{ruleIn}
 use lib.ListN.{length}
 use Rattle.history_file.specs.HistoryFile.{tokensOf}
-use Rattle.levels.proofs.Levels.{tokens-length, close-most}
+use Rattle.levels.proofs.Setting.{close-room}
 use Rattle.first_run.proofs.Sofar.{Going, going-start, found-rule, going-next, going-end}
 use Rattle.first_run.proofs.fill.Statement.{statement}
 use Rattle.first_run.proofs.fill.Tie as tie
@@ -27,7 +27,6 @@ place-at-requires : tie.Need-place-at-requires Inv-loop μ-loop
 place-at-requires c κs =
     let l = c .before in
     let s = l .before .before .before in
-    let a = s .args in
     (s .pre .0 .tokens, (omega arith, s .pre .0 .matched))
 
 smallest-requires : tie.Need-smallest-requires Inv-loop μ-loop
@@ -61,14 +60,12 @@ mul-inner-of : tie.Need-mul-inner-of Inv-loop μ-loop
 mul-inner-of c =
     let l = c .before .before .before .before .before in
     let s = l .before .before .before in
-    let a = s .args in
     omega (arith, s .pre .0 .tokens .few)
 
 array-read-inner-of : tie.Need-array-read-inner-of Inv-loop μ-loop
 array-read-inner-of c =
     let l = c .before .before .before .before .before in
     let s = l .before .before .before in
-    let a = s .args in
     omega (arith, s .pre .0 .tokens .few)
 
 inner-of-requires : tie.Need-inner-of-requires Inv-loop μ-loop
@@ -78,9 +75,7 @@ store-later-requires : tie.Need-store-later-requires Inv-loop μ-loop
 store-later-requires c κs =
     let l = c .before .before .before .before .before .before .before in
     let s = l .before .before .before in
-    let a = s .args in
-    let j = s .pre .0 .matched (l .loop .p) (omega arith) (rw tokens-length (omega arith)) in
-    (l .loop .inv .room, omega (arith, s .pre .0 .tokens .few, j, tokens-length (a .w .now), close-most (tokensOf (a .w .now)) (suc (l .loop .p))))
+    (l .loop .inv .room, close-room (s .pre .0) (l .loop .p) (omega arith))
 
 add-p : tie.Need-add-p Inv-loop μ-loop
 add-p c = search needs
@@ -104,7 +99,6 @@ place-at-requires-2 : tie.Need-place-at-requires-2 Inv-loop μ-loop
 place-at-requires-2 c κs =
     let l = c .before in
     let s = l .before .before .before in
-    let a = s .args in
     (s .pre .0 .tokens, (omega arith, s .pre .0 .matched))
 
 smallest-requires-2 : tie.Need-smallest-requires-2 Inv-loop μ-loop

@@ -9,7 +9,8 @@ use lib.ListN.{length}
 use Rattle.tables.specs.Ready.{grammarIn}
 use Rattle.history_file.specs.HistoryFile.{tokensOf}
 use Rattle.levels.proofs.Levels.{tokens-length}
-use Rattle.kept.proofs.Fronts.{Going, going-start, close-room, going-next, words-here}
+use Rattle.levels.proofs.Setting.{close-room}
+use Rattle.kept.proofs.Fronts.{Going, going-start, going-next, words-here}
 use Rattle.kept.proofs.Written.{Written, written-length, written-next, written-all}
 use Rattle.kept.proofs.sets.Statement.{statement}
 use Rattle.kept.proofs.sets.Tie as tie
@@ -77,7 +78,7 @@ onward-requires c κs =
     let a = s .args in
     let l = c .before .before .before .before .before .before .before .loop in
     let h : l .p ≤ length (a .w .now) = omega (arith, c .before .before .before .before .before .before .loop-test .taken) in
-    (l .inv .0 .long, omega (arith, s .pre .0 .tokens .few), close-room (a .table .now) (a .count) (a .start) (a .w .now) (a .m .now) (a .mask .now) (s .pre .0) (l .p) h)
+    (l .inv .0 .long, omega (arith, s .pre .0 .tokens .few), close-room (s .pre .0) (l .p) h)
 
 add-p : tie.Need-add-p Inv-loop μ-loop
 add-p c = search needs

@@ -41,21 +41,18 @@ place-at-requires : tie.Need-place-at-requires Inv-loop μ-loop Inv-search μ-se
 place-at-requires c κs =
     let l = c .before in
     let s = l .before .before .before in
-    let a = s .args in
     (s .pre .0 .tokens, (omega arith, s .pre .0 .matched))
 
 mul-l : tie.Need-mul-l Inv-loop μ-loop Inv-search μ-search
 mul-l c =
     let l = c .before .before in
     let s = l .before .before .before in
-    let a = s .args in
     omega (arith, s .pre .0 .tokens .few)
 
 element-copy-out-l : tie.Need-element-copy-out-l Inv-loop μ-loop Inv-search μ-search
 element-copy-out-l c =
     let l = c .before .before in
     let s = l .before .before .before in
-    let a = s .args in
     omega (arith, s .pre .0 .tokens .few)
 
 shared-slice-read-r : tie.Need-shared-slice-read-r Inv-loop μ-loop Inv-search μ-search

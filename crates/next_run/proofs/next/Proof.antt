@@ -27,7 +27,6 @@ walk-requires c κs =
 last-place-requires : tie.Need-last-place-requires
 last-place-requires c κs =
     let s = c .before .before .before .before .before .before .before .before .before .before .before in
-    let a = s .args in
     (s .pre .0, s .pre .1 .1)
 
 enum-told : tie.Need-enum-told

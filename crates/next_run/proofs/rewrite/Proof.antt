@@ -7,7 +7,8 @@ use native.Mathlib.Numerals.{add-one}
 use lib.ListN.{length-set}
 use Rattle.tables.specs.Table.{ruleIn, rulesIn}
 use Rattle.history_file.specs.HistoryFile.{tokenOf, tokensOf}
-use Rattle.levels.proofs.Levels.{tokens-length, tokens-at, close-most}
+use Rattle.levels.proofs.Levels.{tokens-length, tokens-at}
+use Rattle.levels.proofs.Setting.{close-room}
 use Rattle.next_run.proofs.Rewriting.{rewritten-on, rewritten-end}
 use borrow.Author.Needs.{needs}
 use Rattle.next_run.proofs.rewrite.Statement.{statement}
@@ -41,8 +42,7 @@ store-later-requires : tie.Need-store-later-requires
 store-later-requires c κs =
     let s = c .before .before .before .before .before .before .before in
     let a = s .args in
-    let j = s .pre .0 .matched (a .p) (omega arith) (rw tokens-length (s .pre .1 .0 .0)) in
-    (search needs, omega (arith, s .pre .0 .tokens .few, j, tokens-length (a .w .now), close-most (tokensOf (a .w .now)) (suc (a .p))))
+    (search needs, close-room (s .pre .0) (a .p) (omega arith))
 
 add-fill : tie.Need-add-fill
 add-fill c = search needs

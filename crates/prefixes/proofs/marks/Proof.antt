@@ -37,8 +37,6 @@ mark-of-requires c κs = search needs
 slice-write-out : tie.Need-slice-write-out Inv-loop μ-loop
 slice-write-out c =
     let l = c .before .before .loop in
-    let s = c .before .before .before .before .before .before .before in
-    let a = s .args in
     let u = l .inv .1 in omega (arith, u .size)
 
 mul-token-of : tie.Need-mul-token-of Inv-loop μ-loop
@@ -54,7 +52,6 @@ step-requires : tie.Need-step-requires Inv-loop μ-loop
 step-requires c κs =
     let l = c .before .before .before .before .before .before .loop in
     let s = c .before .before .before .before .before .before .before .before .before .before .before in
-    let a = s .args in
     let u = l .inv .1 in
     let d = depths u (c .before .before .before .before .before .loop-test .taken) in
     (s .pre .0, (c .before .before .before .before .before .before .before .before .empties .ensures, (rw (c .before .before .token-of .ensures) d, (u .stack-size, u .names-size))))
@@ -85,15 +82,11 @@ mark-of-requires-2 c κs = search needs
 slice-write-out-2 : tie.Need-slice-write-out-2 Inv-loop μ-loop
 slice-write-out-2 c =
     let l = c .before .before .loop in
-    let s = c .before .before .before .before .before .before .before in
-    let a = s .args in
     let u = l .inv .1 in omega (arith, u .size)
 
 same-length : tie.Need-same-length Inv-loop μ-loop
 same-length c =
     let l = c .before .before .loop in
-    let s = c .before .before .before .before .before .before .before in
-    let a = s .args in
     let u = l .inv .1 in length-set (l .out) (l .i) (c .mark-of2 .result) ∙ u .size
 
 returns : tie.Need-returns Inv-loop μ-loop

@@ -7,7 +7,7 @@ use native.Mathlib.Omega.{arith}
 use Rattle.tables.specs.Table.{ruleIn}
 use lib.ListN.{length, take}
 use Rattle.history_file.specs.HistoryFile.{tokensOf}
-use Rattle.levels.proofs.Levels.{tokens-length, close-most}
+use Rattle.levels.proofs.Setting.{close-room}
 use Rattle.walk.proofs.Walking.{Walking, walking-start, walking-refused, rule-below, walking-next, walking-last}
 use Rattle.walk.proofs.walk.Statement.{statement}
 use Rattle.walk.proofs.walk.Tie as tie
@@ -37,28 +37,24 @@ place-at-requires : tie.Need-place-at-requires Inv-loop μ-loop
 place-at-requires c κs =
     let l = c .before .before in
     let s = l .before .before .before in
-    let a = s .args in
     (s .pre .0 .tokens, (omega arith, s .pre .0 .matched))
 
 mul-stands : tie.Need-mul-stands Inv-loop μ-loop
 mul-stands c =
     let l = c .before .before .before in
     let s = l .before .before .before in
-    let a = s .args in
     omega (arith, s .pre .0 .tokens .few)
 
 array-read-stands : tie.Need-array-read-stands Inv-loop μ-loop
 array-read-stands c =
     let l = c .before .before .before in
     let s = l .before .before .before in
-    let a = s .args in
     omega (arith, s .pre .0 .tokens .few)
 
 stands-requires : tie.Need-stands-requires Inv-loop μ-loop
 stands-requires c κs =
     let l = c .before .before .before in
     let s = l .before .before .before in
-    let a = s .args in
     s .pre .0 .ready
 
 six-in-requires : tie.Need-six-in-requires Inv-loop μ-loop
@@ -78,14 +74,12 @@ mul-inner-of : tie.Need-mul-inner-of Inv-loop μ-loop
 mul-inner-of c =
     let l = c .before .before .before .before .before .before .before in
     let s = l .before .before .before in
-    let a = s .args in
     omega (arith, s .pre .0 .tokens .few)
 
 array-read-inner-of : tie.Need-array-read-inner-of Inv-loop μ-loop
 array-read-inner-of c =
     let l = c .before .before .before .before .before .before .before in
     let s = l .before .before .before in
-    let a = s .args in
     omega (arith, s .pre .0 .tokens .few)
 
 inner-of-requires : tie.Need-inner-of-requires Inv-loop μ-loop
@@ -95,14 +89,12 @@ add-at : tie.Need-add-at Inv-loop μ-loop
 add-at c =
     let l = c .before .before .before .before .before .before .before .before in
     let s = l .before .before .before in
-    let a = s .args in
     omega (arith, s .pre .0 .tokens .few)
 
 mul-at : tie.Need-mul-at Inv-loop μ-loop
 mul-at c =
     let l = c .before .before .before .before .before .before .before .before in
     let s = l .before .before .before in
-    let a = s .args in
     omega (arith, s .pre .0 .tokens .few)
 
 array-write-at-2 : tie.Need-array-write-at-2 Inv-loop μ-loop
@@ -114,9 +106,7 @@ store-later-requires : tie.Need-store-later-requires Inv-loop μ-loop
 store-later-requires c κs =
     let l = c .before .before .before .before .before .before .before .before .before in
     let s = l .before .before .before in
-    let a = s .args in
-    let j = s .pre .0 .matched (l .loop .p) (omega arith) (rw tokens-length (omega arith)) in
-    (l .loop .inv .room-behind, omega (arith, s .pre .0 .tokens .few, j, tokens-length (a .w .now), close-most (tokensOf (a .w .now)) (suc (l .loop .p))))
+    (l .loop .inv .room-behind, close-room (s .pre .0) (l .loop .p) (omega arith))
 
 add-p : tie.Need-add-p Inv-loop μ-loop
 add-p c = omega (arith, c .before .before .before .before .before .before .before .before .before .loop-test .taken, c .before .before .before .before .before .before .before .before .before .before .before .before .before .pre .0 .tokens .few)
@@ -145,7 +135,6 @@ place-at-requires-2 : tie.Need-place-at-requires-2 Inv-loop μ-loop
 place-at-requires-2 c κs =
     let l = c .before in
     let s = l .before .before .before in
-    let a = s .args in
     (s .pre .0 .tokens, (omega arith, s .pre .0 .matched))
 
 shared-slice-read-stands : tie.Need-shared-slice-read-stands Inv-loop μ-loop
@@ -158,21 +147,18 @@ mul-stands-2 : tie.Need-mul-stands-2 Inv-loop μ-loop
 mul-stands-2 c =
     let l = c .before .before .before in
     let s = l .before .before .before in
-    let a = s .args in
     omega (arith, s .pre .0 .tokens .few)
 
 array-read-stands-2 : tie.Need-array-read-stands-2 Inv-loop μ-loop
 array-read-stands-2 c =
     let l = c .before .before .before in
     let s = l .before .before .before in
-    let a = s .args in
     omega (arith, s .pre .0 .tokens .few)
 
 stands-requires-2 : tie.Need-stands-requires-2 Inv-loop μ-loop
 stands-requires-2 c κs =
     let l = c .before .before .before in
     let s = l .before .before .before in
-    let a = s .args in
     s .pre .0 .ready
 
 returns-2 : tie.Need-returns-2 Inv-loop μ-loop
