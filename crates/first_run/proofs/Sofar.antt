@@ -87,7 +87,7 @@ pub record Going (t : List ℕ) (n : ℕ) (ts : List ℕ) (L₀ from : ℕ) (beh
   pub sofar : Sofar (rulesIn t n) (tokensOf ts) (L₀, dueAt behind (pendingAt (tokensOf ts) from)) from (L, dueAt due (pendingAt (tokensOf ts) p)) p old new
   pub kept : drop (suc (length (tokensOf ts))) new ≡ drop (suc (length (tokensOf ts))) old
 
-module _ (t : List ℕ) (n : ℕ) (ts m mask : List ℕ) (set-up : Setting t n ts m mask) (L₀ from : ℕ) (behind old : List ℕ) (long : length ts < length old) where
+module _ {t : List ℕ} {n : ℕ} {ts m mask : List ℕ} (set-up : Setting t n ts m mask) (L₀ from : ℕ) (behind old : List ℕ) (long : length ts < length old) where
   abbrev W : List Token
   W = tokensOf ts
 

@@ -70,7 +70,7 @@ pub record Going (t : List ℕ) (n start : ℕ) (ts : List ℕ) (p here : ℕ) (
   pub long : length behind ≡ 1025
   pub front : p ≤ length ts → Fronted t n start ts p here behind
 
-module _ (t : List ℕ) (n start : ℕ) (ts m mask : List ℕ) (x : Setting t n ts m mask) where
+module _ {t : List ℕ} {n : ℕ} {ts m mask : List ℕ} (x : Setting t n ts m mask) (start : ℕ) where
   abbrev W : List Token
   W = tokensOf ts
 

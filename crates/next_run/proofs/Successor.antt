@@ -42,7 +42,7 @@ use Rattle.levels.proofs.Setting.{closing, closing-room}
 use Rattle.walk.specs.Walked.{Reads}
 use Rattle.next_run.specs.Next.{fitsAt, NoneFrom, LastAt, Follows, Rewritten}
 
-module _ (t : List ℕ) (n : ℕ) (ts m mask : List ℕ) (set-up : Setting t n ts m mask) (start : ℕ) (buf : List ℕ) (long : length ts < length buf) (matched : pendingAt (tokensOf ts) 0 ≡ []) where
+module _ {t : List ℕ} {n : ℕ} {ts m mask : List ℕ} (set-up : Setting t n ts m mask) (start : ℕ) (buf : List ℕ) (long : length ts < length buf) (matched : pendingAt (tokensOf ts) 0 ≡ []) where
   abbrev W : List Token
   W = tokensOf ts
 

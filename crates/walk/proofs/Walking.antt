@@ -64,7 +64,7 @@ pub record Walking (t : List ℕ) (n : ℕ) (ts : List ℕ) (start : ℕ) (e at 
   pub leads : LeadsTo (rulesIn t n) (tokensOf ts) at f e p
   pub fits : Fits (getD at p 0) (dueAt f (pendingAt (tokensOf ts) p)) (masks (rulesIn t n) (drop p (tokensOf ts)))
 
-module _ (t : List ℕ) (n : ℕ) (ts m mask : List ℕ) (set-up : Setting t n ts m mask) (start : ℕ) (buf : List ℕ) (long : length ts < length buf) (matched : pendingAt (tokensOf ts) 0 ≡ []) where
+module _ {t : List ℕ} {n : ℕ} {ts m mask : List ℕ} (set-up : Setting t n ts m mask) (start : ℕ) (buf : List ℕ) (long : length ts < length buf) (matched : pendingAt (tokensOf ts) 0 ≡ []) where
   abbrev W : List Token
   W = tokensOf ts
 

@@ -21,7 +21,7 @@ loop-holds : tie.Need-loop-holds Inv-loop μ-loop
 loop-holds c =
     let s = c .before .before in
     let a = s .args in
-    going-start (a .table .now) (a .count) (a .w .now) (a .m .now) (a .mask .now) (s .pre .0) (a .l0) (a .from) (a .behind) (a .out .now) (s .pre .1 .0 .1) (s .pre .1 .0 .0) (search needs) (s .pre .1 .1)
+    going-start (s .pre .0) (a .l0) (a .from) (a .behind) (a .out .now) (s .pre .1 .0 .1) (s .pre .1 .0 .0) (search needs) (s .pre .1 .1)
 
 place-at-requires : tie.Need-place-at-requires Inv-loop μ-loop
 place-at-requires c κs =
@@ -38,14 +38,14 @@ six-in-requires c κs =
     let l = c .before .before .before in
     let s = l .before .before .before in
     let a = s .args in
-    omega (arith, s .pre .0 .ready .few, found-rule (a .table .now) (a .count) (a .w .now) (a .m .now) (a .mask .now) (s .pre .0) (a .l0) (a .from) (a .behind) (a .out .now) (s .pre .1 .0 .1) (l .loop .inv) (c .before .place-at .result) (c .before .place-at .ensures) (c .smallest .result) (c .smallest .ensures))
+    omega (arith, s .pre .0 .ready .few, found-rule (s .pre .0) (a .l0) (a .from) (a .behind) (a .out .now) (s .pre .1 .0 .1) (l .loop .inv) (c .before .place-at .result) (c .before .place-at .ensures) (c .smallest .result) (c .smallest .ensures))
 
 cast-out : tie.Need-cast-out Inv-loop μ-loop
 cast-out c =
     let l = c .before .before .before .before in
     let s = l .before .before .before in
     let a = s .args in
-    omega (arith, s .pre .0 .ready .few, found-rule (a .table .now) (a .count) (a .w .now) (a .m .now) (a .mask .now) (s .pre .0) (a .l0) (a .from) (a .behind) (a .out .now) (s .pre .1 .0 .1) (l .loop .inv) (c .before .before .place-at .result) (c .before .before .place-at .ensures) (c .before .smallest .result) (c .before .smallest .ensures))
+    omega (arith, s .pre .0 .ready .few, found-rule (s .pre .0) (a .l0) (a .from) (a .behind) (a .out .now) (s .pre .1 .0 .1) (l .loop .inv) (c .before .before .place-at .result) (c .before .before .place-at .ensures) (c .before .smallest .result) (c .before .smallest .ensures))
 
 slice-write-out : tie.Need-slice-write-out Inv-loop μ-loop
 slice-write-out c = search needs
@@ -93,7 +93,7 @@ loop-again c =
     let place = c .before .before .before .before .before .before .place-at in
     let r = c .before .before .before .before .before .smallest in
     rw (c .store-later .ensures, c .before .before .inner-of .ensures, c .before .before .before .before .six-in .ensures)
-    (going-next (a .table .now) (a .count) (a .w .now) (a .m .now) (a .mask .now) (s .pre .0) (a .l0) (a .from) (a .behind) (a .out .now) (s .pre .1 .0 .1) k (place .result) (place .ensures) (r .result) (r .ensures) (c .before .before .before .before .before .before .before .loop-test .taken))
+    (going-next (s .pre .0) (a .l0) (a .from) (a .behind) (a .out .now) (s .pre .1 .0 .1) k (place .result) (place .ensures) (r .result) (r .ensures) (c .before .before .before .before .before .before .before .loop-test .taken))
 
 place-at-requires-2 : tie.Need-place-at-requires-2 Inv-loop μ-loop
 place-at-requires-2 c κs =
@@ -110,7 +110,7 @@ cast-out-2 c =
     let l = c .before .before .before in
     let s = l .before .before .before in
     let a = s .args in
-    omega (arith, s .pre .0 .ready .few, found-rule (a .table .now) (a .count) (a .w .now) (a .m .now) (a .mask .now) (s .pre .0) (a .l0) (a .from) (a .behind) (a .out .now) (s .pre .1 .0 .1) (l .loop .inv) (c .before .place-at2 .result) (c .before .place-at2 .ensures) (c .smallest2 .result) (c .smallest2 .ensures))
+    omega (arith, s .pre .0 .ready .few, found-rule (s .pre .0) (a .l0) (a .from) (a .behind) (a .out .now) (s .pre .1 .0 .1) (l .loop .inv) (c .before .place-at2 .result) (c .before .place-at2 .ensures) (c .smallest2 .result) (c .smallest2 .ensures))
 
 slice-write-out-2 : tie.Need-slice-write-out-2 Inv-loop μ-loop
 slice-write-out-2 c = search needs
@@ -123,7 +123,7 @@ returns c =
     let l = c .before .before .before in
     let s = l .before .before .before in
     let a = s .args in
-    going-end (a .table .now) (a .count) (a .w .now) (a .m .now) (a .mask .now) (s .pre .0) (a .l0) (a .from) (a .behind) (a .out .now) (s .pre .1 .0 .1) (l .loop .inv) (c .before .place-at2 .result) (c .before .place-at2 .ensures) (c .smallest2 .result) (c .smallest2 .ensures) (omega arith)
+    going-end (s .pre .0) (a .l0) (a .from) (a .behind) (a .out .now) (s .pre .1 .0 .1) (l .loop .inv) (c .before .place-at2 .result) (c .before .place-at2 .ensures) (c .smallest2 .result) (c .smallest2 .ensures) (omega arith)
 
 pub fill-spec : {M : Type 1} → statement M
 fill-spec =

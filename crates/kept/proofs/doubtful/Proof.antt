@@ -31,7 +31,7 @@ loop-holds c =
     let s = c .before .before .before in
     let a = s .args in
     let g = grammarIn (a .table .now) (a .count) (a .start) in
-    let going = going-start (a .table .now) (a .count) (a .start) (a .w .now) (a .m .now) (a .mask .now) (s .pre .0) (s .pre .1 .1) in
+    let going = going-start (s .pre .0) (a .start) (s .pre .1 .1) in
     (rw (c .start-set .ensures) going, doubts-none g (tokensOf (a .w .now)))
 
 ways-of-requires : tie.Need-ways-of-requires Inv-loop μ-loop
@@ -72,8 +72,8 @@ loop-again c =
     let h : l .p ≤ length (a .w .now) = omega (arith, c .before .before .before .before .before .loop-test .taken) in
     let g = grammarIn (a .table .now) (a .count) (a .start) in
     let ways = c .before .before .before .before .ways-of in
-    let d = doubtful-here (a .table .now) (a .count) (a .start) (a .w .now) (a .m .now) (a .mask .now) (s .pre .0) (l .here) (l .p) (l .behind) (l .inv .0 .front h) _ (ways .ensures) in (
-      going-next (a .table .now) (a .count) (a .start) (a .w .now) (a .m .now) (a .mask .now) (s .pre .0) (l .here) (l .p) (c .onward .result) (l .behind) (c .onward .last .0) _ h (l .inv .0)
+    let d = doubtful-here (s .pre .0) (a .start) (l .here) (l .p) (l .behind) (l .inv .0 .front h) _ (ways .ensures) in (
+      going-next (s .pre .0) (a .start) (l .here) (l .p) (c .onward .result) (l .behind) (c .onward .last .0) _ h (l .inv .0)
           (ways .ensures) (c .onward .ensures .0) (c .onward .ensures .1),
       doubts-next g (tokensOf (a .w .now)) (l .p) (l .total) (c .before .before .before .counted .result) (ways .result .held) (l .inv .1) d (c .before .before .before .counted .ensures),
     )

@@ -20,8 +20,8 @@ returns c =
     let a = s .args in
     let row = c .before .before .row-at .ensures in
     let place = c .before .before .before .before .place-at in (
-      ways-of (a .table .now) (a .count) 0 (a .w .now) (a .m .now) (a .mask .now) (s .pre .0) (a .here) (a .p) (place .result) _ (place .ensures) (row .0),
-      words-of (a .table .now) (a .count) 0 (a .w .now) (a .m .now) (a .mask .now) (s .pre .0) (a .here) (a .p) (place .result) _ (place .ensures) (row .1),
+      ways-of (s .pre .0) 0 (a .here) (a .p) (place .result) _ (place .ensures) (row .0),
+      words-of (s .pre .0) 0 (a .here) (a .p) (place .result) _ (place .ensures) (row .1),
     )
 
 pub row-of-spec : {M : Type 1} → statement M

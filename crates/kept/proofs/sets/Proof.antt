@@ -31,7 +31,7 @@ loop-holds : tie.Need-loop-holds Inv-loop μ-loop
 loop-holds c =
     let s = c .before .before .before .before in
     let a = s .args in
-    (rw (c .start-set .ensures) (going-start (a .table .now) (a .count) (a .start) (a .w .now) (a .m .now) (a .mask .now) (s .pre .0) (s .pre .1 .1)), refl)
+    (rw (c .start-set .ensures) (going-start (s .pre .0) (a .start) (s .pre .1 .1)), refl)
 
 mul-row-of : tie.Need-mul-row-of Inv-loop μ-loop
 mul-row-of c = omega (arith, c .before .before .before .before .before .before .pre .0 .tokens .few)
@@ -94,8 +94,8 @@ loop-again c =
     let h : l .p ≤ length (a .w .now) = omega (arith, c .before .before .before .before .before .before .before .loop-test .taken) in
     let g = grammarIn (a .table .now) (a .count) (a .start) in
     let row = c .before .before .before .before .before .row-of in
-    let set = words-here (a .table .now) (a .count) (a .start) (a .w .now) (a .m .now) (a .mask .now) (s .pre .0) (l .here) (l .p) (l .behind) (l .inv .0 .front h) _ (row .ensures .1) in (
-      going-next (a .table .now) (a .count) (a .start) (a .w .now) (a .m .now) (a .mask .now) (s .pre .0) (l .here) (l .p) (c .onward .result) (l .behind) (c .onward .last .0) _ h (l .inv .0)
+    let set = words-here (s .pre .0) (a .start) (l .here) (l .p) (l .behind) (l .inv .0 .front h) _ (row .ensures .1) in (
+      going-next (s .pre .0) (a .start) (l .here) (l .p) (c .onward .result) (l .behind) (c .onward .last .0) _ h (l .inv .0)
           (row .ensures .0) (c .onward .ensures .0) (c .onward .ensures .1),
       written-next g (tokensOf (a .w .now)) (a .words .now) (l .p) (l .words) _ (omega (arith, s .pre .1 .2)) (l .inv .1) set,
     )

@@ -16,7 +16,7 @@ returns c =
     let s = c .before .before .before in
     let a = s .args in
     let place = c .before .place-at in
-    ways-of (a .table .now) (a .count) 0 (a .w .now) (a .m .now) (a .mask .now) (s .pre .0) (a .here) (a .p) (place .result) _ (place .ensures) (c .ways-at .ensures)
+    ways-of (s .pre .0) 0 (a .here) (a .p) (place .result) _ (place .ensures) (c .ways-at .ensures)
 
 pub ways-of-spec : {M : Type 1} → statement M
 ways-of-spec = tie.close (tie.spec place-at-requires ways-at-requires returns)

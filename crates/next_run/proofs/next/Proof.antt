@@ -41,7 +41,7 @@ returns c =
     let a = s .args in
     let w = c .before .before .before .before .before .before .before in
     let k = rw (c .before .before .before .before .before .before .if2 .taken) at (w .walk .ensures) in
-    no-further-is (a .table .now) (a .count) (a .w .now) (a .m .now) (a .mask .now) (s .pre .0) (a .start) (a .buf .now) (s .pre .1 .1) (s .pre .1 .2) k (rw (c .enum-told .given .1) at (c .before .before .last-place .ensures))
+    no-further-is (s .pre .0) (a .start) (a .buf .now) (s .pre .1 .1) (s .pre .1 .2) k (rw (c .enum-told .given .1) at (c .before .before .last-place .ensures))
 
 enum-known-found : tie.Need-enum-known-found
 enum-known-found c = search needs
@@ -53,7 +53,7 @@ rewrite-requires c κs =
     let w = c .before .before .before .before .before .before .before .before .before .before in
     let k = rw (c .before .before .before .before .before .before .before .before .before .if2 .taken) at (w .walk .ensures) in
     let h = rw (c .before .before .before .found .given .1) at (c .before .before .before .before .before .last-place .ensures) in
-    (s .pre .0, ((omega (arith, h .place, tokens-length (a .w .now)), s .pre .1 .1, h .rule), λ l. rewrite-fits (a .table .now) (a .count) (a .w .now) (a .m .now) (a .mask .now) (s .pre .0) (a .start) (a .buf .now) (s .pre .1 .1) (s .pre .1 .2) k _ _ h l))
+    (s .pre .0, ((omega (arith, h .place, tokens-length (a .w .now)), s .pre .1 .1, h .rule), λ l. rewrite-fits (s .pre .0) (a .start) (a .buf .now) (s .pre .1 .1) (s .pre .1 .2) k _ _ h l))
 
 same-length-2 : tie.Need-same-length-2
 same-length-2 c = search needs
@@ -65,7 +65,7 @@ returns-2 c =
     let w = c .before .before .before .before .before .before .before .before .before .before .before .before .before in
     let k = rw (c .before .before .before .before .before .before .before .before .before .before .before .before .if2 .taken) at (w .walk .ensures) in
     let h = rw (c .before .before .before .before .before .before .found .given .1) at (c .before .before .before .before .before .before .before .before .last-place .ensures) in
-    written-is (a .table .now) (a .count) (a .w .now) (a .m .now) (a .mask .now) (s .pre .0) (a .start) (a .buf .now) (s .pre .1 .1) (s .pre .1 .2) k _ _ h _ (c .before .before .rewrite .ensures)
+    written-is (s .pre .0) (a .start) (a .buf .now) (s .pre .1 .1) (s .pre .1 .2) k _ _ h _ (c .before .before .rewrite .ensures)
 
 same-length-3 : tie.Need-same-length-3
 same-length-3 c = search needs
@@ -74,13 +74,13 @@ returns-3 : tie.Need-returns-3
 returns-3 c =
     let s = c .before .before .before .before .before .before .before .before in
     let a = s .args in
-    none-refused (a .table .now) (a .count) (a .w .now) (a .m .now) (a .mask .now) (s .pre .0) (a .start) (a .buf .now) (s .pre .1 .1) (s .pre .1 .2) (rw (c .if2 .left) at (c .before .walk .ensures))
+    none-refused (s .pre .0) (a .start) (a .buf .now) (s .pre .1 .1) (s .pre .1 .2) (rw (c .if2 .left) at (c .before .walk .ensures))
 
 returns-4 : tie.Need-returns-4
 returns-4 c =
     let s = c .before .before .before .before .before in
     let a = s .args in
-    start-refused (a .table .now) (a .count) (a .w .now) (a .m .now) (a .mask .now) (s .pre .0) (a .start) (a .buf .now) (s .pre .1 .1) (s .pre .1 .2) (sym (c .before .has .ensures) ∙ c .if1 .left)
+    start-refused (s .pre .0) (a .start) (a .buf .now) (s .pre .1 .1) (s .pre .1 .2) (sym (c .before .has .ensures) ∙ c .if1 .left)
 
 pub next-spec : {M : Type 1} → statement M
 next-spec =

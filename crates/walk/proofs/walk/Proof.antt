@@ -25,7 +25,7 @@ loop-holds : tie.Need-loop-holds Inv-loop μ-loop
 loop-holds c =
     let s = c .before .before in
     let a = s .args in
-    walking-start (a .table .now) (a .count) (a .w .now) (a .m .now) (a .mask .now) (s .pre .0) (a .start) (a .buf .now) (s .pre .1 .0 .0) (s .pre .1 .0 .1) (s .pre .1 .1)
+    walking-start (s .pre .0) (a .start) (a .buf .now) (s .pre .1 .0 .0) (s .pre .1 .0 .1) (s .pre .1 .1)
 
 shared-slice-read-r : tie.Need-shared-slice-read-r Inv-loop μ-loop
 shared-slice-read-r c = search needs
@@ -62,7 +62,7 @@ six-in-requires c κs =
     let l = c .before .before .before .before .before in
     let s = l .before .before .before in
     let a = s .args in
-    omega (arith, s .pre .0 .ready .few, rule-below (a .table .now) (a .count) (a .w .now) (a .m .now) (a .mask .now) (s .pre .0) (a .start) (a .buf .now) (s .pre .1 .0 .0) (s .pre .1 .0 .1) (l .loop .inv) (c .before .before .place-at .result) (c .before .before .place-at .ensures) (sym (c .before .stands .ensures) ∙ c .if1 .taken))
+    omega (arith, s .pre .0 .ready .few, rule-below (s .pre .0) (a .start) (a .buf .now) (s .pre .1 .0 .0) (s .pre .1 .0 .1) (l .loop .inv) (c .before .before .place-at .result) (c .before .before .place-at .ensures) (sym (c .before .stands .ensures) ∙ c .if1 .taken))
 
 mul-j : tie.Need-mul-j Inv-loop μ-loop
 mul-j c = search needs
@@ -122,14 +122,14 @@ loop-again c =
     let a = s .args in
     let place = c .before .before .before .before .before .before .before .place-at in
     rw (c .store-later .ensures, c .before .before .inner-of .ensures, c .before .before .before .before .six-in .ensures)
-    (walking-next (a .table .now) (a .count) (a .w .now) (a .m .now) (a .mask .now) (s .pre .0) (a .start) (a .buf .now) (s .pre .1 .0 .0) (s .pre .1 .0 .1) (l .loop .inv) (place .result) (place .ensures) (sym (c .before .before .before .before .before .before .stands .ensures) ∙ c .before .before .before .before .before .if1 .taken) (c .before .before .before .before .before .before .before .before .before .loop-test .taken))
+    (walking-next (s .pre .0) (a .start) (a .buf .now) (s .pre .1 .0 .0) (s .pre .1 .0 .1) (l .loop .inv) (place .result) (place .ensures) (sym (c .before .before .before .before .before .before .stands .ensures) ∙ c .before .before .before .before .before .if1 .taken) (c .before .before .before .before .before .before .before .before .before .loop-test .taken))
 
 returns : tie.Need-returns Inv-loop μ-loop
 returns c =
     let l = c .before .before .before .before .before in
     let s = l .before .before .before in
     let a = s .args in
-    walking-refused (a .table .now) (a .count) (a .w .now) (a .m .now) (a .mask .now) (s .pre .0) (a .start) (a .buf .now) (s .pre .1 .0 .0) (s .pre .1 .0 .1) (l .loop .inv) (c .before .before .place-at .result) (c .before .before .place-at .ensures) (sym (c .before .stands .ensures) ∙ c .if1 .left)
+    walking-refused (s .pre .0) (a .start) (a .buf .now) (s .pre .1 .0 .0) (s .pre .1 .0 .1) (l .loop .inv) (c .before .before .place-at .result) (c .before .before .place-at .ensures) (sym (c .before .stands .ensures) ∙ c .if1 .left)
 
 place-at-requires-2 : tie.Need-place-at-requires-2 Inv-loop μ-loop
 place-at-requires-2 c κs =
@@ -166,7 +166,7 @@ returns-2 c =
     let l = c .before .before .before .before in
     let s = l .before .before .before in
     let a = s .args in
-    walking-last (a .table .now) (a .count) (a .w .now) (a .m .now) (a .mask .now) (s .pre .0) (a .start) (a .buf .now) (s .pre .1 .0 .0) (s .pre .1 .0 .1) (l .loop .inv) (c .before .before .place-at2 .result) (c .before .before .place-at2 .ensures) (c .stands2 .result) (c .stands2 .ensures) (omega arith)
+    walking-last (s .pre .0) (a .start) (a .buf .now) (s .pre .1 .0 .0) (s .pre .1 .0 .1) (l .loop .inv) (c .before .before .place-at2 .result) (c .before .before .place-at2 .ensures) (c .stands2 .result) (c .stands2 .ensures) (omega arith)
 
 pub walk-spec : {M : Type 1} → statement M
 walk-spec =
