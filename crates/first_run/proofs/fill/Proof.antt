@@ -1,11 +1,10 @@
 -- `first_run::fill` meets its contract.
 -- Assumes nothing.
 use borrow.Author.Needs.{needs}
-use Prim.Native.Nat.{suc, _-_}
+use Prim.Native.Nat.{_-_}
 use native.Mathlib.Omega.{arith}
 use Rattle.tables.specs.Table.{ruleIn}
 use lib.ListN.{length}
-use Rattle.history_file.specs.HistoryFile.{tokensOf}
 use Rattle.levels.proofs.Setting.{close-room}
 use Rattle.first_run.proofs.Sofar.{Going, going-start, found-rule, going-next, going-end}
 use Rattle.first_run.proofs.fill.Statement.{statement}

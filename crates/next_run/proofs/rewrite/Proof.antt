@@ -1,6 +1,5 @@
 -- `next_run::rewrite` meets its contract.
 -- Assumes nothing.
-use Prim.Native.Nat.{suc}
 use mathlib.Core.Path.{_∙_}
 use native.Mathlib.Omega.{arith}
 use native.Mathlib.Numerals.{add-one}

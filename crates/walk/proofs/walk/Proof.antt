@@ -6,7 +6,6 @@ use mathlib.Core.Path.{sym, _∙_}
 use native.Mathlib.Omega.{arith}
 use Rattle.tables.specs.Table.{ruleIn}
 use lib.ListN.{length, take}
-use Rattle.history_file.specs.HistoryFile.{tokensOf}
 use Rattle.levels.proofs.Setting.{close-room}
 use Rattle.walk.proofs.Walking.{Walking, walking-start, walking-refused, rule-below, walking-next, walking-last}
 use Rattle.walk.proofs.walk.Statement.{statement}
