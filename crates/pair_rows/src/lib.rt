@@ -4,9 +4,7 @@ use vpg::MarkName;
 use vpg::OpenName;
 use vpg::Rule;
 ghost use mathlib.Core.Path.{_≡_};
-ghost use mathlib.Core.Bool.{_&&_};
 ghost use Prim.Native.Nat.{_<_};
-ghost use lib.Dec.{eqb};
 ghost use Rattle.tables.specs.Table.{ruleIn};
 ghost use Rattle.tables.specs.Ready.{Below, Ready};
 ghost use Rattle.pair_rows.specs.Row.{emptyMatches, markMatches, stepMatches, matchesBy, stepFollows, followsBy, gained, rowAfter};
@@ -19,31 +17,8 @@ pub enum Pattern {
     Step(OpenName, CloseName),
 }
 
-fn both(a: bool, b: bool) -> bool
-    ensures { λ r. ⌜ r ≡ a && b ⌝ }
-{
-    a && b
-}
-
-fn same_mark(a: MarkName, b: MarkName) -> bool
-    ensures { λ r. ⌜ r ≡ eqb (a .0) (b .0) ⌝ }
-{
-    a.0 == b.0
-}
-
-fn same_open(a: OpenName, b: OpenName) -> bool
-    ensures { λ r. ⌜ r ≡ eqb (a .0) (b .0) ⌝ }
-{
-    a.0 == b.0
-}
-
-fn same_close(a: CloseName, b: CloseName) -> bool
-    ensures { λ r. ⌜ r ≡ eqb (a .0) (b .0) ⌝ }
-{
-    a.0 == b.0
-}
-
-fn wide(l: u16) -> usize
+// A nonterminal as a digit's place.
+pub fn wide(l: u16) -> usize
     ensures { λ r. ⌜ r ≡ l ⌝ }
 {
     l as usize
@@ -65,7 +40,7 @@ fn is_mark(p: Pattern, c: MarkName) -> bool
 {
     match p {
         Pattern::Empty => false,
-        Pattern::Mark(d) => same_mark(c, d),
+        Pattern::Mark(d) => vpg::same_mark(c, d),
         Pattern::Open(_) => false,
         Pattern::Step(_, _) => false,
     }
@@ -78,10 +53,10 @@ fn is_step(p: Pattern, done: u32, a: OpenName, l1: u16, b: CloseName) -> bool
     match p {
         Pattern::Empty => false,
         Pattern::Mark(_) => false,
-        Pattern::Open(x) => same_open(a, x),
-        Pattern::Step(x, y) => both(
-            same_open(a, x),
-            both(same_close(b, y), bits::has(done, wide(l1))),
+        Pattern::Open(x) => vpg::same_open(a, x),
+        Pattern::Step(x, y) => tables::both(
+            vpg::same_open(a, x),
+            tables::both(vpg::same_close(b, y), bits::has(done, wide(l1))),
         ),
     }
 }

@@ -16,12 +16,6 @@ ghost use Rattle.pair_rows.specs.Row.{pick};
 ghost use Rattle.pairs.specs.Encodes.{Encodes};
 ghost use Rattle.pairs.specs.Words.{rowsAfter, currentsOf, diagonalOf, meets, finishedOf, emptiesOf};
 
-fn wide(l: u16) -> usize
-    ensures { λ r. ⌜ r ≡ l ⌝ }
-{
-    l as usize
-}
-
 fn rows_after(table: &[u16; 768], count: usize, p: Pattern, rows: [u32; 32], done: u32) -> [u32; 32]
     requires { ⌜ Ready (now table) count ⌝ }
     ensures { λ r. ⌜ r ≡ rowsAfter p done (now (table .entry)) count rows ⌝ }
@@ -117,7 +111,7 @@ pub fn begin(start: u16) -> [u32; 32]
     requires { ⌜ start < 32 ⌝ }
     ensures { λ r. ⌜ Encodes r (single start start) ⌝ }
 {
-    diagonal(bits::with(0, wide(start)))
+    diagonal(bits::with(0, pair_rows::wide(start)))
 }
 
 // Definition 4.2 (1): the words of the derivative by the mark c.

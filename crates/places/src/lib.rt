@@ -5,7 +5,6 @@ use vpg::OpenName;
 use vpg::Token;
 ghost use mathlib.Core.Path.{_≡_};
 ghost use Prim.Native.Nat.{_<_};
-ghost use lib.Dec.{eqb};
 ghost use Rattle.tables.specs.Table.{ruleIn};
 ghost use Rattle.tables.specs.Ready.{Below, Ready};
 ghost use Rattle.history_file.specs.HistoryFile.{tokenWith};
@@ -28,24 +27,6 @@ fn token_of(place: Place) -> Token
     history_file::token_with(place.kind, place.name)
 }
 
-fn same_mark(a: MarkName, b: MarkName) -> bool
-    ensures { λ r. ⌜ r ≡ eqb (a .0) (b .0) ⌝ }
-{
-    a.0 == b.0
-}
-
-fn same_open(a: OpenName, b: OpenName) -> bool
-    ensures { λ r. ⌜ r ≡ eqb (a .0) (b .0) ⌝ }
-{
-    a.0 == b.0
-}
-
-fn same_close(a: CloseName, b: CloseName) -> bool
-    ensures { λ r. ⌜ r ≡ eqb (a .0) (b .0) ⌝ }
-{
-    a.0 == b.0
-}
-
 fn is_close(token: Token) -> bool
     ensures { λ r. ⌜ r ≡ isClose token ⌝ }
 {
@@ -63,7 +44,7 @@ fn mark_applies(name: MarkName, to: u16, place: Place) -> bool
 {
     let token = token_of(place);
     match token {
-        Token::Mark(c) => if same_mark(name, c) {
+        Token::Mark(c) => if vpg::same_mark(name, c) {
             bits::has(place.inside, to as usize)
         } else {
             false
@@ -83,9 +64,9 @@ fn step_applies(a: OpenName, to: u16, b: CloseName, last: u16, place: Place) -> 
     match token {
         Token::Mark(_) => false,
         Token::Open(c) => {
-            if same_open(a, c) {
+            if vpg::same_open(a, c) {
                 if bits::has(place.inside, to as usize) {
-                    if same_close(b, close) {
+                    if vpg::same_close(b, close) {
                         bits::has(place.after, last as usize)
                     } else {
                         false

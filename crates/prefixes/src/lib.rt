@@ -4,7 +4,6 @@ use vpg::CloseName;
 use vpg::OpenName;
 use vpg::Token;
 ghost use mathlib.Core.Path.{_≡_};
-ghost use mathlib.Core.Bool.{_&&_};
 ghost use mathlib.Core.List.{List, _++_};
 ghost use Prim.Native.Nat.{ℕ, _+_, _*_, _<_, _≤_};
 ghost use lib.ListN.{length, drop};
@@ -53,12 +52,6 @@ fn load(stack: &[u32; 4096], d: usize) -> [u32; 32]
     rows
 }
 
-fn both(a: bool, b: bool) -> bool
-    ensures { λ r. ⌜ r ≡ a && b ⌝ }
-{
-    a && b
-}
-
 fn number(b: bool) -> u8
     ensures { λ r. ⌜ r ≡ one b ⌝ }
 {
@@ -72,7 +65,7 @@ fn number(b: bool) -> u8
 fn mark_of(rows: [u32; 32], depth: usize, empties: u32) -> u8
     ensures { λ r. ⌜ ((t : List ℕ) (n start : ℕ) (stack names : List ℕ) (x : Configuration) → Ready t n → empties ≡ emptiesOf t n → Holds rows depth stack names x → r ≡ one (accepts (grammarIn t n start) x)) ⌝ }
 {
-    number(both(depth == 0, pairs::may_end(rows, empties)))
+    number(tables::both(depth == 0, pairs::may_end(rows, empties)))
 }
 
 // Over a close: back to the state before the step's open. With no step open, no pair is left.

@@ -80,7 +80,8 @@ pub fn put(table: &mut [u16; 768], k: usize, v: Six)
     table[b + 5] = v.5;
 }
 
-fn both(a: bool, b: bool) -> bool
+// Both of two tests; neither is left out, so that there is one branch for a proof to look at.
+pub fn both(a: bool, b: bool) -> bool
     ensures { λ r. ⌜ r ≡ a && b ⌝ }
 {
     a && b

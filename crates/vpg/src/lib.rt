@@ -1,4 +1,6 @@
 // The symbols and rules of a visibly pushdown grammar. Definitions and theorems about them stand in specs/ and proofs/.
+ghost use mathlib.Core.Path.{_≡_};
+ghost use lib.Dec.{eqb};
 
 // Names of marks, opens and closes: three separate alphabets (document 01, "Tokens, stages, rules").
 pub struct MarkName(pub u16);
@@ -19,4 +21,23 @@ pub enum Token {
     Mark(MarkName),
     Open(OpenName),
     Close(CloseName),
+}
+
+// Names are compared within their own alphabet only.
+pub fn same_mark(a: MarkName, b: MarkName) -> bool
+    ensures { λ r. ⌜ r ≡ eqb (a .0) (b .0) ⌝ }
+{
+    a.0 == b.0
+}
+
+pub fn same_open(a: OpenName, b: OpenName) -> bool
+    ensures { λ r. ⌜ r ≡ eqb (a .0) (b .0) ⌝ }
+{
+    a.0 == b.0
+}
+
+pub fn same_close(a: CloseName, b: CloseName) -> bool
+    ensures { λ r. ⌜ r ≡ eqb (a .0) (b .0) ⌝ }
+{
+    a.0 == b.0
 }
