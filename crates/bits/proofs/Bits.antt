@@ -1,5 +1,4 @@
 -- The laws of `bit` and `addBit`, over every width.
--- Assumes nothing.
 use Prim.Native.Nat.{ℕ, zero, suc, _+_, _-_, _/_, _%_, _^_, _<_, _≤_}
 use mathlib.Core.Bool.{true, false, _||_, _&&_}
 use mathlib.Core.Path.{_≡_, refl, sym, _∙_, ap}

@@ -1,5 +1,4 @@
 -- Sets of numbers as binary digits, of any width: b is in the set m where digit b of m, worth 2 ^ b, is 1.
--- Assumes nothing.
 use Prim.Native.Nat.{ℕ, _/_, _%_, _^_}
 use mathlib.Core.Bool.{Bool}
 use lib.Bits.{bitOr}

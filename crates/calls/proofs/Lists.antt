@@ -1,5 +1,4 @@
 -- A list of calls made one by one is the list that the model goes through.
--- Assumes nothing.
 use Prim.Native.Nat.{ℕ, zero, suc, _+_, _<_, _≤_}
 use native.Mathlib.Numerals.{add-one}
 use native.Mathlib.Omega.{arith}
@@ -10,15 +9,15 @@ use borrow.Author.Tests.{lt-ltb, le-ltb}
 use lib.Dec.{ltb}
 use lib.ListN.{length, take, drop, getD, set, length-set, length-map, take-append-drop, drop-of-length-le}
 use lib.Seq.{take-suc-set, drop-set-lt}
-use Rattle.vpg.specs.Listing.{Call, Answer, Subject, due, Shown, start, model, shows, trace}
-use Rattle.vpg.specs.Calls.{callOn, overEntries}
-use Rattle.vpg.proofs.Listing.{Proper, listing, start-agrees, entries-proper}
-use Rattle.numbers.specs.Number.{pick}
-use Rattle.files.specs.Files.{Files, accepted, refused}
-use Rattle.frame.specs.Frame.{filesIn, served}
-use Rattle.history_file.specs.HistoryFile.{tokensOf}
-use Rattle.readings.specs.Answers.{subject}
-use Rattle.calls.specs.CallList.{codeOf, callOf, callsOf, coded, final, modelAnswers, modelBuffer, made, refused-by, callsDue}
+use Rattle.listing_model.specs.believed.Listing.{Call, Answer, Subject, due, Shown, start, model, shows, trace}
+use Rattle.listing_model.specs.Calls.{callOn, overEntries}
+use Rattle.listing_model.proofs.Listing.{Proper, listing, start-agrees, entries-proper}
+use Rattle.numbers.specs.believed.Number.{pick}
+use Rattle.files.specs.believed.Files.{Files, accepted, refused}
+use Rattle.service.specs.believed.Frame.{filesIn, served}
+use Rattle.history_file.specs.believed.HistoryFile.{tokensOf}
+use Rattle.readings.specs.believed.Answers.{subject}
+use Rattle.calls.specs.believed.CallList.{codeOf, callOf, callsOf, coded, final, modelAnswers, modelBuffer, made, refused-by, callsDue}
 
 -- the answers and the last buffer, call by call
 abbrev pub answersBy : Subject → List Call → List ℕ → List ℕ

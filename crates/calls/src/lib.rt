@@ -2,9 +2,9 @@
 use readings::Answer;
 ghost use mathlib.Core.Path.{_≡_};
 ghost use lib.ListN.{length};
-ghost use Rattle.vpg.specs.Calls.{callOn};
-ghost use Rattle.readings.specs.Answers.{said, subject};
-ghost use Rattle.calls.specs.CallList.{codeOf, callOf, coded, callsSaid, callsDue};
+ghost use Rattle.listing_model.specs.Calls.{callOn};
+ghost use Rattle.readings.specs.believed.Answers.{said, subject};
+ghost use Rattle.calls.specs.believed.CallList.{codeOf, callOf, coded, callsSaid, callsDue};
 
 // The list of calls was made, or it was refused by 15: fewer answers can be written than there are calls.
 pub enum CallsAnswer {

@@ -1,14 +1,13 @@
 -- Document 01's checked examples hold, each by computing what the definition gives.
--- Assumes nothing.
 use mathlib.Core.Path.{refl}
-use Rattle.numbers.specs.Number.{numberAt}
-use Rattle.numbers.specs.Field.{fieldAt, countAt}
-use Rattle.rules.specs.Rule.{pairAt, stepAt, bodyAt, ruleAt}
+use Rattle.numbers.specs.believed.Number.{numberAt}
+use Rattle.numbers.specs.believed.Field.{fieldAt, countAt}
+use Rattle.rules.specs.believed.Rule.{pairAt, stepAt, bodyAt, ruleAt}
 use Rattle.tables.specs.Table.{sameRule, earlier}
-use Rattle.grammar_file.specs.GrammarFile.{rulesFrom, grammarFrom}
-use Rattle.history_file.specs.HistoryFile.{tokenWith, tokenOf, tokenJudged, tokenAt, depthAfter, tokensFrom, historyFrom}
+use Rattle.grammar_file.specs.believed.GrammarFile.{rulesFrom, grammarFrom}
+use Rattle.history_file.specs.believed.HistoryFile.{tokenWith, tokenOf, tokenJudged, tokenAt, depthAfter, tokensFrom, historyFrom}
 use Rattle.vpg.specs.Runs.{runs}
-use Rattle.vpg.specs.Sets.{kept, count, doubtful, doubtfulCount, stopMark, stopMarks}
+use Rattle.sets_theory.specs.believed.Sets.{kept, count, doubtful, doubtfulCount, stopMark, stopMarks}
 use Rattle.examples.specs.Examples.{Examples}
 
 pub examples : Examples

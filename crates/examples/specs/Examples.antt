@@ -1,22 +1,21 @@
 -- Document 01's checked examples, those marked there with a star: `examples` in proofs/ has them all.
--- Assumes nothing.
 use Prim.Native.Nat.{ℕ}
 use mathlib.Core.Path.{_≡_}
 use mathlib.Core.List.{List, [], _∷_}
 use Rattle.vpg.specs.declared.Rule.{Rule}
-use Rattle.vpg.specs.Grammar.{Grammar}
-use Rattle.vpg.specs.Listing.{first, next, no-reading, no-further, refused}
-use Rattle.vpg.specs.Calls.{callOn}
+use Rattle.vpg.specs.believed.Grammar.{Grammar}
+use Rattle.listing_model.specs.believed.Listing.{first, next, no-reading, no-further, refused}
+use Rattle.listing_model.specs.Calls.{callOn}
 use Rattle.vpg.specs.Runs.{entries}
-use Rattle.vpg.specs.Sets.{doubtfulCount, stopMarks}
-use Rattle.files.specs.Files.{Files}
-use Rattle.files.specs.Files
-use Rattle.frame.specs.Frame.{filesIn}
-use Rattle.readings.specs.Answers.{subject}
-use Rattle.grammar_file.specs.GrammarFile.{GrammarFile, grammarOf}
-use Rattle.grammar_file.specs.GrammarFile
-use Rattle.history_file.specs.HistoryFile.{HistoryFile, historyOf, tokensOf}
-use Rattle.history_file.specs.HistoryFile
+use Rattle.sets_theory.specs.believed.Sets.{doubtfulCount, stopMarks}
+use Rattle.files.specs.believed.Files.{Files}
+use Rattle.files.specs.believed.Files
+use Rattle.service.specs.believed.Frame.{filesIn}
+use Rattle.readings.specs.believed.Answers.{subject}
+use Rattle.grammar_file.specs.believed.GrammarFile.{GrammarFile, grammarOf}
+use Rattle.grammar_file.specs.believed.GrammarFile
+use Rattle.history_file.specs.believed.HistoryFile.{HistoryFile, historyOf, tokensOf}
+use Rattle.history_file.specs.believed.HistoryFile
 
 -- "G below is the 28 bytes 3 7 / 0 0 / 2 0 0 1 0 0 / 2 0 0 2 0 0 / 1 1 0 1 / 0 1 / 1 2 0 2 / 0 2 (decimal)"
 abbrev pub G : List ℕ

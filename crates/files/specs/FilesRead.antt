@@ -1,5 +1,4 @@
 -- What `read_files` hands to the layers above.
--- Assumes nothing.
 use Prim.Native.Nat.{ℕ}
 use lib.ListN.{length, replicate}
 use Rattle.history_file.specs.HistoryTokens.{padded}
@@ -7,7 +6,7 @@ use Rattle.tables.specs.Table.{tableOf}
 use Rattle.files.specs.declared.FilesAnswer.{FilesAnswer}
 use Rattle.files.specs.declared.FilesAnswer.the-variants.{Accepted, Refused}
 use Rattle.files.specs.declared.FilesRead.{FilesRead}
-use Rattle.files.specs.Files.{Files, accepted, refused}
+use Rattle.files.specs.believed.Files.{Files, accepted, refused}
 
 abbrev pub refusalOfFiles : FilesAnswer → ℕ
 refusalOfFiles (Accepted nonterminals start rules tokens) = 0

@@ -1,3 +1,2 @@
-pub mod Checks
-pub mod Files
+pub mod believed
 pub mod FilesRead

@@ -2,10 +2,10 @@
 use grammar_file::GrammarAnswer;
 use history_file::HistoryAnswer;
 ghost use mathlib.Core.Path.{_≡_};
-ghost use Rattle.grammar_file.specs.GrammarFile.{grammarOf};
-ghost use Rattle.history_file.specs.HistoryFile.{historyOf};
-ghost use Rattle.files.specs.Checks.{grammarSaid, grammarDue, historySaid, historyDue};
-ghost use Rattle.files.specs.Files.{filesOf};
+ghost use Rattle.grammar_file.specs.believed.GrammarFile.{grammarOf};
+ghost use Rattle.history_file.specs.believed.HistoryFile.{historyOf};
+ghost use Rattle.files.specs.believed.Checks.{grammarSaid, grammarDue, historySaid, historyDue};
+ghost use Rattle.files.specs.believed.Files.{filesOf};
 ghost use Rattle.files.specs.FilesRead.{refusalOfFiles, refusedRead, filesRead};
 
 // The number of nonterminals (document 01: stages) and of rules; or document 01's number of the refusal.

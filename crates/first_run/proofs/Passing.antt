@@ -1,5 +1,4 @@
 -- The smallest rule that fits, as the theory of runs asks for it.
--- Assumes nothing.
 use Prim.Native.Nat.{ℕ, suc, _+_, _<_, _≤_}
 use native.Mathlib.Nat.{eq-or-lt-of-le}
 use native.Mathlib.Omega.{arith}
@@ -12,17 +11,17 @@ use borrow.Author.Tests.{eqb-true, eq-eqb, ltb-true, ltb-false}
 use lib.Dec.{eqb, ltb}
 use lib.ListN.{drop}
 use Rattle.vpg.specs.declared.Token.{Token}
-use Rattle.vpg.specs.Grammar.{Rules}
+use Rattle.vpg.specs.believed.Grammar.{Rules}
 use Rattle.vpg.specs.Runs.{Stack}
 use Rattle.vpg.specs.Steps.{left}
-use Rattle.vpg.proofs.Basics.{and-left, and-right}
-use Rattle.masks.specs.Masks.{masks, Fits}
-use Rattle.masks.specs.Walk.{testAt}
-use Rattle.masks.proofs.Alive.{Passes, both, lefts-some}
-use Rattle.masks.proofs.Search.{None}
-use Rattle.masks.proofs.Walk.{level-test}
-use Rattle.places.specs.declared.Place.{Place}
-use Rattle.places.specs.Place.{appliesTo}
+use Rattle.laws.proofs.Basics.{and-left, and-right}
+use Rattle.level_theory.specs.Masks.{masks, Fits}
+use Rattle.level_theory.specs.Walk.{testAt}
+use Rattle.level_theory.proofs.Alive.{Passes, both, lefts-some}
+use Rattle.level_theory.proofs.Search.{None}
+use Rattle.level_theory.proofs.Walk.{level-test}
+use Rattle.contexts.specs.declared.Place.{Place}
+use Rattle.contexts.specs.Place.{appliesTo}
 use Rattle.tables.specs.Table.{ruleIn, rulesIn}
 use Rattle.tables.proofs.Tables.{rules-at, rules-below}
 use Rattle.levels.specs.Levels.{Leveled, Stands}

@@ -1,5 +1,4 @@
 -- The forward pass, one position at a time: what is written so far, and the end.
--- Assumes nothing.
 use Prim.Native.Nat.{ℕ, suc, _+_, _<_, _≤_}
 use native.Mathlib.Numerals.{add-one}
 use native.Mathlib.Omega.{arith}
@@ -11,23 +10,23 @@ use lib.ListN.{length, take, drop, getD, set, length-set, drop-of-length-le}
 use lib.Seq.{take-suc-set, drop-set-lt}
 use Rattle.vpg.specs.declared.Rule.{Rule}
 use Rattle.vpg.specs.declared.Token.{Token}
-use Rattle.vpg.specs.Grammar.{Rules}
+use Rattle.vpg.specs.believed.Grammar.{Rules}
 use Rattle.vpg.specs.Extremes.{Least}
 use Rattle.vpg.specs.Runs.{Stack, State}
-use Rattle.masks.specs.Masks.{masks, Fits}
-use Rattle.masks.specs.Pending.{pendingAt, closeOf, dueAt}
-use Rattle.masks.specs.Walk.{Run, testAt, inner, later}
-use Rattle.masks.proofs.Alive.{Passes}
-use Rattle.masks.proofs.Search.{None, end-first}
-use Rattle.masks.proofs.Local.{Turn, turn, first-turn}
-use Rattle.masks.proofs.Walk.{passes-end, end-passes, stored}
+use Rattle.level_theory.specs.Masks.{masks, Fits}
+use Rattle.level_theory.specs.Pending.{pendingAt, closeOf, dueAt}
+use Rattle.level_theory.specs.Walk.{Run, testAt, inner, later}
+use Rattle.level_theory.proofs.Alive.{Passes}
+use Rattle.level_theory.proofs.Search.{None, end-first}
+use Rattle.level_theory.proofs.Local.{Turn, turn, first-turn}
+use Rattle.level_theory.proofs.Walk.{passes-end, end-passes, stored}
 use Rattle.vpg.specs.Steps.{left}
-use Rattle.vpg.proofs.Basics.{and-left, and-right}
-use Rattle.places.specs.declared.Place.{Place}
-use Rattle.places.specs.Place.{appliesTo}
+use Rattle.laws.proofs.Basics.{and-left, and-right}
+use Rattle.contexts.specs.declared.Place.{Place}
+use Rattle.contexts.specs.Place.{appliesTo}
 use Rattle.tables.specs.Table.{ruleIn, rulesIn}
 use Rattle.tables.proofs.Tables.{rules-at}
-use Rattle.history_file.specs.HistoryFile.{tokenOf, tokensOf}
+use Rattle.history_file.specs.believed.HistoryFile.{tokenOf, tokensOf}
 use Rattle.levels.specs.Levels.{Leveled, Stands, Setting}
 use Rattle.levels.proofs.Levels.{tokens-length, tokens-at, pending-end}
 use Rattle.levels.proofs.Setting.{closing, closing-room}

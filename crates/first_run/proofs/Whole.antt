@@ -1,5 +1,4 @@
 -- From the start: the first run of all tokens is the first entry, and without one there is no entry.
--- Assumes nothing.
 use Prim.Native.Nat.{ℕ, suc}
 use native.Mathlib.Omega.{arith}
 use mathlib.Core.Path.{_≡_, sym, _∙_, ap, ap₂}
@@ -8,18 +7,18 @@ use mathlib.Core.List.{List, [], _++_}
 use lib.ListN.{length, drop, getD, take-append-drop}
 use Rattle.bits.specs.Bit.{bit}
 use Rattle.vpg.specs.declared.Token.{Token}
-use Rattle.vpg.specs.Grammar.{Grammar}
+use Rattle.vpg.specs.believed.Grammar.{Grammar}
 use Rattle.vpg.specs.Extremes.{Least}
-use Rattle.vpg.specs.Listing.{first, written, no-reading}
-use Rattle.vpg.specs.Calls.{callOn, overEntries}
+use Rattle.listing_model.specs.believed.Listing.{first, written, no-reading}
+use Rattle.listing_model.specs.Calls.{callOn, overEntries}
 use Rattle.vpg.specs.Runs.{Stack, entries}
 use Rattle.vpg.proofs.Ascends.{entries-ascending}
-use Rattle.vpg.proofs.Calls.{first-written, first-nothing}
-use Rattle.masks.specs.Masks.{Outer, masks, Match, Fits}
-use Rattle.masks.specs.Pending.{pendingAt, dueAt}
-use Rattle.masks.specs.Walk.{Run}
-use Rattle.masks.proofs.Alive.{run-fits}
-use Rattle.masks.proofs.Pending.{masks-outer}
+use Rattle.listing_model.proofs.Calls.{first-written, first-nothing}
+use Rattle.level_theory.specs.Masks.{Outer, masks, Match, Fits}
+use Rattle.level_theory.specs.Pending.{pendingAt, dueAt}
+use Rattle.level_theory.specs.Walk.{Run}
+use Rattle.level_theory.proofs.Alive.{run-fits}
+use Rattle.level_theory.proofs.Pending.{masks-outer}
 use Rattle.levels.specs.Levels.{Leveled}
 use Rattle.first_run.specs.Fill.{Filled}
 

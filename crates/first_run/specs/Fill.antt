@@ -1,5 +1,4 @@
 -- What the forward pass looks for and writes.
--- Assumes nothing.
 use Prim.Native.Nat.{ℕ, suc, _<_}
 use mathlib.Core.Path.{_≡_}
 use mathlib.Core.Bool.{Bool, true, false, _&&_}
@@ -8,13 +7,13 @@ use lib.Dec.{eqb}
 use lib.ListN.{length, take, drop}
 use Rattle.vpg.specs.declared.Rule.{Rule}
 use Rattle.vpg.specs.declared.Token.{Token}
-use Rattle.vpg.specs.Grammar.{Rules}
+use Rattle.vpg.specs.believed.Grammar.{Rules}
 use Rattle.vpg.specs.Extremes.{Least}
 use Rattle.vpg.specs.Runs.{State}
 use Rattle.vpg.specs.Steps.{left}
-use Rattle.masks.specs.Walk.{Run}
-use Rattle.places.specs.declared.Place.{Place}
-use Rattle.places.specs.Place.{appliesTo}
+use Rattle.level_theory.specs.Walk.{Run}
+use Rattle.contexts.specs.declared.Place.{Place}
+use Rattle.contexts.specs.Place.{appliesTo}
 use Rattle.tables.specs.Table.{ruleIn}
 
 -- the rule is for L and can stand here

@@ -1,6 +1,5 @@
 -- What the first reading answers (document 01, "Services" and "The plain listing").
--- Assumes nothing.
-use Rattle.vpg.specs.Listing.{Answer, written, no-reading}
+use Rattle.listing_model.specs.believed.Listing.{Answer, written, no-reading}
 use Rattle.first_run.specs.declared.FirstAnswer.{FirstAnswer}
 
 abbrev pub firstSaid : FirstAnswer → Answer

@@ -1,18 +1,18 @@
 // The first reading: forward over the tokens, at each position the smallest rule that can stand there.
-use places::Place;
+use contexts::Place;
 use tables::Six;
 ghost use mathlib.Core.Path.{_≡_};
 ghost use mathlib.Core.List.{[]};
 ghost use Prim.Native.Nat.{_+_, _<_, _≤_};
 ghost use lib.ListN.{length, drop, getD, set};
-ghost use Rattle.vpg.specs.Listing.{first};
-ghost use Rattle.vpg.specs.Calls.{callOn, overEntries};
-ghost use Rattle.masks.specs.Masks.{masks, Fits};
-ghost use Rattle.masks.specs.Pending.{pendingAt, dueAt};
-ghost use Rattle.masks.specs.Walk.{inner, later};
+ghost use Rattle.listing_model.specs.believed.Listing.{first};
+ghost use Rattle.listing_model.specs.Calls.{callOn, overEntries};
+ghost use Rattle.level_theory.specs.Masks.{masks, Fits};
+ghost use Rattle.level_theory.specs.Pending.{pendingAt, dueAt};
+ghost use Rattle.level_theory.specs.Walk.{inner, later};
 ghost use Rattle.tables.specs.Table.{ruleFrom, ruleIn, rulesIn};
 ghost use Rattle.tables.specs.Ready.{Below, Ready, grammarIn};
-ghost use Rattle.history_file.specs.HistoryFile.{tokensOf};
+ghost use Rattle.history_file.specs.believed.HistoryFile.{tokensOf};
 ghost use Rattle.levels.specs.Levels.{Setting};
 ghost use Rattle.first_run.specs.Fill.{ruleFits, Smallest, Filled};
 ghost use Rattle.first_run.specs.First.{firstSaid};
@@ -23,7 +23,7 @@ pub fn fits(table: &[u16; 768], r: usize, l: u16, place: Place) -> bool
     ensures { λ x. ⌜ x ≡ ruleFits (ruleIn (now (table .entry)) r) l place ⌝ }
 {
     if tables::left_in(table, r) == l {
-        places::applies(table, r, place)
+        contexts::applies(table, r, place)
     } else {
         false
     }

@@ -1,5 +1,4 @@
 -- A grammar file is accepted exactly where it holds the numbers of a well-formed grammar whose start is 0, over any source of numbers.
--- Assumes nothing.
 use Prim.Native.Nat.{ℕ, zero, suc}
 use mathlib.Core.Path.{_≡_, refl, sym, ap, _∙_}
 use mathlib.Core.Logic.{_↔_, _≢_, _⊎_, inl, inr}
@@ -10,22 +9,22 @@ use native.Mathlib.Omega.{arith}
 use lib.ListN.{length, getElem?}
 use Rattle.numbers.specs.declared.FieldRead.{FieldRead}
 use Rattle.numbers.specs.declared.FieldRead.the-variants.{Field, Refused as FieldRefused}
-use Rattle.numbers.specs.Number.{Source}
-use Rattle.numbers.specs.Field.{countAt}
+use Rattle.numbers.specs.believed.Number.{Source}
+use Rattle.numbers.specs.believed.Field.{countAt}
 use Rattle.numbers.specs.Written.{NumbersAt, none, one, Holds}
 use Rattle.numbers.proofs.Fields.{Counted, count-read, count-reads}
 use Rattle.numbers.proofs.Picks.{picked-second}
 use Rattle.numbers.proofs.Standing.{none-left, one-left, join, part}
 use Rattle.rules.specs.declared.RuleRead.{RuleRead}
 use Rattle.rules.specs.declared.RuleRead.the-variants.{Read, Refused as RuleRefused}
-use Rattle.rules.specs.Rule.{ruleAt}
+use Rattle.rules.specs.believed.Rule.{ruleAt}
 use Rattle.rules.specs.RuleNumbers.{ruleNumbers, Fits}
 use Rattle.rules.proofs.Rules.{rule-is}
 use Rattle.tables.specs.Table.{earlier}
 use Rattle.tables.proofs.Earlier.{earlier-is}
 use Rattle.vpg.specs.declared.Rule.{Rule}
-use Rattle.vpg.specs.Grammar.{Grammar}
-use Rattle.grammar_file.specs.GrammarFile.{GrammarFile, accepted, refused, afterRule, afterCount, rulesFrom, grammarFrom}
+use Rattle.vpg.specs.believed.Grammar.{Grammar}
+use Rattle.grammar_file.specs.believed.GrammarFile.{GrammarFile, accepted, refused, afterRule, afterCount, rulesFrom, grammarFrom}
 use Rattle.grammar_file.specs.Wellformed.{Distinct, Wellformed, rulesNumbers, numbersOf}
 
 -- ── lists of rules ──

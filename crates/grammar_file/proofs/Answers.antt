@@ -1,15 +1,14 @@
 -- What the answer of `read_grammar` tells of the grammar file.
--- Assumes nothing.
 use Prim.Native.Nat.{ℕ}
 use mathlib.Core.Path.{_≡_, refl, sym, _∙_, ap}
 use native.Mathlib.Omega.{arith}
 use lib.ListN.{length}
 use Rattle.grammar_file.specs.declared.GrammarAnswer.the-variants.{Accepted, Refused}
 use Rattle.grammar_file.specs.declared.GrammarRead.{GrammarRead}
-use Rattle.grammar_file.specs.GrammarFile.{GrammarFile, accepted, refused}
+use Rattle.grammar_file.specs.believed.GrammarFile.{GrammarFile, accepted, refused}
 use Rattle.grammar_file.specs.GrammarTable.{grammarRead}
 use Rattle.tables.specs.Table.{tableOf}
-use Rattle.vpg.specs.Grammar.{Grammar}
+use Rattle.vpg.specs.believed.Grammar.{Grammar}
 
 -- an accepted file, with its counts and its table
 pub record GrammarIs (f : GrammarFile) (r : GrammarRead) (nonterminals start count : ℕ) : Type 0 where

@@ -1,17 +1,16 @@
 -- A grammar file is accepted exactly where its bytes are the writing of a well-formed grammar whose start is 0 (document 01, "The two files").
--- Assumes nothing.
 use Prim.Native.Nat.{ℕ, _≤_}
 use mathlib.Core.Path.{_≡_, refl}
 use mathlib.Core.Logic.{_↔_}
 use mathlib.Core.List.{List, [], _∷_, List·Memᴰ, List·Memᴰ·head, List·Memᴰ·tail}
 use native.Mathlib.Omega.{arith}
-use Rattle.numbers.specs.Number.{bytes}
+use Rattle.numbers.specs.believed.Number.{bytes}
 use Rattle.numbers.specs.Written.{AllBelow, written}
 use Rattle.numbers.proofs.Written.{below-append, holds-is}
 use Rattle.rules.specs.RuleNumbers.{ruleNumbers, Fits}
 use Rattle.vpg.specs.declared.Rule.{Rule}
-use Rattle.vpg.specs.Grammar.{Grammar}
-use Rattle.grammar_file.specs.GrammarFile.{accepted, grammarOf}
+use Rattle.vpg.specs.believed.Grammar.{Grammar}
+use Rattle.grammar_file.specs.believed.GrammarFile.{accepted, grammarOf}
 use Rattle.grammar_file.specs.Wellformed.{Wellformed, rulesNumbers, numbersOf}
 use Rattle.grammar_file.proofs.Accepted.{grammar-is}
 

@@ -1,5 +1,4 @@
 -- The table of a well-formed grammar is what the layers above take for granted.
--- Assumes nothing.
 use Prim.Native.Nat.{ℕ, zero, suc, _<_, _≤_}
 use mathlib.Core.Path.{refl}
 use mathlib.Core.List.{List, [], _∷_, List·Memᴰ, List·Memᴰ·head, List·Memᴰ·tail}
@@ -10,7 +9,7 @@ use Rattle.tables.specs.Ready.{Below, Ready}
 use Rattle.tables.specs.Table.{tableOf}
 use Rattle.tables.proofs.Tables.{table-rule}
 use Rattle.vpg.specs.declared.Rule.{Rule}
-use Rattle.vpg.specs.Grammar.{Grammar}
+use Rattle.vpg.specs.believed.Grammar.{Grammar}
 use Rattle.grammar_file.specs.Wellformed.{Wellformed}
 
 getD-member : (rs : List Rule) (i : ℕ) (d : Rule) → i < length rs → List·Memᴰ (getD rs i d) rs

@@ -1,16 +1,15 @@
 -- One turn of the loop over the rules of a grammar file, of which k of n are read.
--- Assumes nothing.
 use Prim.Native.Nat.{ℕ, suc, _+_, _-_, _<_}
 use mathlib.Core.Path.{_≡_}
 use mathlib.Core.List.{List, [], _∷_, _++_}
 use mathlib.Core.Bool.{true, false}
 use native.Mathlib.Omega.{arith}
-use Rattle.numbers.specs.Number.{Source}
+use Rattle.numbers.specs.believed.Number.{Source}
 use Rattle.rules.specs.declared.RuleRead.the-variants.{Read, Refused as RuleRefused}
-use Rattle.rules.specs.Rule.{ruleAt}
+use Rattle.rules.specs.believed.Rule.{ruleAt}
 use Rattle.tables.specs.Table.{earlier}
 use Rattle.vpg.specs.declared.Rule.{Rule}
-use Rattle.grammar_file.specs.GrammarFile.{refused, rulesFrom}
+use Rattle.grammar_file.specs.believed.GrammarFile.{refused, rulesFrom}
 
 module _ (x : Source) (nonterminals start n k at : ℕ) (rules : List Rule) (more : k < n) where
   one-due : n - k ≡ suc (n - (k + 1))

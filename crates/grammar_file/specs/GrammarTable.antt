@@ -1,12 +1,11 @@
 -- What `read_grammar` hands to the layers above: the counts and the table of a grammar file.
--- Assumes nothing.
 use Prim.Native.Nat.{ℕ}
 use mathlib.Core.List.{List}
 use lib.ListN.{length, replicate}
 use Rattle.grammar_file.specs.declared.GrammarAnswer.{GrammarAnswer}
 use Rattle.grammar_file.specs.declared.GrammarAnswer.the-variants.{Accepted, Refused}
 use Rattle.grammar_file.specs.declared.GrammarRead.{GrammarRead}
-use Rattle.grammar_file.specs.GrammarFile.{GrammarFile, accepted, refused}
+use Rattle.grammar_file.specs.believed.GrammarFile.{GrammarFile, accepted, refused}
 use Rattle.tables.specs.Table.{tableOf}
 
 abbrev pub readOf : GrammarAnswer → List ℕ → GrammarRead

@@ -1,3 +1,3 @@
-pub mod GrammarFile
+pub mod believed
 pub mod GrammarTable
 pub mod Wellformed

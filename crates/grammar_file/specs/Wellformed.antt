@@ -1,11 +1,11 @@
 -- The grammars that a grammar file can say, and the numbers that the file of a grammar holds (document 01, "The two files" and refusals
--- 3, 4, 6, 7 and 8). Assumes nothing.
+-- 3, 4, 6, 7 and 8).
 use Prim.Native.Nat.{ℕ, _<_, _≤_}
 use mathlib.Core.List.{List, [], _∷_, _++_, List·Memᴰ}
 use lib.ListN.{length}
 use Rattle.rules.specs.RuleNumbers.{ruleNumbers, Fits}
 use Rattle.vpg.specs.declared.Rule.{Rule}
-use Rattle.vpg.specs.Grammar.{Grammar}
+use Rattle.vpg.specs.believed.Grammar.{Grammar}
 
 -- no rule stands twice
 abbrev pub Distinct : List Rule → Type 0

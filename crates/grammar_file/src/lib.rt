@@ -5,8 +5,8 @@ ghost use mathlib.Core.Path.{_≡_};
 ghost use mathlib.Core.List.{[]};
 ghost use Prim.Native.Nat.{_≤_};
 ghost use lib.ListN.{replicate};
-ghost use Rattle.numbers.specs.Number.{bytes};
-ghost use Rattle.grammar_file.specs.GrammarFile.{rulesFrom, grammarOf};
+ghost use Rattle.numbers.specs.believed.Number.{bytes};
+ghost use Rattle.grammar_file.specs.believed.GrammarFile.{rulesFrom, grammarOf};
 ghost use Rattle.grammar_file.specs.GrammarTable.{readOf, refusedRead, grammarRead};
 
 // At most this many nonterminals (refusal 3) and rules (refusal 4).

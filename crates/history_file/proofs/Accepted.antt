@@ -1,5 +1,4 @@
 -- A history file is accepted exactly where it holds the count and the numbers of well-formed tokens, over any source of numbers.
--- Assumes nothing.
 use Prim.Native.Nat.{ℕ, zero, suc}
 use mathlib.Core.Path.{_≡_, refl, ap, _∙_}
 use mathlib.Core.Logic.{_↔_, _≢_, _⊎_, inl, inr}
@@ -11,15 +10,15 @@ use lib.Dec.{ltb}
 use borrow.Author.Tests.{ltb-false}
 use Rattle.numbers.specs.declared.FieldRead.{FieldRead}
 use Rattle.numbers.specs.declared.FieldRead.the-variants.{Field, Refused as FieldRefused}
-use Rattle.numbers.specs.Number.{Source}
-use Rattle.numbers.specs.Field.{fieldAt}
+use Rattle.numbers.specs.believed.Number.{Source}
+use Rattle.numbers.specs.believed.Field.{fieldAt}
 use Rattle.numbers.specs.Written.{NumbersAt, none, one, Holds}
 use Rattle.numbers.proofs.Fields.{Limited, field-read, field-reads}
 use Rattle.numbers.proofs.Picks.{picked-second}
 use Rattle.numbers.proofs.Standing.{none-left, one-left}
 use Rattle.history_file.specs.declared.TokenRead.{TokenRead}
 use Rattle.history_file.specs.declared.TokenRead.the-variants.{Token as TokenIs, Refused as TokenRefused}
-use Rattle.history_file.specs.HistoryFile.{HistoryFile, accepted, refused, tokenAt, depthAfter, afterToken, afterCount, tokensFrom, historyFrom}
+use Rattle.history_file.specs.believed.HistoryFile.{HistoryFile, accepted, refused, tokenAt, depthAfter, afterToken, afterCount, tokensFrom, historyFrom}
 use Rattle.history_file.specs.Wellformed.{TokenNumber, Nested, Wellformed}
 use Rattle.history_file.proofs.Tokens.{Judged, token-read, token-reads}
 

@@ -1,5 +1,4 @@
 -- What the answer of `read_history` tells of the history file.
--- Assumes nothing.
 use Prim.Native.Nat.{ℕ}
 use mathlib.Core.Path.{_≡_, refl, sym, _∙_, ap}
 use mathlib.Core.List.{List}
@@ -7,7 +6,7 @@ use native.Mathlib.Omega.{arith}
 use lib.ListN.{length}
 use Rattle.history_file.specs.declared.HistoryAnswer.the-variants.{Accepted, Refused}
 use Rattle.history_file.specs.declared.HistoryRead.{HistoryRead}
-use Rattle.history_file.specs.HistoryFile.{HistoryFile, accepted, refused}
+use Rattle.history_file.specs.believed.HistoryFile.{HistoryFile, accepted, refused}
 use Rattle.history_file.specs.HistoryTokens.{padded, historyRead}
 
 -- an accepted file, with its count and its token numbers

@@ -1,15 +1,14 @@
 -- A history file is accepted exactly where its bytes are the writing of the count and of well-formed tokens (document 01, "The two files").
--- Assumes nothing.
 use Prim.Native.Nat.{ℕ}
 use mathlib.Core.Path.{_≡_, refl}
 use mathlib.Core.Logic.{_↔_}
 use mathlib.Core.List.{List, [], _∷_, List·Memᴰ, List·Memᴰ·head, List·Memᴰ·tail}
 use native.Mathlib.Omega.{arith}
 use lib.ListN.{length}
-use Rattle.numbers.specs.Number.{bytes}
+use Rattle.numbers.specs.believed.Number.{bytes}
 use Rattle.numbers.specs.Written.{AllBelow, written}
 use Rattle.numbers.proofs.Written.{holds-is}
-use Rattle.history_file.specs.HistoryFile.{accepted, historyOf}
+use Rattle.history_file.specs.believed.HistoryFile.{accepted, historyOf}
 use Rattle.history_file.specs.Wellformed.{TokenNumber, Wellformed}
 use Rattle.history_file.proofs.Accepted.{history-is}
 

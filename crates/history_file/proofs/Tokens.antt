@@ -1,5 +1,4 @@
 -- What a caller learns of a token that was read, and one turn of the loop over the tokens, of which k of n are read.
--- Assumes nothing.
 use Prim.Native.Nat.{ℕ, suc, _+_, _-_, _<_, _≤_}
 use mathlib.Core.Path.{_≡_, refl}
 use mathlib.Core.Logic.{_≢_}
@@ -11,10 +10,10 @@ use lib.Dec.{eqb, leb, lit<}
 use borrow.Author.Tests.{leb-false, lt-leb, eqb-false, eqb-true, eq-eqb, ne-eqb}
 use Rattle.numbers.specs.declared.NumberRead.{NumberRead}
 use Rattle.numbers.specs.declared.NumberRead.the-variants.{Number, Refused as NumberRefused}
-use Rattle.numbers.specs.Number.{pick, Source}
+use Rattle.numbers.specs.believed.Number.{pick, Source}
 use Rattle.numbers.proofs.Picks.{picked-second}
 use Rattle.history_file.specs.declared.TokenRead.the-variants.{Token as TokenIs, Refused as TokenRefused}
-use Rattle.history_file.specs.HistoryFile.{kind, tokenJudged, judged, tokenAt, depthAfter, refused, tokensFrom}
+use Rattle.history_file.specs.believed.HistoryFile.{kind, tokenJudged, judged, tokenAt, depthAfter, refused, tokensFrom}
 
 -- the number at a place is the token t, which may stand where so many steps are open
 pub record Judged (r : NumberRead) (depth t next : ℕ) : Type 0 where

@@ -1,11 +1,10 @@
 -- What `read_history` hands to the layers above: the count and the token numbers of a history file.
--- Assumes nothing.
 use Prim.Native.Nat.{ℕ, _-_, _<_, _≤_}
 use mathlib.Core.List.{List, _++_}
 use lib.ListN.{length, replicate, getD}
 use Rattle.history_file.specs.declared.HistoryAnswer.the-variants.{Accepted, Refused}
 use Rattle.history_file.specs.declared.HistoryRead.{HistoryRead}
-use Rattle.history_file.specs.HistoryFile.{HistoryFile, accepted, refused}
+use Rattle.history_file.specs.believed.HistoryFile.{HistoryFile, accepted, refused}
 
 -- at most 1,024 token numbers, with zeros behind them
 abbrev pub padded : List ℕ → List ℕ

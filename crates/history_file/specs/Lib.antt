@@ -1,4 +1,4 @@
-pub mod HistoryFile
+pub mod believed
 pub mod HistoryTokens
 pub mod Refusals
 pub mod Wellformed

@@ -1,10 +1,9 @@
 -- The token numbers that a history file can say (document 01, "The two files" and refusals 10 to 14).
--- Assumes nothing.
 use Prim.Native.Nat.{ℕ, _<_, _≤_}
 use mathlib.Core.Path.{_≡_}
 use mathlib.Core.List.{List, [], _∷_, List·Memᴰ}
 use lib.ListN.{length}
-use Rattle.history_file.specs.HistoryFile.{kind, depthAfter}
+use Rattle.history_file.specs.believed.HistoryFile.{kind, depthAfter}
 
 -- no "token number above 255, or one that leaves 3 when divided by 4"
 pub record TokenNumber (t : ℕ) : Type 0 where

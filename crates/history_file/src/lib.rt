@@ -8,9 +8,9 @@ use vpg::Token;
 ghost use mathlib.Core.Path.{_≡_};
 ghost use mathlib.Core.List.{[]};
 ghost use Prim.Native.Nat.{_≤_, _<_};
-ghost use Rattle.numbers.specs.Number.{numberAt, bytes};
+ghost use Rattle.numbers.specs.believed.Number.{numberAt, bytes};
 ghost use Rattle.history_file.specs.Refusals.{refusalOfToken};
-ghost use Rattle.history_file.specs.HistoryFile.{tokenWith, tokenOf, tokenJudged, tokenAt, depthAfter, tokensFrom, historyOf};
+ghost use Rattle.history_file.specs.believed.HistoryFile.{tokenWith, tokenOf, tokenJudged, tokenAt, depthAfter, tokensFrom, historyOf};
 ghost use Rattle.history_file.specs.HistoryTokens.{refusedRead, historyRead};
 
 // At most this many tokens (refusal 10), and this many steps open together (refusal 14).

@@ -1,5 +1,4 @@
 -- One step of the passes over the positions: the matching closes, and what stands at a position.
--- Assumes nothing.
 use Prim.Native.Nat.{ℕ, zero, suc, _-_, _/_, _<_, _≤_}
 use native.Mathlib.Nat.{le-of-suc-le-suc, not-suc-le-zero, eq-or-lt-of-le}
 use native.Mathlib.Omega.{arith}
@@ -15,18 +14,18 @@ use Rattle.bits.proofs.Bits.{bit-zero}
 use Rattle.vpg.specs.declared.CloseName.{CloseName}
 use Rattle.vpg.specs.declared.Rule.{Rule}
 use Rattle.vpg.specs.declared.Token.{Token}
-use Rattle.vpg.specs.Grammar.{Rules}
-use Rattle.masks.specs.Masks.{Masks, behind, applies, lefts, masks}
-use Rattle.masks.specs.Pending.{Closes, rest, pending, pendingAt, closeOf}
-use Rattle.masks.specs.Walk.{testAt}
-use Rattle.masks.proofs.Walk.{level-test}
-use Rattle.masks.proofs.Pending.{pending-from, pending-next, pending-close, pending-rest, masks-outer}
-use Rattle.places.specs.declared.Place.{Place}
-use Rattle.places.specs.Place.{appliesTo, appliesHere, endPlace, levelIn}
-use Rattle.places.proofs.Places.{level-bit}
+use Rattle.vpg.specs.believed.Grammar.{Rules}
+use Rattle.level_theory.specs.Masks.{Masks, behind, applies, lefts, masks}
+use Rattle.level_theory.specs.Pending.{Closes, rest, pending, pendingAt, closeOf}
+use Rattle.level_theory.specs.Walk.{testAt}
+use Rattle.level_theory.proofs.Walk.{level-test}
+use Rattle.level_theory.proofs.Pending.{pending-from, pending-next, pending-close, pending-rest, masks-outer}
+use Rattle.contexts.specs.declared.Place.{Place}
+use Rattle.contexts.specs.Place.{appliesTo, appliesHere, endPlace, levelIn}
+use Rattle.contexts.proofs.Places.{level-bit}
 use Rattle.tables.specs.Table.{rulesIn}
-use Rattle.numbers.specs.Number.{pick}
-use Rattle.history_file.specs.HistoryFile.{kind, tokenWith, tokenOf, tokensOf}
+use Rattle.numbers.specs.believed.Number.{pick}
+use Rattle.history_file.specs.believed.HistoryFile.{kind, tokenWith, tokenOf, tokensOf}
 use Rattle.levels.specs.Levels.{nextTop, Matched, Leveled, Stands}
 
 -- ── tokens and their numbers ──

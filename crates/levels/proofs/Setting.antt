@@ -1,12 +1,11 @@
 -- What a setting says of a position: where the first pending close behind it stands, and that an array has room there.
--- Assumes nothing.
 use Prim.Native.Nat.{ℕ, suc, _<_, _≤_}
 use native.Mathlib.Omega.{arith}
 use mathlib.Core.Path.{_≡_}
 use mathlib.Core.List.{List}
 use lib.ListN.{length, getD}
-use Rattle.masks.specs.Pending.{pendingAt, closeOf}
-use Rattle.history_file.specs.HistoryFile.{tokensOf}
+use Rattle.level_theory.specs.Pending.{pendingAt, closeOf}
+use Rattle.history_file.specs.believed.HistoryFile.{tokensOf}
 use Rattle.levels.specs.Levels.{Setting}
 use Rattle.levels.proofs.Levels.{tokens-length, close-most}
 

@@ -1,5 +1,4 @@
 -- Arrays by position: the matching closes, and the nonterminals that derive the rest of each level.
--- Assumes nothing.
 use Prim.Native.Nat.{ℕ, suc, _≤_}
 use mathlib.Core.Path.{_≡_}
 use mathlib.Core.List.{List}
@@ -7,15 +6,15 @@ use lib.ListN.{length, getD, drop}
 use Rattle.bits.specs.Bit.{bit}
 use Rattle.vpg.specs.declared.Rule.{Rule}
 use Rattle.vpg.specs.declared.Token.{Token}
-use Rattle.vpg.specs.Grammar.{Rules}
-use Rattle.masks.specs.Masks.{masks}
-use Rattle.masks.specs.Pending.{pendingAt, closeOf}
-use Rattle.masks.specs.Walk.{testAt}
-use Rattle.places.specs.declared.Place.{Place}
-use Rattle.places.specs.Place.{appliesTo}
+use Rattle.vpg.specs.believed.Grammar.{Rules}
+use Rattle.level_theory.specs.Masks.{masks}
+use Rattle.level_theory.specs.Pending.{pendingAt, closeOf}
+use Rattle.level_theory.specs.Walk.{testAt}
+use Rattle.contexts.specs.declared.Place.{Place}
+use Rattle.contexts.specs.Place.{appliesTo}
 use Rattle.tables.specs.Table.{rulesIn}
 use Rattle.tables.specs.Ready.{Ready}
-use Rattle.history_file.specs.HistoryFile.{tokensOf}
+use Rattle.history_file.specs.believed.HistoryFile.{tokensOf}
 use Rattle.history_file.specs.HistoryTokens.{Tokens}
 
 -- the first pending close from a token on; top: the first one behind the token, beyond: the one behind that

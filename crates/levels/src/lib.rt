@@ -1,14 +1,14 @@
 // Arrays by position: the matching closes, and backward over the tokens the nonterminals that derive the rest of each level.
-use places::Place;
+use contexts::Place;
 use vpg::CloseName;
 use vpg::Token;
 ghost use mathlib.Core.Path.{_≡_};
 ghost use Prim.Native.Nat.{_/_, _<_, _≤_};
 ghost use lib.ListN.{length};
-ghost use Rattle.places.specs.Place.{endPlace};
+ghost use Rattle.contexts.specs.Place.{endPlace};
 ghost use Rattle.tables.specs.Table.{rulesIn};
 ghost use Rattle.tables.specs.Ready.{Ready};
-ghost use Rattle.history_file.specs.HistoryFile.{tokensOf};
+ghost use Rattle.history_file.specs.believed.HistoryFile.{tokensOf};
 ghost use Rattle.history_file.specs.HistoryTokens.{Tokens};
 ghost use Rattle.levels.specs.Levels.{nextTop, Matched, Leveled, Stands};
 
@@ -110,7 +110,7 @@ pub fn masks(table: &[u16; 768], count: usize, w: &[u32], m: &[usize; 1025]) -> 
     while 0 < i {
         i -= 1;
         let place = place_at(w, m, &mask, i);
-        mask[i] = places::level(table, count, place);
+        mask[i] = contexts::level(table, count, place);
     }
     mask
 }

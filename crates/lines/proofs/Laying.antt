@@ -1,5 +1,4 @@
 -- Text laid piece by piece is the whole text laid; and what a buffer with text laid into it holds.
--- Assumes nothing.
 use Prim.Native.Nat.{ℕ, zero, suc, _+_, _-_, _<_, _≤_}
 use native.Mathlib.Numerals.{add-one}
 use native.Mathlib.Nat.{add-zero, zero-add}
@@ -13,7 +12,7 @@ use lib.ListN.{length, take, drop, set, getD, length-set, length-append, drop-of
 use lib.Seq.{drop-cons, length-take-le, take-suc-set, drop-set-lt}
 use Rattle.io.specs.Counts.{Counts}
 use Rattle.lines.specs.declared.Place.{Place}
-use Rattle.lines.specs.Laid.{Laid, put, laid, shown, window}
+use Rattle.lines.specs.believed.Laid.{Laid, put, laid, shown, window}
 
 pub laid-append : (p : Laid) (a b : List ℕ) → laid p (a ++ b) ≡ laid (laid p a) b
 unfolding laid

@@ -1,3 +1,3 @@
+pub mod Short
 pub mod Turns
 pub mod Whole
-pub mod Short

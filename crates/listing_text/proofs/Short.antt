@@ -1,5 +1,4 @@
 -- No listing is longer than 22,000,000 bytes, so 21 windows of 1,048,576 bytes, one behind the other, show the whole of it.
--- Assumes nothing.
 use Prim.Native.Nat.{ℕ, zero, suc, _+_, _*_, _/_, _%_, _≤_}
 use native.Mathlib.Nat.{suc-mul}
 use native.Mathlib.Omega.{arith}
@@ -10,17 +9,17 @@ use lib.Dec.{ltb}
 use lib.ListN.{length, drop, length-append, length-map, drop-of-length-le, take-append-drop}
 use lib.Seq.{drop-drop}
 use Rattle.vpg.specs.Runs.{entries}
-use Rattle.vpg.specs.Sets.{doubtfulCount}
-use Rattle.vpg.proofs.Listing.{entries-proper}
-use Rattle.grammar_file.specs.GrammarFile.{GrammarFile, grammarOf}
-use Rattle.grammar_file.specs.GrammarFile
-use Rattle.history_file.specs.HistoryFile.{HistoryFile, historyOf, tokenOf, tokensOf}
-use Rattle.history_file.specs.HistoryFile
+use Rattle.sets_theory.specs.believed.Sets.{doubtfulCount}
+use Rattle.listing_model.proofs.Listing.{entries-proper}
+use Rattle.grammar_file.specs.believed.GrammarFile.{GrammarFile, grammarOf}
+use Rattle.grammar_file.specs.believed.GrammarFile
+use Rattle.history_file.specs.believed.HistoryFile.{HistoryFile, historyOf, tokenOf, tokensOf}
+use Rattle.history_file.specs.believed.HistoryFile
 use Rattle.history_file.proofs.Accepted.{history-wellformed}
-use Rattle.numbers.specs.Number.{bytes}
-use Rattle.lines.specs.Laid.{shown}
-use Rattle.lines.specs.Text.{orNothing, decimalBy, decimal, lineEnd, numberLine, readingText, readingLine, tokensLine, doubtfulLine, tokensWord, doubtfulWord, endWord, moreWord, refusedWord, grammarWord, historyWord}
-use Rattle.listing_text.specs.Listing.{listedFrom, mostListed, readingsListed, filesListed, listing}
+use Rattle.numbers.specs.believed.Number.{bytes}
+use Rattle.lines.specs.believed.Laid.{shown}
+use Rattle.lines.specs.believed.Text.{orNothing, decimalBy, decimal, lineEnd, numberLine, readingText, readingLine, tokensLine, doubtfulLine, tokensWord, doubtfulWord, endWord, moreWord, refusedWord, grammarWord, historyWord}
+use Rattle.listing_text.specs.believed.Listing.{listedFrom, mostListed, readingsListed, filesListed, listing}
 
 -- ── lines ──
 

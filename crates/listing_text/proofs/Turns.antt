@@ -1,5 +1,4 @@
 -- The loop over the readings: each turn lists the reading in the buffer and goes on to the next one.
--- Assumes nothing.
 use Prim.Native.Nat.{ℕ, zero, suc, _+_, _-_, _<_, _≤_}
 use native.Mathlib.Numerals.{add-one}
 use native.Mathlib.Omega.{arith}
@@ -10,20 +9,20 @@ use borrow.Author.Tests.{ltb-true, ltb-false}
 use lib.Dec.{ltb}
 use lib.ListN.{length, take, drop, getD, length-map, drop-of-length-le}
 use lib.Seq.{drop-cons, take-at}
-use Rattle.vpg.specs.Listing.{Subject, due, over, next}
-use Rattle.vpg.specs.Calls.{callOn, successor, overEntries}
-use Rattle.vpg.proofs.Find.{at-mem, find-at}
-use Rattle.vpg.proofs.Listing.{Proper, entries-proper}
-use Rattle.history_file.specs.HistoryFile.{tokenOf, tokensOf}
-use Rattle.files.specs.Files.{accepted}
-use Rattle.frame.specs.Frame.{filesIn}
-use Rattle.frame.proofs.Served.{served-on}
-use Rattle.readings.specs.Answers.{subject}
-use Rattle.lines.specs.Laid.{Laid, laid}
+use Rattle.listing_model.specs.believed.Listing.{Subject, due, over, next}
+use Rattle.listing_model.specs.Calls.{callOn, successor, overEntries}
+use Rattle.listing_model.proofs.Find.{at-mem, find-at}
+use Rattle.listing_model.proofs.Listing.{Proper, entries-proper}
+use Rattle.history_file.specs.believed.HistoryFile.{tokenOf, tokensOf}
+use Rattle.files.specs.believed.Files.{accepted}
+use Rattle.service.specs.believed.Frame.{filesIn}
+use Rattle.service.proofs.Served.{served-on}
+use Rattle.readings.specs.believed.Answers.{subject}
+use Rattle.lines.specs.believed.Laid.{Laid, laid}
 use Rattle.lines.specs.declared.Place.{Place}
-use Rattle.lines.specs.Text.{readingLine, endLine, moreLine}
+use Rattle.lines.specs.believed.Text.{readingLine, endLine, moreLine}
 use Rattle.lines.proofs.Laying.{laid-append}
-use Rattle.listing_text.specs.Listing.{listedFrom, mostListed}
+use Rattle.listing_text.specs.believed.Listing.{listedFrom, mostListed}
 use Rattle.listing_text.specs.Passing.{Passing, Begun, entriesOf, told}
 
 pub denied : (b : Bool) → not b ≡ true → b ≡ false

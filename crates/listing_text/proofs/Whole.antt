@@ -1,5 +1,4 @@
 -- The listing by what the services answered.
--- Assumes nothing.
 use Prim.Native.Nat.{ℕ, suc, _+_, _<_, _≤_}
 use native.Mathlib.Numerals.{add-one}
 use native.Mathlib.Omega.{arith}
@@ -8,29 +7,29 @@ use mathlib.Core.Bool.{Bool, true, false, false≢true}
 use mathlib.Core.List.{List, [], _∷_, _++_, List·Memᴰ·head}
 use lib.ListN.{length, take, drop, getD, replicate, length-replicate}
 use lib.Seq.{take-at}
-use Rattle.vpg.specs.Sets.{doubtfulCount}
-use Rattle.vpg.specs.Grammar.{Grammar}
-use Rattle.vpg.specs.Listing.{Subject, over, first}
-use Rattle.vpg.specs.Calls.{callOn}
-use Rattle.vpg.proofs.Listing.{Proper}
-use Rattle.grammar_file.specs.GrammarFile.{GrammarFile, grammarOf}
-use Rattle.grammar_file.specs.GrammarFile
-use Rattle.history_file.specs.HistoryFile.{HistoryFile, historyOf, tokensOf}
-use Rattle.history_file.specs.HistoryFile
+use Rattle.sets_theory.specs.believed.Sets.{doubtfulCount}
+use Rattle.vpg.specs.believed.Grammar.{Grammar}
+use Rattle.listing_model.specs.believed.Listing.{Subject, over, first}
+use Rattle.listing_model.specs.Calls.{callOn}
+use Rattle.listing_model.proofs.Listing.{Proper}
+use Rattle.grammar_file.specs.believed.GrammarFile.{GrammarFile, grammarOf}
+use Rattle.grammar_file.specs.believed.GrammarFile
+use Rattle.history_file.specs.believed.HistoryFile.{HistoryFile, historyOf, tokensOf}
+use Rattle.history_file.specs.believed.HistoryFile
 use Rattle.history_file.proofs.Accepted.{history-wellformed}
-use Rattle.numbers.specs.Number.{bytes}
-use Rattle.files.specs.Checks.{grammarSaid, grammarDue, historySaid, historyDue}
-use Rattle.files.specs.Checks as checks
+use Rattle.numbers.specs.believed.Number.{bytes}
+use Rattle.files.specs.believed.Checks.{grammarSaid, grammarDue, historySaid, historyDue}
+use Rattle.files.specs.believed.Checks as checks
 use Rattle.files.specs.declared.GrammarCheck.{GrammarCheck}
 use Rattle.files.specs.declared.HistoryCheck.{HistoryCheck}
-use Rattle.frame.specs.Frame.{filesIn}
-use Rattle.frame.proofs.Served.{served-on}
-use Rattle.readings.specs.Answers.{subject}
-use Rattle.sets.specs.Sets.{counted, refused, countDue}
-use Rattle.lines.specs.Laid.{Laid, laid}
+use Rattle.service.specs.believed.Frame.{filesIn}
+use Rattle.service.proofs.Served.{served-on}
+use Rattle.readings.specs.believed.Answers.{subject}
+use Rattle.sets.specs.believed.Sets.{counted, refused, countDue}
+use Rattle.lines.specs.believed.Laid.{Laid, laid}
 use Rattle.lines.proofs.Laying.{laid-both}
-use Rattle.lines.specs.Text.{tokensLine, doubtfulLine, noneLine, refusedGrammarLine, refusedHistoryLine}
-use Rattle.listing_text.specs.Listing.{listedFrom, mostListed, readingsListed, listing}
+use Rattle.lines.specs.believed.Text.{tokensLine, doubtfulLine, noneLine, refusedGrammarLine, refusedHistoryLine}
+use Rattle.listing_text.specs.believed.Listing.{listedFrom, mostListed, readingsListed, listing}
 use Rattle.listing_text.specs.Passing.{Passing, Begun, entriesOf, told, countIn}
 use Rattle.listing_text.proofs.Turns.{files-are, subject-is, entries-in-order}
 

@@ -1,19 +1,18 @@
 -- What is handed from one function to the next where both files pass.
--- Assumes nothing.
 use Prim.Native.Nat.{ℕ, _+_, _<_, _≤_}
 use mathlib.Core.Path.{_≡_}
 use mathlib.Core.Bool.{Bool, true, false}
 use mathlib.Core.List.{List, []}
 use lib.ListN.{length, take, getD}
-use Rattle.vpg.specs.Grammar.{Grammar}
+use Rattle.vpg.specs.believed.Grammar.{Grammar}
 use Rattle.vpg.specs.Runs.{entries}
-use Rattle.vpg.specs.Listing.{Answer, written, no-reading, no-further, refused}
-use Rattle.grammar_file.specs.GrammarFile.{GrammarFile, grammarOf}
-use Rattle.grammar_file.specs.GrammarFile
-use Rattle.history_file.specs.HistoryFile.{HistoryFile, historyOf, tokensOf}
-use Rattle.history_file.specs.HistoryFile
-use Rattle.sets.specs.Sets.{Given, counted}
-use Rattle.sets.specs.Sets as sets-given
+use Rattle.listing_model.specs.believed.Listing.{Answer, written, no-reading, no-further, refused}
+use Rattle.grammar_file.specs.believed.GrammarFile.{GrammarFile, grammarOf}
+use Rattle.grammar_file.specs.believed.GrammarFile
+use Rattle.history_file.specs.believed.HistoryFile.{HistoryFile, historyOf, tokensOf}
+use Rattle.history_file.specs.believed.HistoryFile
+use Rattle.sets.specs.believed.Sets.{Given, counted}
+use Rattle.sets.specs.believed.Sets as sets-given
 
 -- both files pass, and the history has n tokens
 pub record Passing (grammar history : List ℕ) (n : ℕ) : Type 0 where

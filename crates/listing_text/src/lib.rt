@@ -6,13 +6,13 @@ use readings::Answer;
 use sets::CountAnswer;
 ghost use mathlib.Core.Path.{_≡_};
 ghost use lib.ListN.{length};
-ghost use Rattle.vpg.specs.Listing.{first, next};
-ghost use Rattle.vpg.specs.Calls.{callOn};
-ghost use Rattle.readings.specs.Answers.{said, subject};
-ghost use Rattle.sets.specs.Sets.{countDue};
+ghost use Rattle.listing_model.specs.believed.Listing.{first, next};
+ghost use Rattle.listing_model.specs.Calls.{callOn};
+ghost use Rattle.readings.specs.believed.Answers.{said, subject};
+ghost use Rattle.sets.specs.believed.Sets.{countDue};
 ghost use Rattle.io.specs.Counts.{Counts};
-ghost use Rattle.lines.specs.Laid.{laid, window};
-ghost use Rattle.listing_text.specs.Listing.{listedFrom, mostListed, listing};
+ghost use Rattle.lines.specs.believed.Laid.{laid, window};
+ghost use Rattle.listing_text.specs.believed.Listing.{listedFrom, mostListed, listing};
 ghost use Rattle.listing_text.specs.Passing.{Passing, Begun, entriesOf, isWritten, told, countIn};
 
 fn is_written(answer: Answer) -> bool

@@ -1,5 +1,4 @@
 -- The backward search, one position at a time.
--- Assumes nothing.
 use Prim.Native.Nat.{ℕ, suc, _+_, _-_, _<_, _≤_}
 use native.Mathlib.Nat.{eq-or-lt-of-le}
 use native.Mathlib.Omega.{arith}
@@ -11,7 +10,7 @@ use lib.Dec.{eqb}
 use lib.ListN.{length, getD}
 use Rattle.vpg.specs.declared.Token.{Token}
 use Rattle.vpg.specs.Steps.{left}
-use Rattle.places.specs.declared.Place.{Place}
+use Rattle.contexts.specs.declared.Place.{Place}
 use Rattle.tables.specs.Table.{ruleIn, rulesIn}
 use Rattle.levels.specs.Levels.{Leveled, Stands}
 use Rattle.first_run.specs.Fill.{ruleFits}

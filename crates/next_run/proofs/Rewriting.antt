@@ -1,5 +1,4 @@
 -- What is written from the place found on.
--- Assumes nothing.
 use Prim.Native.Nat.{ℕ, suc, _<_}
 use native.Mathlib.Omega.{arith}
 use mathlib.Core.Path.{_≡_, refl, _∙_}
@@ -7,10 +6,10 @@ use mathlib.Core.List.{List, [], _∷_, append-assoc}
 use lib.ListN.{length, drop, set, drop-of-length-le}
 use lib.Seq.{take-suc-set, drop-set-lt}
 use Rattle.vpg.specs.declared.Token.{Token}
-use Rattle.vpg.specs.Grammar.{Rules}
+use Rattle.vpg.specs.believed.Grammar.{Rules}
 use Rattle.vpg.specs.Extremes.{Least}
 use Rattle.vpg.specs.Runs.{State}
-use Rattle.masks.specs.Walk.{Run}
+use Rattle.level_theory.specs.Walk.{Run}
 use Rattle.first_run.specs.Fill.{Filled}
 use Rattle.next_run.specs.Next.{Follows, Rewritten}
 

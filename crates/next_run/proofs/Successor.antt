@@ -1,5 +1,4 @@
 -- A reading in the buffer: the next one, or that there is no further.
--- Assumes nothing.
 use Prim.Native.Nat.{ℕ, zero, suc, _+_, _-_, _<_, _≤_}
 use native.Mathlib.Nat.{eq-or-lt-of-le}
 use native.Mathlib.Omega.{arith}
@@ -14,32 +13,32 @@ use lib.ListN.{length, take, drop, getD, set, take-append-drop, drop-of-length-l
 use lib.Seq.{drop-cons, getD-take, length-take-le, take-take}
 use Rattle.bits.specs.Bit.{bit}
 use Rattle.vpg.specs.declared.Token.{Token}
-use Rattle.vpg.specs.Grammar.{Rules}
+use Rattle.vpg.specs.believed.Grammar.{Rules}
 use Rattle.vpg.specs.Extremes.{Least, Next, Last}
-use Rattle.vpg.specs.Listing.{next, written, no-further, refused}
-use Rattle.vpg.specs.Calls.{callOn, overEntries}
+use Rattle.listing_model.specs.believed.Listing.{next, written, no-further, refused}
+use Rattle.listing_model.specs.Calls.{callOn, overEntries}
 use Rattle.vpg.specs.Runs.{State, entries}
 use Rattle.vpg.specs.Steps.{left}
 use Rattle.vpg.proofs.Ascends.{entries-ascending}
-use Rattle.vpg.proofs.Basics.{and-left, and-right}
-use Rattle.vpg.proofs.Calls.{next-refused, next-written, next-no-further}
+use Rattle.laws.proofs.Basics.{and-left, and-right}
+use Rattle.listing_model.proofs.Calls.{next-refused, next-written, next-no-further}
 use Rattle.vpg.proofs.Take.{end}
-use Rattle.masks.specs.Masks.{finishes, masks, Fits}
-use Rattle.masks.specs.Pending.{pendingAt, closeOf, dueAt}
-use Rattle.masks.specs.Walk.{Run, testAt, inner, later}
-use Rattle.masks.specs.Local.{stateAt}
-use Rattle.masks.proofs.Alive.{Passes, both, run-fits}
-use Rattle.masks.proofs.Search.{None, end-last, end-next}
-use Rattle.masks.proofs.Walk.{passes-end, end-passes}
-use Rattle.masks.proofs.Local.{Turn, turn, RunFrom, LastFrom, NextFrom, run-left, last-left, next-here, next-all}
+use Rattle.level_theory.specs.Masks.{finishes, masks, Fits}
+use Rattle.level_theory.specs.Pending.{pendingAt, closeOf, dueAt}
+use Rattle.level_theory.specs.Walk.{Run, testAt, inner, later}
+use Rattle.level_theory.specs.Local.{stateAt}
+use Rattle.level_theory.proofs.Alive.{Passes, both, run-fits}
+use Rattle.level_theory.proofs.Search.{None, end-last, end-next}
+use Rattle.level_theory.proofs.Walk.{passes-end, end-passes}
+use Rattle.level_theory.proofs.Local.{Turn, turn, RunFrom, LastFrom, NextFrom, run-left, last-left, next-here, next-all}
 use Rattle.tables.specs.Table.{ruleIn, rulesIn}
 use Rattle.tables.specs.Ready.{grammarIn}
 use Rattle.tables.proofs.Tables.{rules-at, rules-below}
-use Rattle.history_file.specs.HistoryFile.{tokenOf, tokensOf}
+use Rattle.history_file.specs.believed.HistoryFile.{tokenOf, tokensOf}
 use Rattle.levels.specs.Levels.{Setting}
 use Rattle.levels.proofs.Levels.{tokens-length, tokens-at, pending-end}
 use Rattle.levels.proofs.Setting.{closing, closing-room}
-use Rattle.walk.specs.Walked.{Reads}
+use Rattle.replay.specs.Walked.{Reads}
 use Rattle.next_run.specs.Next.{fitsAt, NoneFrom, LastAt, Follows, Rewritten}
 
 module _ {t : List ℕ} {n : ℕ} {ts m mask : List ℕ} (set-up : Setting t n ts m mask) (start : ℕ) (buf : List ℕ) (long : length ts < length buf) (matched : pendingAt (tokensOf ts) 0 ≡ []) where

@@ -1,5 +1,5 @@
 -- The last place at which a larger rule still leads to a reading (document 01, "Services": "the successor differs first at the last
--- place at which a larger rule still leads to a reading"), and what is written from there on. Assumes nothing.
+-- place at which a larger rule still leads to a reading"), and what is written from there on.
 use Prim.Native.Nat.{ℕ, suc, _<_, _≤_}
 use mathlib.Core.Path.{_≡_}
 use mathlib.Core.Bool.{Bool, true, false, _&&_}
@@ -7,12 +7,12 @@ use mathlib.Core.List.{List, [], _∷_, _++_}
 use lib.Dec.{eqb}
 use lib.ListN.{length, take, drop, getD}
 use Rattle.vpg.specs.declared.Token.{Token}
-use Rattle.vpg.specs.Grammar.{Rules}
+use Rattle.vpg.specs.believed.Grammar.{Rules}
 use Rattle.vpg.specs.Extremes.{Least}
-use Rattle.vpg.specs.Listing.{Answer, written, no-further, refused}
+use Rattle.listing_model.specs.believed.Listing.{Answer, written, no-further, refused}
 use Rattle.vpg.specs.Runs.{State}
 use Rattle.vpg.specs.Steps.{left}
-use Rattle.masks.specs.Walk.{Run, testAt}
+use Rattle.level_theory.specs.Walk.{Run, testAt}
 use Rattle.tables.specs.Table.{ruleIn, rulesIn}
 use Rattle.next_run.specs.declared.Found.{Found}
 use Rattle.next_run.specs.declared.NextAnswer.{NextAnswer}

@@ -3,14 +3,14 @@ ghost use mathlib.Core.Path.{_≡_};
 ghost use mathlib.Core.List.{[]};
 ghost use Prim.Native.Nat.{suc, _+_, _<_, _≤_};
 ghost use lib.ListN.{length, drop, getD, set};
-ghost use Rattle.vpg.specs.Listing.{next};
-ghost use Rattle.vpg.specs.Calls.{callOn, overEntries};
-ghost use Rattle.masks.specs.Masks.{masks, Fits};
-ghost use Rattle.masks.specs.Pending.{pendingAt, dueAt};
-ghost use Rattle.masks.specs.Walk.{inner, later};
+ghost use Rattle.listing_model.specs.believed.Listing.{next};
+ghost use Rattle.listing_model.specs.Calls.{callOn, overEntries};
+ghost use Rattle.level_theory.specs.Masks.{masks, Fits};
+ghost use Rattle.level_theory.specs.Pending.{pendingAt, dueAt};
+ghost use Rattle.level_theory.specs.Walk.{inner, later};
 ghost use Rattle.tables.specs.Table.{ruleIn, rulesIn};
 ghost use Rattle.tables.specs.Ready.{grammarIn};
-ghost use Rattle.history_file.specs.HistoryFile.{tokensOf};
+ghost use Rattle.history_file.specs.believed.HistoryFile.{tokensOf};
 ghost use Rattle.levels.specs.Levels.{Setting};
 ghost use Rattle.next_run.specs.Next.{LastPlace, Rewritten, nextSaid};
 
@@ -103,7 +103,7 @@ pub fn next(
     ensures { λ r. ⌜ (nextSaid r, now (buf .exit)) ≡ callOn (overEntries (grammarIn (now (table .entry)) count start) (tokensOf (now (w .entry)))) next (now (buf .entry)) ⌝ }
 {
     if bits::has(mask[0], start as usize) {
-        let walked = walk::walk(table, count, start, w, m, mask, buf);
+        let walked = replay::walk(table, count, start, w, m, mask, buf);
         if walked.ok {
             let at = walked.at;
             let found = last_place(table, count, w, m, mask, &at, buf);

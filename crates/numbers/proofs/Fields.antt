@@ -1,5 +1,4 @@
 -- What a caller learns of a number that was read within its range, and that a number within its range is read.
--- Assumes nothing.
 use Prim.Native.Nat.{ℕ, _+_, _<_, _≤_}
 use mathlib.Core.Path.{_≡_}
 use mathlib.Core.Logic.{_≢_}
@@ -10,7 +9,7 @@ use Rattle.numbers.specs.declared.NumberRead.{NumberRead}
 use Rattle.numbers.specs.declared.NumberRead.the-variants.{Number, Refused as NumberRefused}
 use Rattle.numbers.specs.declared.FieldRead.{FieldRead}
 use Rattle.numbers.specs.declared.FieldRead.the-variants.{Field, Refused as FieldRefused}
-use Rattle.numbers.specs.Field.{limited, fieldAt, positive, countAt}
+use Rattle.numbers.specs.believed.Field.{limited, fieldAt, positive, countAt}
 use Rattle.numbers.proofs.Picks.{picked-first, picked-second}
 
 apart : {e n p : ℕ} → FieldRefused e ≢ Field n p

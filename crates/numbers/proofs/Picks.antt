@@ -1,9 +1,8 @@
 -- What a test was, where what it picked is known.
--- Assumes nothing.
 use mathlib.Core.Path.{_≡_, refl}
 use mathlib.Core.Logic.{_≢_}
 use mathlib.Core.Bool.{Bool, true, false}
-use Rattle.numbers.specs.Number.{pick}
+use Rattle.numbers.specs.believed.Number.{pick}
 
 pub picked-first : {A : Type 0} (b : Bool) (x y : A) {z : A} → y ≢ z → pick b x y ≡ z → (b ≡ true) × (x ≡ z)
 picked-first true x y other h = (refl, h)

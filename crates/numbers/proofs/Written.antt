@@ -1,5 +1,4 @@
 -- A number is read from real bytes exactly where its shortest form stands, and a file holds numbers exactly where it is their writing.
--- Assumes nothing.
 use Prim.Native.Nat.{ℕ, zero, suc, _+_, _-_, _*_, _/_, _%_, _<_, _≤_}
 use mathlib.Core.Path.{_≡_, refl, sym, ap, _∙_}
 use mathlib.Core.Logic.{_↔_, _≢_}
@@ -12,7 +11,7 @@ use lib.ListN.{length, getD, drop, length-append, length-drop, drop-of-length-le
 use lib.Seq.{drop-cons, drop-drop, drop-append-seam}
 use borrow.Author.Tests.{ltb-true, ltb-false, lt-ltb, le-ltb, eqb-false, ne-eqb}
 use Rattle.numbers.specs.declared.NumberRead.the-variants.{Number, Refused}
-use Rattle.numbers.specs.Number.{pick, twoBytes, numberAt, bytes}
+use Rattle.numbers.specs.believed.Number.{pick, twoBytes, numberAt, bytes}
 use Rattle.numbers.specs.Written.{AllBelow, shortest, written, NumbersAt, none, one, Holds}
 use Rattle.numbers.proofs.Picks.{picked-first, picked-second}
 

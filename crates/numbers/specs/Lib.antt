@@ -1,4 +1,3 @@
-pub mod Field
-pub mod Number
+pub mod believed
 pub mod Refusals
 pub mod Written

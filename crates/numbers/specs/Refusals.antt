@@ -1,5 +1,4 @@
 -- The number of a refusal, out of what a reader answers; 0 where there is none. It serves to pass refusals up.
--- Assumes nothing.
 use Prim.Native.Nat.{ℕ}
 use Rattle.numbers.specs.declared.NumberRead.{NumberRead}
 use Rattle.numbers.specs.declared.NumberRead.the-variants.{Number, Refused as NumberRefused}

@@ -1,5 +1,4 @@
 -- How numbers are written as bytes, and what it is that numbers stand in a file (document 01, "The two files").
--- Assumes nothing.
 use Prim.Native.Nat.{ℕ, _+_, _<_, _/_, _%_}
 use mathlib.Core.Path.{_≡_}
 use mathlib.Core.Bool.{false}
@@ -7,7 +6,7 @@ use mathlib.Core.List.{List, [], _∷_, _++_}
 use lib.Dec.{ltb}
 use Rattle.numbers.specs.declared.NumberRead.{NumberRead}
 use Rattle.numbers.specs.declared.NumberRead.the-variants.{Number}
-use Rattle.numbers.specs.Number.{pick, Source}
+use Rattle.numbers.specs.believed.Number.{pick, Source}
 
 -- all numbers of the list are below the limit
 abbrev pub AllBelow : ℕ → List ℕ → Type 0

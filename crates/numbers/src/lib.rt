@@ -1,9 +1,9 @@
 // Bytes to numbers: one number at a place of a file, and a number that must stay below a limit.
 ghost use mathlib.Core.Path.{_≡_};
 ghost use Prim.Native.Nat.{_≤_};
-ghost use Rattle.numbers.specs.Number.{numberAt};
+ghost use Rattle.numbers.specs.believed.Number.{numberAt};
 ghost use Rattle.numbers.specs.Refusals.{refusalOfNumber, refusalOfField};
-ghost use Rattle.numbers.specs.Field.{fieldAt, countAt};
+ghost use Rattle.numbers.specs.believed.Field.{fieldAt, countAt};
 
 // What reading a number finds: the number and the place after it, or document 01's number of the refusal.
 pub enum NumberRead {

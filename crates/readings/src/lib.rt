@@ -6,13 +6,13 @@ ghost use mathlib.Core.Path.{_≡_};
 ghost use mathlib.Core.List.{[]};
 ghost use Prim.Native.Nat.{_<_};
 ghost use lib.ListN.{length};
-ghost use Rattle.vpg.specs.Listing.{first, next};
-ghost use Rattle.vpg.specs.Calls.{callOn, overEntries};
-ghost use Rattle.masks.specs.Pending.{pendingAt};
+ghost use Rattle.listing_model.specs.believed.Listing.{first, next};
+ghost use Rattle.listing_model.specs.Calls.{callOn, overEntries};
+ghost use Rattle.level_theory.specs.Pending.{pendingAt};
 ghost use Rattle.tables.specs.Ready.{Ready, grammarIn};
-ghost use Rattle.history_file.specs.HistoryFile.{tokensOf};
+ghost use Rattle.history_file.specs.believed.HistoryFile.{tokensOf};
 ghost use Rattle.history_file.specs.HistoryTokens.{Tokens};
-ghost use Rattle.readings.specs.Answers.{said, subject};
+ghost use Rattle.readings.specs.believed.Answers.{said, subject};
 
 // What first reading and next reading answer: a reading was written, there is none, there is no further one, or document 01's number
 // of the refusal.

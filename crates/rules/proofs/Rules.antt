@@ -1,5 +1,4 @@
 -- A rule is read exactly where its numbers stand and are within their ranges.
--- Assumes nothing.
 use Prim.Native.Nat.{ℕ, _<_}
 use mathlib.Core.Path.{_≡_, refl}
 use mathlib.Core.Logic.{_↔_}
@@ -12,8 +11,8 @@ use Rattle.numbers.specs.declared.NumberRead.{NumberRead}
 use Rattle.numbers.specs.declared.NumberRead.the-variants.{Number}
 use Rattle.numbers.specs.declared.FieldRead.{FieldRead}
 use Rattle.numbers.specs.declared.FieldRead.the-variants.{Field, Refused as FieldRefused}
-use Rattle.numbers.specs.Number.{pick}
-use Rattle.numbers.specs.Field.{fieldAt}
+use Rattle.numbers.specs.believed.Number.{pick}
+use Rattle.numbers.specs.believed.Field.{fieldAt}
 use Rattle.numbers.specs.Written.{NumbersAt, none, one}
 use Rattle.numbers.proofs.Fields.{field-read, field-reads}
 use Rattle.numbers.proofs.Standing.{none-left, one-left}
@@ -22,7 +21,7 @@ use Rattle.rules.specs.declared.PairRead.{PairRead}
 use Rattle.rules.specs.declared.PairRead.the-variants.{Pair, Refused as PairRefused}
 use Rattle.rules.specs.declared.RuleRead.{RuleRead}
 use Rattle.rules.specs.declared.RuleRead.the-variants.{Read}
-use Rattle.rules.specs.Rule.{names, forms, first, second, pairAt, after, stepAt, bodyAt, ruleAt}
+use Rattle.rules.specs.believed.Rule.{names, forms, first, second, pairAt, after, stepAt, bodyAt, ruleAt}
 use Rattle.rules.specs.RuleNumbers.{ruleNumbers, Fits}
 
 first-read : (f : FieldRead) (rest : ℕ → ℕ → PairRead) {a b next : ℕ} → first f rest ≡ Pair a b next → (m p : ℕ) × (f ≡ Field m p) × (rest m p ≡ Pair a b next)

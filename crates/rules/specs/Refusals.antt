@@ -1,5 +1,4 @@
 -- The number of a refusal, out of what a reader answers; 0 where there is none. It serves to pass refusals up.
--- Assumes nothing.
 use Prim.Native.Nat.{ℕ}
 use Rattle.rules.specs.declared.PairRead.{PairRead}
 use Rattle.rules.specs.declared.PairRead.the-variants.{Pair, Refused as PairRefused}

@@ -1,9 +1,8 @@
 -- The numbers of a rule in a grammar file, and their ranges (document 01, "The two files" and refusals 6 and 7).
--- Assumes nothing.
 use Prim.Native.Nat.{ℕ, _<_}
 use mathlib.Core.List.{List, [], _∷_}
 use Rattle.vpg.specs.declared.Rule.{Rule}
-use Rattle.rules.specs.Rule.{names}
+use Rattle.rules.specs.believed.Rule.{names}
 
 -- "each rule: its form, then L; or L c L1; or L a L1 b L2"
 abbrev pub ruleNumbers : Rule → List ℕ

@@ -6,9 +6,9 @@ use vpg::OpenName;
 use vpg::Rule;
 ghost use mathlib.Core.Path.{_≡_};
 ghost use Prim.Native.Nat.{_≤_};
-ghost use Rattle.numbers.specs.Number.{numberAt};
+ghost use Rattle.numbers.specs.believed.Number.{numberAt};
 ghost use Rattle.rules.specs.Refusals.{refusalOfPair, refusalOfRule};
-ghost use Rattle.rules.specs.Rule.{pairAt, stepAt, bodyAt, ruleAt};
+ghost use Rattle.rules.specs.believed.Rule.{pairAt, stepAt, bodyAt, ruleAt};
 
 // Names are below this (refusal 7).
 const NAMES: u32 = 64;

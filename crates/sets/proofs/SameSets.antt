@@ -1,17 +1,16 @@
 -- Sets and the doubtful count by the table and by the grammar are the same: they go by the rules and the start alone.
--- Assumes nothing.
 use Prim.Native.Nat.{ℕ, _+_, _*_}
 use mathlib.Core.Path.{_≡_, refl}
 use mathlib.Core.List.{List, _++_}
 use lib.ListN.{length, take, drop, length-map}
 use Rattle.vpg.specs.declared.Token.{Token}
-use Rattle.vpg.specs.Grammar.{Grammar}
-use Rattle.vpg.specs.Sets.{kept, doubtful, doubtfulCount, setWord, setWords}
+use Rattle.vpg.specs.believed.Grammar.{Grammar}
+use Rattle.sets_theory.specs.believed.Sets.{kept, doubtful, doubtfulCount, setWord, setWords}
 use Rattle.tables.specs.Ready.{grammarIn}
-use Rattle.history_file.specs.HistoryFile.{tokenOf, tokensOf}
+use Rattle.history_file.specs.believed.HistoryFile.{tokenOf, tokensOf}
 use Rattle.files.specs.declared.FilesRead.{FilesRead}
-use Rattle.frame.proofs.Passed.{Passed}
-use Rattle.sets.specs.Sets.{wordsFor}
+use Rattle.service.proofs.Passed.{Passed}
+use Rattle.sets.specs.believed.Sets.{wordsFor}
 
 words-parts : (a : ℕ) (g : Grammar) (w : List Token) → setWords (record { nonterminals = a; start = g .start; rules = g .rules }) w ≡ setWords g w
 unfolding kept setWord setWords

@@ -4,12 +4,12 @@ ghost use mathlib.Core.Path.{_≡_};
 ghost use mathlib.Core.List.{[], _++_};
 ghost use Prim.Native.Nat.{_+_, _*_, _<_, _≤_};
 ghost use lib.ListN.{length, drop};
-ghost use Rattle.vpg.specs.Sets.{doubtfulCount, setWords};
-ghost use Rattle.masks.specs.Pending.{pendingAt};
+ghost use Rattle.sets_theory.specs.believed.Sets.{doubtfulCount, setWords};
+ghost use Rattle.level_theory.specs.Pending.{pendingAt};
 ghost use Rattle.tables.specs.Ready.{Ready, grammarIn};
-ghost use Rattle.history_file.specs.HistoryFile.{tokensOf};
+ghost use Rattle.history_file.specs.believed.HistoryFile.{tokensOf};
 ghost use Rattle.history_file.specs.HistoryTokens.{Tokens};
-ghost use Rattle.sets.specs.Sets.{setsSaid, setsDue, countSaid, countDue};
+ghost use Rattle.sets.specs.believed.Sets.{setsSaid, setsDue, countSaid, countDue};
 
 // The words were written, or document 01's number of the refusal.
 pub enum SetsAnswer {
@@ -31,7 +31,7 @@ fn sets_on(table: &[u16; 768], count: usize, start: u16, w: &[u32], words: &mut 
 {
     let m = levels::closes(w);
     let mask = levels::masks(table, count, w, &m);
-    kept::sets(table, count, start, w, &m, &mask, words);
+    sets_core::sets(table, count, start, w, &m, &mask, words);
 }
 
 fn doubtful_on(table: &[u16; 768], count: usize, start: u16, w: &[u32]) -> u32
@@ -42,7 +42,7 @@ fn doubtful_on(table: &[u16; 768], count: usize, start: u16, w: &[u32]) -> u32
 {
     let m = levels::closes(w);
     let mask = levels::masks(table, count, w, &m);
-    kept::doubtful(table, count, start, w, &m, &mask)
+    sets_core::doubtful(table, count, start, w, &m, &mask)
 }
 
 // Writes four words for each position: the set of rules that stand there in some reading.

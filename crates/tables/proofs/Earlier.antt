@@ -1,6 +1,5 @@
 -- The test for a repeated rule says what it should: two rules pass it where they are one, and a rule is found where it is in the list
 -- (document 01, refusal 8: "a rule equal in form and all fields to an earlier rule").
--- Assumes nothing.
 use Prim.Native.Nat.{ℕ, zero, suc, _-_, _<_}
 use mathlib.Core.Path.{_≡_, refl, sym, ap, _∙_}
 use mathlib.Core.Logic.{_↔_, _⊎_, inl, inr}

@@ -1,5 +1,4 @@
 -- What a table of numbers says of the rules that were written into it.
--- Assumes nothing.
 use Prim.Native.Nat.{ℕ, zero, suc, _+_, _*_, _<_, _≤_}
 use mathlib.Core.Path.{_≡_, refl, sym, ap, _∙_}
 use mathlib.Core.Logic.{⊎-elim}
@@ -15,7 +14,7 @@ use lib.ListN.{length, getD, getElem?, set, replicate, length-set, length-append
 use lib.Seq.{getD-set-same, getD-set-other, ext-getD}
 use Rattle.vpg.specs.declared.Rule.{Rule}
 use Rattle.vpg.specs.Steps.{left}
-use Rattle.vpg.proofs.Basics.{at-left, at-below}
+use Rattle.laws.proofs.Basics.{at-left, at-below}
 use Rattle.tables.specs.declared.Six.{Six}
 use Rattle.tables.specs.Ready.{Below}
 use Rattle.tables.specs.Table.{sixOf, sixIn, either, ruleFrom, ruleIn, rulesIn, putSix, fill, tableOf}

@@ -1,9 +1,8 @@
 -- What the layers above may take for granted of a table of rules.
--- Assumes nothing.
 use Prim.Native.Nat.{ℕ, _<_, _≤_}
 use mathlib.Core.List.{List}
 use Rattle.vpg.specs.declared.Rule.{Rule}
-use Rattle.vpg.specs.Grammar.{Grammar}
+use Rattle.vpg.specs.believed.Grammar.{Grammar}
 use Rattle.tables.specs.Table.{ruleIn, rulesIn}
 
 -- every nonterminal of the rule is below n

@@ -1,5 +1,4 @@
 -- A table of numbers, six to a rule: the form, the fields in file order, and zeros.
--- Assumes nothing.
 use Prim.Native.Nat.{ℕ, zero, suc, _+_, _*_}
 use mathlib.Core.List.{List, [], _∷_, _++_}
 use mathlib.Core.Bool.{Bool, true, false, _&&_, _||_}

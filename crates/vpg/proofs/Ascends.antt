@@ -1,5 +1,4 @@
 -- `entries` stand in strictly ascending order, so none of them stands twice.
--- Assumes nothing.
 use Prim.Native.Nat.{ℕ, suc, _+_}
 use native.Mathlib.Omega.{arith}
 use mathlib.Core.Path.{refl}
@@ -9,8 +8,8 @@ use mathlib.Core.List.{List, [], _∷_, _++_, map, List·Memᴰ, List·Memᴰ·h
 use mathlib.Core.Option.{Option, none, some}
 use Rattle.vpg.specs.declared.Rule.{Rule}
 use Rattle.vpg.specs.declared.Token.{Token}
-use Rattle.vpg.specs.Grammar.{Rules, Grammar}
-use Rattle.vpg.specs.Order.{Before, Ascending}
+use Rattle.vpg.specs.believed.Grammar.{Rules, Grammar}
+use Rattle.vpg.specs.believed.Order.{Before, Ascending}
 use Rattle.vpg.specs.Runs.{State, move, ends, collect, once, follow, runs, entries}
 use Rattle.vpg.proofs.Take.{hit}
 

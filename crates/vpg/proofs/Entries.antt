@@ -1,5 +1,4 @@
 -- What `entries` is: the only ascending list of the readings, each of one number more than there are tokens, one for each derivation tree.
--- Assumes nothing.
 use Prim.Native.Nat.{ℕ, suc}
 use native.Mathlib.Omega.{arith}
 use mathlib.Core.Path.{_≡_, refl, sym, _∙_, ap}
@@ -7,8 +6,8 @@ use mathlib.Core.Logic.{_↔_}
 use mathlib.Core.List.{List, List·Memᴰ}
 use lib.ListN.{length, length-append}
 use Rattle.vpg.specs.declared.Token.{Token}
-use Rattle.vpg.specs.Grammar.{Rules, Grammar, Tree, code, Derives, by-empty, by-mark, by-step, Reading}
-use Rattle.vpg.specs.Order.{Ascending}
+use Rattle.vpg.specs.believed.Grammar.{Rules, Grammar, Tree, code, Derives, by-empty, by-mark, by-step, Reading}
+use Rattle.vpg.specs.believed.Order.{Ascending}
 use Rattle.vpg.specs.Runs.{entries}
 use Rattle.vpg.proofs.Ascends.{entries-ascending}
 use Rattle.vpg.proofs.Inject.{code-injective}

@@ -1,11 +1,10 @@
 -- A code has one tree: trees of one grammar with equal codes are equal, and derive equal tokens from equal nonterminals.
--- Assumes nothing.
 use Prim.Native.Nat.{ℕ}
 use native.Mathlib.Omega.{arith}
 use mathlib.Core.Path.{_≡_}
 use mathlib.Core.List.{List, [], _++_, append-assoc}
 use Rattle.vpg.specs.declared.Token.{Token}
-use Rattle.vpg.specs.Grammar.{Rules, Tree, code, Derives, by-empty, by-mark, by-step}
+use Rattle.vpg.specs.believed.Grammar.{Rules, Tree, code, Derives, by-empty, by-mark, by-step}
 
 record Same (L L′ : ℕ) (v v′ : List Token) (t t′ : Tree) (f f′ : List ℕ) : Type 0 where
   nonterminals : L ≡ L′

@@ -1,16 +1,8 @@
-pub mod Any
 pub mod Ascends
-pub mod Basics
-pub mod Calls
 pub mod Entries
-pub mod Find
 pub mod Inject
-pub mod Listing
 pub mod Order
-pub mod PairExample
-pub mod Pairs
 pub mod Positions
-pub mod Sets
 pub mod Sound
 pub mod Steps
 pub mod Take

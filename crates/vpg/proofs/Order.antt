@@ -1,12 +1,11 @@
 -- The order of readings is a strict total order, and an ascending list is known by its members.
--- Assumes nothing.
 use Prim.Native.Nat.{ℕ, _<_}
 use native.Mathlib.Omega.{arith}
 use mathlib.Core.Path.{_≡_, refl, sym, _∙_, ap₂}
 use mathlib.Core.Logic.{_⊎_, inl, inr, _↔_}
 use mathlib.Core.List.{List, [], _∷_, List·Memᴰ, List·Memᴰ·head, List·Memᴰ·tail, List·Memᴰ·not-nil, List·Memᴰ·cases-cons, Memᴰ·cast}
-use Rattle.vpg.specs.Order.{Before, Ascending}
-use Rattle.vpg.proofs.Basics.{trichotomy}
+use Rattle.vpg.specs.believed.Order.{Before, Ascending}
+use Rattle.laws.proofs.Basics.{trichotomy}
 
 pub before-irreflexive : (e : List ℕ) → Before e e → ⊥
 before-irreflexive [] h = h

@@ -1,5 +1,4 @@
 -- What stands at each position of a derivation's code, by the kind of token (document 01, "Readings").
--- Assumes nothing.
 use Prim.Native.Nat.{ℕ, zero, suc, _+_}
 use native.Mathlib.Nat.{zero-add, suc-add}
 use native.Mathlib.Omega.{arith}
@@ -13,9 +12,9 @@ use Rattle.vpg.specs.declared.OpenName.{OpenName}
 use Rattle.vpg.specs.declared.CloseName.{CloseName}
 use Rattle.vpg.specs.declared.Rule.{Rule}
 use Rattle.vpg.specs.declared.Token.{Token}
-use Rattle.vpg.specs.Grammar.{Rules, Tree, code, Derives, by-empty, by-mark, by-step}
+use Rattle.vpg.specs.believed.Grammar.{Rules, Tree, code, Derives, by-empty, by-mark, by-step}
 use Rattle.vpg.specs.Positions.{final, MarkAt, StepAt}
-use Rattle.vpg.proofs.Basics.{at-left, at-right, at-cases, drop-left}
+use Rattle.laws.proofs.Basics.{at-left, at-right, at-cases, drop-left}
 use Rattle.vpg.proofs.Entries.{code-length}
 
 -- ── what stands at a position, moved into a longer list ──

@@ -1,5 +1,4 @@
 -- `entries` has the readings and nothing else.
--- Assumes nothing.
 use Prim.Native.Nat.{ℕ}
 use mathlib.Core.Path.{_≡_, refl}
 use mathlib.Core.Logic.{_↔_}
@@ -8,7 +7,7 @@ use mathlib.Core.Option.{some}
 use lib.ListN.{getElem?}
 use Rattle.vpg.specs.declared.Rule.{Rule}
 use Rattle.vpg.specs.declared.Token.{Token}
-use Rattle.vpg.specs.Grammar.{Rules, Grammar, Tree, leaf, mark, step, code, Derives, by-empty, by-mark, by-step, Reading}
+use Rattle.vpg.specs.believed.Grammar.{Rules, Grammar, Tree, leaf, mark, step, code, Derives, by-empty, by-mark, by-step, Reading}
 use Rattle.vpg.specs.Runs.{Stack, runs, entries}
 use Rattle.vpg.proofs.Take.{Move, taken, take, ended, end}
 use Rattle.vpg.proofs.Take

@@ -1,5 +1,4 @@
 -- A nonterminal derives the tokens by a tree exactly when single steps lead from it to them.
--- Assumes nothing.
 use Prim.Native.Nat.{ℕ}
 use mathlib.Core.Path.{_≡_, refl}
 use mathlib.Core.Logic.{_↔_}
@@ -8,7 +7,7 @@ use mathlib.Core.Option.{some}
 use lib.ListN.{getElem?}
 use Rattle.vpg.specs.declared.Rule.{Rule}
 use Rattle.vpg.specs.declared.Token.{Token}
-use Rattle.vpg.specs.Grammar.{Rules, Grammar, Tree, code, Derives, by-empty, by-mark, by-step, Reading}
+use Rattle.vpg.specs.believed.Grammar.{Rules, Grammar, Tree, code, Derives, by-empty, by-mark, by-step, Reading}
 use Rattle.vpg.specs.Steps.{Symbol, terminal, nonterminal, left, right, OneStep, replace, Steps, no-step, and-then}
 
 -- a tree for each nonterminal of a string

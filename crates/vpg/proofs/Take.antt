@@ -1,5 +1,4 @@
 -- What a member of `runs` begins with: a rule, by which the tokens end or one token is taken.
--- Assumes nothing.
 use Prim.Native.Nat.{ℕ, zero, suc, _+_}
 use native.Mathlib.Nat.{zero-add, suc-add, add-suc, add-zero}
 use mathlib.Core.Path.{_≡_, refl, sym, _∙_, ap, subst}
@@ -15,9 +14,9 @@ use Rattle.vpg.specs.declared.OpenName.{OpenName}
 use Rattle.vpg.specs.declared.CloseName.{CloseName}
 use Rattle.vpg.specs.declared.Rule.{Rule}
 use Rattle.vpg.specs.declared.Token.{Token}
-use Rattle.vpg.specs.Grammar.{Rules}
+use Rattle.vpg.specs.believed.Grammar.{Rules}
 use Rattle.vpg.specs.Runs.{Stack, State, only, move, ends, collect, once, follow, runs}
-use Rattle.vpg.proofs.Basics.{and-left, and-right}
+use Rattle.laws.proofs.Basics.{and-left, and-right}
 
 -- ── collect ──
 

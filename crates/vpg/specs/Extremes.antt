@@ -1,10 +1,9 @@
 -- The least list with a property, the next one after a given list, and the last: what first reading and next reading look for.
--- Assumes nothing.
 use Prim.Native.Nat.{ℕ}
 use mathlib.Core.Path.{_≡_}
 use mathlib.Core.Logic.{_⊎_}
 use mathlib.Core.List.{List}
-use Rattle.vpg.specs.Order.{Before}
+use Rattle.vpg.specs.believed.Order.{Before}
 
 -- e is the least list of which P holds
 pub record Least (P : List ℕ → Type 0) (e : List ℕ) : Type 0 where

@@ -1,13 +1,5 @@
-pub mod Any
-pub mod Calls
-pub mod Counted
-pub mod Depth
+pub mod believed
 pub mod Extremes
-pub mod Grammar
-pub mod Listing
-pub mod Order
-pub mod Pairs
 pub mod Positions
 pub mod Runs
-pub mod Sets
 pub mod Steps

@@ -1,5 +1,4 @@
 -- What stands at each position of a reading (document 01, "Readings"): g are the rules, w the tokens, e the numbers, one for each position.
--- Assumes nothing.
 use Prim.Native.Nat.{ℕ, _+_}
 use mathlib.Core.Path.{_≡_}
 use mathlib.Core.List.{List, _∷_, _++_}
@@ -10,7 +9,7 @@ use Rattle.vpg.specs.declared.OpenName.{OpenName}
 use Rattle.vpg.specs.declared.CloseName.{CloseName}
 use Rattle.vpg.specs.declared.Rule.{Rule}
 use Rattle.vpg.specs.declared.Token.{Token}
-use Rattle.vpg.specs.Grammar.{Rules, Tree, leaf, mark, step, Derives}
+use Rattle.vpg.specs.believed.Grammar.{Rules, Tree, leaf, mark, step, Derives}
 
 -- the number of the rule that ends what a tree derives: the last along the tree's level
 abbrev pub final : Tree → ℕ

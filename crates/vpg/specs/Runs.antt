@@ -1,6 +1,5 @@
 -- All readings of a token list in ascending order, by a search from left to right. Nobody has to believe this:
 -- `entries-readings`, `entries-ascending` and `entries-only` of proofs/ say what `entries` is.
--- Assumes nothing.
 use Prim.Native.Nat.{ℕ, suc}
 use mathlib.Core.Bool.{Bool, true, false, _&&_}
 use mathlib.Core.List.{List, [], _∷_, _++_, map}
@@ -9,7 +8,7 @@ use lib.Dec.{eqb}
 use Rattle.vpg.specs.declared.CloseName.{CloseName}
 use Rattle.vpg.specs.declared.Rule.{Rule}
 use Rattle.vpg.specs.declared.Token.{Token}
-use Rattle.vpg.specs.Grammar.{Rules, Grammar}
+use Rattle.vpg.specs.believed.Grammar.{Rules, Grammar}
 
 -- what is due once the current nonterminal is done: for each open step, innermost first, its close and the nonterminal after it
 abbrev pub Stack : Type 0

@@ -1,5 +1,4 @@
 -- `with`: the shifted 1 loses no digit, since b is below the word's width.
--- Assumes nothing.
 use borrow.Author.Needs.{needs}
 use Prim.Native.Nat.{_<_}
 use mathlib.Core.Path.{_∙_, ap}

@@ -1,8 +1,7 @@
 -- `calls::call` meets its contract.
--- Assumes nothing.
 use mathlib.Core.Path.{ap}
 use borrow.Author.Tests.{eq-eqb, ne-eqb}
-use Rattle.calls.specs.CallList.{coded}
+use Rattle.calls.specs.believed.CallList.{coded}
 use borrow.Author.Needs.{needs}
 use Rattle.calls.proofs.call.Statement.{statement}
 use Rattle.calls.proofs.call.Tie as tie

@@ -1,10 +1,9 @@
 -- `calls::run_calls` meets its contract.
--- Assumes nothing.
 use borrow.Author.Needs.{needs}
 use Prim.Native.Nat.{_-_}
 use native.Mathlib.Omega.{arith}
 use lib.ListN.{length}
-use Rattle.readings.specs.Answers.{subject}
+use Rattle.readings.specs.believed.Answers.{subject}
 use Rattle.calls.proofs.Lists.{Calling, calling-start, calling-next, calling-end, calls-short}
 use Rattle.calls.proofs.run_calls.Statement.{statement}
 use Rattle.calls.proofs.run_calls.Tie as tie

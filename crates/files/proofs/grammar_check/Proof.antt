@@ -1,7 +1,6 @@
 -- `files::grammar_check` meets its contract.
--- Assumes nothing.
 use mathlib.Core.Path.{refl}
-use Rattle.grammar_file.specs.GrammarFile.{grammarOf}
+use Rattle.grammar_file.specs.believed.GrammarFile.{grammarOf}
 use Rattle.grammar_file.proofs.Answers.{grammar-accepted, grammar-refused}
 use borrow.Author.Needs.{needs}
 use Rattle.files.proofs.grammar_check.Statement.{statement}

@@ -1,6 +1,5 @@
 -- `files::history_check` meets its contract.
--- Assumes nothing.
-use Rattle.history_file.specs.HistoryFile.{historyOf}
+use Rattle.history_file.specs.believed.HistoryFile.{historyOf}
 use Rattle.history_file.proofs.Answers.{history-accepted, history-refused}
 use borrow.Author.Needs.{needs}
 use Rattle.files.proofs.history_check.Statement.{statement}

@@ -1,7 +1,6 @@
 -- `files::read_files` meets its contract.
--- Assumes nothing.
-use Rattle.grammar_file.specs.GrammarFile.{grammarOf}
-use Rattle.history_file.specs.HistoryFile.{historyOf}
+use Rattle.grammar_file.specs.believed.GrammarFile.{grammarOf}
+use Rattle.history_file.specs.believed.HistoryFile.{historyOf}
 use Rattle.grammar_file.proofs.Answers.{grammar-accepted, grammar-refused}
 use Rattle.history_file.proofs.Answers.{history-accepted, history-refused}
 use borrow.Author.Needs.{needs}

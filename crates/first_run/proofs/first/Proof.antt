@@ -1,10 +1,9 @@
 -- `first_run::first` meets its contract.
--- Assumes nothing.
 use mathlib.Core.Path.{sym, _∙_}
 use native.Mathlib.Omega.{arith}
 use lib.ListN.{replicate}
 use Rattle.tables.specs.Ready.{grammarIn}
-use Rattle.history_file.specs.HistoryFile.{tokensOf}
+use Rattle.history_file.specs.believed.HistoryFile.{tokensOf}
 use Rattle.first_run.proofs.Whole.{state-fits, first-is, none-is}
 use borrow.Author.Needs.{needs}
 use Rattle.first_run.proofs.first.Statement.{statement}

@@ -1,12 +1,11 @@
 -- `first_run::inner_of`: the rules of forms 1 and 2 lead to the nonterminal that is their fourth number.
--- Assumes nothing.
 use Prim.Native.Nat.{ℕ}
 use mathlib.Core.Path.{_≡_, refl, sym}
 use mathlib.Core.Bool.{Bool, true, false}
 use borrow.Author.Tests.{eq-eqb, ne-eqb}
 use lib.Dec.{eqb}
 use Rattle.vpg.specs.declared.Rule.{Rule}
-use Rattle.masks.specs.Walk.{inner}
+use Rattle.level_theory.specs.Walk.{inner}
 use Rattle.tables.specs.declared.Six.{Six}
 use Rattle.tables.specs.Table.{either}
 use Rattle.first_run.proofs.inner_of.Statement.{statement}

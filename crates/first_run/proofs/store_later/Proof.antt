@@ -1,5 +1,4 @@
 -- `first_run::store_later`: the rules of form 2 have the nonterminal behind the close as their last number.
--- Assumes nothing.
 use borrow.Author.Needs.{needs}
 use borrow.Author.Tests.{eq-eqb, ne-eqb}
 use mathlib.Core.Path.{sym}

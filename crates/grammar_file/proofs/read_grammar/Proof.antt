@@ -1,5 +1,4 @@
 -- `grammar_file::read_grammar` meets its contract.
--- Assumes nothing.
 use mathlib.Core.Path.{refl}
 use Rattle.grammar_file.proofs.read_grammar.Statement.{statement}
 use Rattle.grammar_file.proofs.read_grammar.Tie as tie

@@ -1,8 +1,7 @@
 -- `grammar_file::read_into` meets its contract.
--- Assumes nothing.
 use mathlib.Core.Path.{sym, _∙_}
 use Rattle.numbers.proofs.Fields.{count-most}
-use Rattle.grammar_file.specs.GrammarFile.{grammarFrom}
+use Rattle.grammar_file.specs.believed.GrammarFile.{grammarFrom}
 use borrow.Author.Needs.{needs}
 use Rattle.grammar_file.proofs.read_into.Statement.{statement}
 use Rattle.grammar_file.proofs.read_into.Tie as tie

@@ -1,5 +1,4 @@
 -- `grammar_file::rules_at` meets its contract.
--- Assumes nothing.
 use borrow.Author.Needs.{needs}
 use Prim.Native.Nat.{_+_, _*_, _≤_, _-_}
 use mathlib.Core.Path.{_≡_, sym, ap, _∙_}
@@ -8,10 +7,10 @@ use borrow.Author.Tests.{le-ltb, lt-ltb}
 use native.Mathlib.Omega.{arith}
 use native.Mathlib.Nat.{sub-zero}
 use lib.ListN.{length}
-use Rattle.numbers.specs.Number.{bytes}
+use Rattle.numbers.specs.believed.Number.{bytes}
 use Rattle.tables.specs.Table.{rulesIn, tableOf, fill, putSix, sixOf}
 use Rattle.tables.proofs.Tables.{length-put, length-rules, rules-put, table-next}
-use Rattle.grammar_file.specs.GrammarFile.{rulesFrom}
+use Rattle.grammar_file.specs.believed.GrammarFile.{rulesFrom}
 use Rattle.grammar_file.proofs.Turns.{turn-refused, turn-seen, turn-next}
 use Rattle.grammar_file.proofs.rules_at.Statement.{statement}
 use Rattle.grammar_file.proofs.rules_at.Tie as tie

@@ -1,7 +1,6 @@
 -- `history_file::depth_after` meets its contract.
--- Assumes nothing.
 use borrow.Author.Tests.{eq-eqb, ne-eqb}
-use Rattle.history_file.specs.HistoryFile.{depthAfter}
+use Rattle.history_file.specs.believed.HistoryFile.{depthAfter}
 use borrow.Author.Needs.{needs}
 use Rattle.history_file.proofs.depth_after.Statement.{statement}
 use Rattle.history_file.proofs.depth_after.Tie as tie

@@ -1,9 +1,8 @@
 -- `history_file::read_history` meets its contract.
--- Assumes nothing.
 use mathlib.Core.Path.{sym, _∙_}
 use native.Mathlib.Omega.{arith}
 use Rattle.numbers.proofs.Fields.{field-read}
-use Rattle.history_file.specs.HistoryFile.{historyFrom}
+use Rattle.history_file.specs.believed.HistoryFile.{historyFrom}
 use borrow.Author.Needs.{needs}
 use Rattle.history_file.proofs.read_history.Statement.{statement}
 use Rattle.history_file.proofs.read_history.Tie as tie

@@ -1,6 +1,5 @@
 -- `history_file::token_at` meets its contract.
--- Assumes nothing.
-use Rattle.history_file.specs.HistoryFile.{tokenAt}
+use Rattle.history_file.specs.believed.HistoryFile.{tokenAt}
 use borrow.Author.Needs.{needs}
 use Rattle.history_file.proofs.token_at.Statement.{statement}
 use Rattle.history_file.proofs.token_at.Tie as tie

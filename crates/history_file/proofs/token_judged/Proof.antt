@@ -1,7 +1,6 @@
 -- `history_file::token_judged` meets its contract.
--- Assumes nothing.
 use borrow.Author.Tests.{le-leb, lt-leb, eq-eqb, ne-eqb}
-use Rattle.history_file.specs.HistoryFile.{tokenJudged}
+use Rattle.history_file.specs.believed.HistoryFile.{tokenJudged}
 use Rattle.history_file.proofs.token_judged.Statement.{statement}
 use Rattle.history_file.proofs.token_judged.Tie as tie
 

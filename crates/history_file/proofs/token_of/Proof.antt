@@ -1,6 +1,5 @@
 -- `history_file::token_of` meets its contract.
--- Assumes nothing.
-use Rattle.history_file.specs.HistoryFile.{tokenOf}
+use Rattle.history_file.specs.believed.HistoryFile.{tokenOf}
 use borrow.Author.Needs.{needs}
 use Rattle.history_file.proofs.token_of.Statement.{statement}
 use Rattle.history_file.proofs.token_of.Tie as tie

@@ -1,7 +1,6 @@
 -- `history_file::token_with` meets its contract.
--- Assumes nothing.
 use borrow.Author.Tests.{ne-eqb}
-use Rattle.history_file.specs.HistoryFile.{tokenWith}
+use Rattle.history_file.specs.believed.HistoryFile.{tokenWith}
 use Rattle.history_file.proofs.token_with.Statement.{statement}
 use Rattle.history_file.proofs.token_with.Tie as tie
 

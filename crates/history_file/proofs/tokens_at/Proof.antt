@@ -1,5 +1,4 @@
 -- `history_file::tokens_at` meets its contract.
--- Assumes nothing.
 use borrow.Author.Needs.{needs}
 use Prim.Native.Nat.{_≤_, _<_, _-_}
 use mathlib.Core.Path.{_≡_, refl, sym, _∙_}
@@ -8,8 +7,8 @@ use borrow.Author.Tests.{le-ltb, lt-ltb}
 use native.Mathlib.Omega.{arith}
 use native.Mathlib.Nat.{sub-zero}
 use lib.ListN.{length, take, length-set}
-use Rattle.numbers.specs.Number.{bytes}
-use Rattle.history_file.specs.HistoryFile.{tokensFrom}
+use Rattle.numbers.specs.believed.Number.{bytes}
+use Rattle.history_file.specs.believed.HistoryFile.{tokensFrom}
 use Rattle.history_file.proofs.Padded.{Cleared, cleared-next, front-next, front-length, front-padded}
 use Rattle.history_file.proofs.Tokens.{token-read, depth-most, turn-refused, turn-next}
 use Rattle.history_file.proofs.tokens_at.Statement.{statement}

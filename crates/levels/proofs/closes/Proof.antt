@@ -1,12 +1,11 @@
 -- `levels::closes` meets its contract.
--- Assumes nothing.
 use borrow.Author.Needs.{needs}
 use Prim.Native.Nat.{_-_, _≤_, _<_}
 use mathlib.Core.Path.{_≡_, _∙_}
 use native.Mathlib.Omega.{arith}
 use lib.ListN.{length, length-set, replicate}
-use Rattle.masks.specs.Pending.{pendingAt, closeOf}
-use Rattle.history_file.specs.HistoryFile.{tokensOf}
+use Rattle.level_theory.specs.Pending.{pendingAt, closeOf}
+use Rattle.history_file.specs.believed.HistoryFile.{tokensOf}
 use Rattle.levels.specs.Levels.{Matched}
 use Rattle.levels.proofs.Levels.{tokens-length, close-most, matched-end, top-end, top-turn, matched-turn}
 use Rattle.levels.proofs.closes.Statement.{statement}

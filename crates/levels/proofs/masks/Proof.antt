@@ -1,12 +1,11 @@
 -- `levels::masks` meets its contract.
--- Assumes nothing.
 use borrow.Author.Needs.{needs}
 use Prim.Native.Nat.{_+_, _-_, _≤_}
 use mathlib.Core.Path.{_≡_, refl, _∙_}
 use native.Mathlib.Omega.{arith}
 use lib.ListN.{length, length-set, replicate}
 use Rattle.tables.specs.Table.{rulesIn}
-use Rattle.history_file.specs.HistoryFile.{tokensOf}
+use Rattle.history_file.specs.believed.HistoryFile.{tokensOf}
 use Rattle.levels.specs.Levels.{Leveled}
 use Rattle.levels.proofs.Levels.{tokens-length, leveled-end, leveled-turn}
 use Rattle.levels.proofs.masks.Statement.{statement}

@@ -1,10 +1,9 @@
 -- `levels::place_at` meets its contract.
--- Assumes nothing.
 use Prim.Native.Nat.{_<_}
 use native.Mathlib.Omega.{arith}
 use native.Mathlib.Numerals.{add-one}
 use lib.ListN.{length}
-use Rattle.history_file.specs.HistoryFile.{tokensOf}
+use Rattle.history_file.specs.believed.HistoryFile.{tokensOf}
 use Rattle.levels.proofs.Levels.{tokens-length, stands-end, stands-closed, stands-open}
 use borrow.Author.Needs.{needs}
 use Rattle.levels.proofs.place_at.Statement.{statement}

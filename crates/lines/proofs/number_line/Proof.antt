@@ -1,5 +1,5 @@
 use mathlib.Core.List.{_++_}
-use Rattle.lines.specs.Text.{decimal}
+use Rattle.lines.specs.believed.Text.{decimal}
 use Rattle.lines.proofs.Laying.{laid-both, laid-then}
 use borrow.Author.Needs.{needs}
 use Rattle.lines.proofs.number_line.Statement.{statement}

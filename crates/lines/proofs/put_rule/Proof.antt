@@ -1,6 +1,6 @@
 use mathlib.Core.Path.{sym, _∙_}
 use mathlib.Core.List.{[], _∷_}
-use Rattle.lines.specs.Text.{decimal}
+use Rattle.lines.specs.believed.Text.{decimal}
 use Rattle.lines.proofs.Laying.{laid-both, laid-one}
 use borrow.Author.Needs.{needs}
 use Rattle.lines.proofs.put_rule.Statement.{statement}

@@ -3,7 +3,7 @@ use mathlib.Core.Path.{_≡_, refl}
 use mathlib.Core.List.{List, [], _∷_, _++_}
 use native.Mathlib.Omega.{arith}
 use borrow.Author.Needs.{needs}
-use Rattle.lines.specs.Text.{blank, decimal, readingText}
+use Rattle.lines.specs.believed.Text.{blank, decimal, readingText}
 use lib.ListN.{length}
 use Rattle.lines.proofs.Laying.{Laying, laying-start, laying-next, laying-end}
 use Rattle.lines.proofs.put_rules.Statement.{statement}

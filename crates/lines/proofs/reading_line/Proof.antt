@@ -1,5 +1,5 @@
 use mathlib.Core.List.{[], _∷_, _++_}
-use Rattle.lines.specs.Text.{colon, decimal, readingText}
+use Rattle.lines.specs.believed.Text.{colon, decimal, readingText}
 use Rattle.lines.proofs.Laying.{laid-both, laid-then}
 use borrow.Author.Needs.{needs}
 use Rattle.lines.proofs.reading_line.Statement.{statement}

@@ -1,5 +1,4 @@
 -- `listing::show_all` is safe and ends: the number of bytes passed over grows up to a bound, and nothing else has to hold from turn to turn.
--- Assumes nothing.
 use Prim.Native.Nat.{_-_}
 use native.Mathlib.Omega.{arith}
 use Rattle.listing.proofs.show_all.Statement.{statement}

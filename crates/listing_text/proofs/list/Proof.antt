@@ -1,6 +1,6 @@
 use borrow.Author.Needs.{needs}
 use Rattle.lines.proofs.Laying.{laid-window, window-counts}
-use Rattle.listing_text.specs.Listing.{listing}
+use Rattle.listing_text.specs.believed.Listing.{listing}
 use Rattle.listing_text.proofs.list.Statement.{statement}
 use Rattle.listing_text.proofs.list.Tie as tie
 

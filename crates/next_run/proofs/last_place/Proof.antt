@@ -1,11 +1,10 @@
 -- `next_run::last_place` meets its contract.
--- Assumes nothing.
 use borrow.Author.Needs.{needs}
 use Prim.Native.Nat.{suc, _+_, _-_, _≤_, _<_}
 use mathlib.Core.Path.{_≡_, sym, _∙_}
 use native.Mathlib.Omega.{arith}
 use lib.ListN.{length, getD}
-use Rattle.history_file.specs.HistoryFile.{tokensOf}
+use Rattle.history_file.specs.believed.HistoryFile.{tokensOf}
 use Rattle.levels.proofs.Levels.{tokens-length}
 use Rattle.next_run.specs.Next.{NoneFrom}
 use Rattle.next_run.proofs.Places.{NoneBetween, between-more, none-end, none-next, found-at}

@@ -1,10 +1,9 @@
 -- `next_run::next` meets its contract.
--- Assumes nothing.
 use mathlib.Core.Path.{sym, _∙_}
 use native.Mathlib.Omega.{arith}
 use Rattle.levels.proofs.Levels.{tokens-length}
 use Rattle.tables.specs.Ready.{grammarIn}
-use Rattle.history_file.specs.HistoryFile.{tokensOf}
+use Rattle.history_file.specs.believed.HistoryFile.{tokensOf}
 use Rattle.first_run.proofs.Whole.{start-fits}
 use Rattle.next_run.proofs.Successor.{none-refused, start-refused, no-further-is, rewrite-fits, written-is}
 use borrow.Author.Needs.{needs}

@@ -1,11 +1,10 @@
 -- `next_run::rewrite` meets its contract.
--- Assumes nothing.
 use mathlib.Core.Path.{_∙_}
 use native.Mathlib.Omega.{arith}
 use native.Mathlib.Numerals.{add-one}
 use lib.ListN.{length-set}
 use Rattle.tables.specs.Table.{ruleIn, rulesIn}
-use Rattle.history_file.specs.HistoryFile.{tokenOf, tokensOf}
+use Rattle.history_file.specs.believed.HistoryFile.{tokenOf, tokensOf}
 use Rattle.levels.proofs.Levels.{tokens-length, tokens-at}
 use Rattle.levels.proofs.Setting.{close-room}
 use Rattle.next_run.proofs.Rewriting.{rewritten-on, rewritten-end}

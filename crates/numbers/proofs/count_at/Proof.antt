@@ -1,8 +1,7 @@
 -- `numbers::count_at` meets its contract.
--- Assumes nothing.
 use borrow.Author.Needs.{needs}
 use borrow.Author.Tests.{eq-eqb, ne-eqb}
-use Rattle.numbers.specs.Field.{countAt}
+use Rattle.numbers.specs.believed.Field.{countAt}
 use Rattle.numbers.proofs.count_at.Statement.{statement}
 use Rattle.numbers.proofs.count_at.Tie as tie
 

@@ -1,8 +1,7 @@
 -- `numbers::field_at` meets its contract.
--- Assumes nothing.
 use borrow.Author.Needs.{needs}
 use borrow.Author.Tests.{le-ltb, lt-ltb}
-use Rattle.numbers.specs.Field.{fieldAt}
+use Rattle.numbers.specs.believed.Field.{fieldAt}
 use Rattle.numbers.proofs.field_at.Statement.{statement}
 use Rattle.numbers.proofs.field_at.Tie as tie
 

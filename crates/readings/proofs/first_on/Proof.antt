@@ -1,5 +1,4 @@
 -- `readings::first_on` meets its contract.
--- Assumes nothing.
 use borrow.Author.Needs.{needs}
 use Rattle.readings.proofs.first_on.Statement.{statement}
 use Rattle.readings.proofs.first_on.Tie as tie

@@ -1,5 +1,4 @@
 -- `readings::next_on` meets its contract.
--- Assumes nothing.
 use borrow.Author.Needs.{needs}
 use Rattle.readings.proofs.next_on.Statement.{statement}
 use Rattle.readings.proofs.next_on.Tie as tie

@@ -1,8 +1,7 @@
 -- `rules::body_at` meets its contract.
--- Assumes nothing.
 use borrow.Author.Needs.{needs}
 use borrow.Author.Tests.{eq-eqb, ne-eqb}
-use Rattle.rules.specs.Rule.{bodyAt}
+use Rattle.rules.specs.believed.Rule.{bodyAt}
 use Rattle.rules.proofs.body_at.Statement.{statement}
 use Rattle.rules.proofs.body_at.Tie as tie
 

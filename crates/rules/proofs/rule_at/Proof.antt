@@ -1,8 +1,7 @@
 -- `rules::rule_at` meets its contract.
--- Assumes nothing.
 use borrow.Author.Needs.{needs}
 use borrow.Author.Tests.{eq-eqb, ne-eqb}
-use Rattle.rules.specs.Rule.{ruleAt}
+use Rattle.rules.specs.believed.Rule.{ruleAt}
 use Rattle.rules.proofs.rule_at.Statement.{statement}
 use Rattle.rules.proofs.rule_at.Tie as tie
 

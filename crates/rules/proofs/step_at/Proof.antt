@@ -1,7 +1,6 @@
 -- `rules::step_at` meets its contract.
--- Assumes nothing.
 use borrow.Author.Needs.{needs}
-use Rattle.rules.specs.Rule.{stepAt}
+use Rattle.rules.specs.believed.Rule.{stepAt}
 use Rattle.rules.proofs.step_at.Statement.{statement}
 use Rattle.rules.proofs.step_at.Tie as tie
 

@@ -1,13 +1,12 @@
 -- `sets::doubtful_count` meets its contract.
--- Assumes nothing.
 use mathlib.Core.Path.{sym, _∙_, ap}
 use native.Mathlib.Omega.{arith}
 use lib.ListN.{length}
-use Rattle.vpg.specs.Sets.{doubtfulCount}
-use Rattle.frame.specs.Frame.{filesIn}
-use Rattle.frame.proofs.Passed.{files-refused, files-passed}
-use Rattle.frame.proofs.Served.{served-refused, served-on}
-use Rattle.sets.specs.Sets.{counted, refused}
+use Rattle.sets_theory.specs.believed.Sets.{doubtfulCount}
+use Rattle.service.specs.believed.Frame.{filesIn}
+use Rattle.service.proofs.Passed.{files-refused, files-passed}
+use Rattle.service.proofs.Served.{served-refused, served-on}
+use Rattle.sets.specs.believed.Sets.{counted, refused}
 use Rattle.sets.proofs.SameSets.{same-count}
 use borrow.Author.Needs.{needs}
 use Rattle.sets.proofs.doubtful_count.Statement.{statement}

@@ -1,15 +1,14 @@
 -- `sets::sets` meets its contract.
--- Assumes nothing.
 use Prim.Native.Nat.{ℕ, _+_}
 use mathlib.Core.Path.{sym, _∙_, ap}
 use mathlib.Core.List.{List, _++_}
 use native.Mathlib.Omega.{arith}
 use lib.ListN.{length, drop}
-use Rattle.vpg.specs.Sets.{setWords}
-use Rattle.frame.specs.Frame.{filesIn}
-use Rattle.frame.proofs.Passed.{files-refused, files-passed}
-use Rattle.frame.proofs.Served.{served-refused, served-short, served-on}
-use Rattle.sets.specs.Sets.{Given, written, refused, wordsFor}
+use Rattle.sets_theory.specs.believed.Sets.{setWords}
+use Rattle.service.specs.believed.Frame.{filesIn}
+use Rattle.service.proofs.Passed.{files-refused, files-passed}
+use Rattle.service.proofs.Served.{served-refused, served-short, served-on}
+use Rattle.sets.specs.believed.Sets.{Given, written, refused, wordsFor}
 use Rattle.sets.proofs.SameSets.{same-sets}
 use borrow.Author.Needs.{needs}
 use Rattle.sets.proofs.sets.Statement.{statement}

@@ -1,5 +1,4 @@
 -- `tables::left_in`: the second number of a rule is its nonterminal.
--- Assumes nothing.
 use borrow.Author.Needs.{needs}
 use mathlib.Core.Path.{sym}
 use Rattle.tables.proofs.Tables.{left-in}

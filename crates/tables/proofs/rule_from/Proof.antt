@@ -1,5 +1,4 @@
 -- `tables::rule_from` meets its contract.
--- Assumes nothing.
 use borrow.Author.Tests.{eq-eqb, ne-eqb}
 use Rattle.tables.proofs.rule_from.Statement.{statement}
 use Rattle.tables.proofs.rule_from.Tie as tie

@@ -1,5 +1,4 @@
 -- `tables::rule_of` meets its contract.
--- Assumes nothing.
 use borrow.Author.Needs.{needs}
 use mathlib.Core.Path.{ap, _∙_}
 use Rattle.tables.specs.Table.{ruleFrom, ruleIn}

@@ -1,5 +1,4 @@
 -- `tables::same_at`: two rules for different nonterminals are two.
--- Assumes nothing.
 use borrow.Author.Needs.{needs}
 use mathlib.Core.Path.{sym, ap, _∙_}
 use Rattle.tables.specs.Table.{ruleIn, sameRule}

@@ -1,5 +1,4 @@
 -- `tables::same_rule` meets its contract.
--- Assumes nothing.
 use borrow.Author.Needs.{needs}
 use Rattle.tables.specs.Table.{sameRule}
 use Rattle.tables.proofs.same_rule.Statement.{statement}

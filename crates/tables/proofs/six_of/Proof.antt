@@ -1,5 +1,4 @@
 -- `tables::six_of` meets its contract.
--- Assumes nothing.
 use borrow.Author.Needs.{needs}
 use Rattle.tables.proofs.six_of.Statement.{statement}
 use Rattle.tables.proofs.six_of.Tie as tie

@@ -1,0 +1,52 @@
+-- A list of calls as the listing model goes through it (document 01, "The plain listing").
+use Prim.Native.Nat.{ℕ}
+use mathlib.Core.List.{List, [], _∷_, _++_, map}
+use lib.Dec.{eqb, ltb}
+use lib.ListN.{length, drop}
+use Rattle.listing_model.specs.believed.Listing.{Call, first, next, Answer, written, no-reading, no-further, refused, Subject, start, model, shows, trace}
+use Rattle.numbers.specs.believed.Number.{pick}
+use Rattle.calls.specs.declared.CallsAnswer.{CallsAnswer}
+
+-- an answer as a number; refusals are 1 to 16
+abbrev pub codeOf : Answer → ℕ
+codeOf written = 0
+codeOf no-reading = 100
+codeOf no-further = 101
+codeOf (refused k) = k
+
+abbrev pub callOf : ℕ → Call
+callOf kind = pick (eqb kind 0) first next
+
+abbrev pub callsOf : List ℕ → List Call
+callsOf kinds = map callOf kinds
+
+-- a call's answer as a number, with the buffer that it leaves
+abbrev pub coded : Answer × List ℕ → ℕ × List ℕ
+coded p = (codeOf (p .0), p .1)
+
+-- what is left after the last of them
+abbrev pub final : {S : Type 0} → List (Answer × S) → S → S
+final [] s = s
+final (p ∷ l) s = final l (p .1)
+
+-- the model's answers to a list of calls
+abbrev pub modelAnswers : Subject → List Call → List ℕ → List ℕ
+modelAnswers x cs buf = map (λ p. codeOf (p .0)) (trace (model x) cs (start x buf))
+
+-- the buffer in the model's last state
+abbrev pub modelBuffer : Subject → List Call → List ℕ → List ℕ
+modelBuffer x cs buf = shows x buf (final (trace (model x) cs (start x buf)) (start x buf))
+
+pub data Outcome : Type 0 where
+  made : Outcome
+  refused-by : ℕ → Outcome
+
+abbrev pub callsSaid : CallsAnswer → Outcome
+callsSaid CallsAnswer.Made = made
+callsSaid (CallsAnswer.Refused k) = refused-by k
+
+-- all calls made, by the model; or nothing done where the answers have no room (15)
+abbrev pub callsDue : Subject → List ℕ → List ℕ → List ℕ → Outcome × List ℕ × List ℕ
+callsDue x kinds answers buf =
+    pick (ltb (length answers) (length kinds)) (refused-by 15, answers, buf)
+    (made, modelAnswers x (callsOf kinds) buf ++ drop (length kinds) answers, modelBuffer x (callsOf kinds) buf)

@@ -1,0 +1,33 @@
+-- `contexts::with_left` meets its contract.
+use mathlib.Core.Path.{sym, _∙_}
+use Rattle.tables.specs.Table.{ruleIn}
+use Rattle.tables.proofs.Tables.{below-left}
+use borrow.Author.Needs.{needs}
+use Rattle.contexts.proofs.with_left.Statement.{statement}
+use Rattle.contexts.proofs.with_left.Tie as tie
+
+applies-requires : tie.Need-applies-requires
+applies-requires c κs = search needs
+
+left-in-requires : tie.Need-left-in-requires
+left-in-requires c κs = search needs
+
+cast-with : tie.Need-cast-with
+cast-with c = search needs
+
+with-requires : tie.Need-with-requires
+with-requires c κs =
+    let s = c .before .before .before in
+    rw (c .left-in .ensures) (below-left 32 (ruleIn (s .args .table .now) (s .args .r)) (s .pre .1))
+
+returns : tie.Need-returns
+returns c =
+    simp (c .with .ensures, c .before .left-in .ensures, sym (c .before .before .before .applies .ensures) ∙ c .before .before .if1 .taken)
+
+returns-2 : tie.Need-returns-2
+returns-2 c = simp (sym (c .before .applies .ensures) ∙ c .if1 .left)
+
+pub with-left-spec : {M : Type 1} → statement M
+with-left-spec =
+    tie.close
+    (tie.spec applies-requires left-in-requires cast-with with-requires returns returns-2)

@@ -1,0 +1,149 @@
+// The services for C and for languages that call C. Each answers one number, or a struct with the number and the counts: 0 where all went
+// well, 100 for "none", 101 for "no further", else document 01's number of the refusal.
+use calls::CallsAnswer;
+use files::GrammarCheck;
+use files::HistoryCheck;
+use sets::CountAnswer;
+use sets::SetsAnswer;
+use stop_marks::MarksAnswer;
+ghost use mathlib.Core.Path.{_≡_};
+ghost use lib.ListN.{length};
+ghost use Rattle.listing_model.specs.believed.Listing.{first, next};
+ghost use Rattle.listing_model.specs.Calls.{callOn};
+ghost use Rattle.grammar_file.specs.believed.GrammarFile.{grammarOf};
+ghost use Rattle.history_file.specs.believed.HistoryFile.{historyOf};
+ghost use Rattle.files.specs.believed.Checks.{grammarDue, historyDue};
+ghost use Rattle.readings.specs.believed.Answers.{subject};
+ghost use Rattle.calls.specs.believed.CallList.{coded, callsDue};
+ghost use Rattle.sets.specs.believed.Sets.{setsDue, countDue};
+ghost use Rattle.stop_marks.specs.believed.Stops.{marksDue};
+ghost use Rattle.gaffmedlar.specs.believed.Wire.{grammarWire, historyWire, countWire, setsWire, marksWire, callsWire};
+
+// 0 and the counts of an accepted grammar; or the number of the refusal, and zeros.
+#[repr(C)]
+pub struct GrammarReply {
+    pub answer: u8,
+    pub stages: u16,
+    pub rules: u16,
+}
+
+// 0 and the number of tokens; or the number of the refusal, and 0.
+#[repr(C)]
+pub struct HistoryReply {
+    pub answer: u8,
+    pub tokens: u16,
+}
+
+// 0 and the number of doubtful positions; or the number of the refusal, and 0.
+#[repr(C)]
+pub struct CountReply {
+    pub answer: u8,
+    pub count: u32,
+}
+
+#[no_mangle]
+pub extern "C" fn gaffmedlar_grammar_check(grammar: &[u8]) -> GrammarReply
+    ensures { λ r. ⌜ r ≡ grammarWire (grammarDue (grammarOf (now (grammar .entry)))) ⌝ }
+{
+    let check = files::grammar_check(grammar);
+    match check {
+        GrammarCheck::Accepted(stages, rules) => GrammarReply {
+            answer: 0,
+            stages,
+            rules,
+        },
+        GrammarCheck::Refused(e) => GrammarReply {
+            answer: e,
+            stages: 0,
+            rules: 0,
+        },
+    }
+}
+
+#[no_mangle]
+pub extern "C" fn gaffmedlar_history_check(history: &[u8]) -> HistoryReply
+    ensures { λ r. ⌜ r ≡ historyWire (historyDue (historyOf (now (history .entry)))) ⌝ }
+{
+    let check = files::history_check(history);
+    match check {
+        HistoryCheck::Accepted(tokens) => HistoryReply { answer: 0, tokens },
+        HistoryCheck::Refused(e) => HistoryReply {
+            answer: e,
+            tokens: 0,
+        },
+    }
+}
+
+// Writes the first reading.
+#[no_mangle]
+pub extern "C" fn gaffmedlar_first_reading(grammar: &[u8], history: &[u8], reading: &mut [u8]) -> u8
+    ensures { λ r. ⌜ (r, now (reading .exit)) ≡ coded (callOn (subject (now (grammar .entry)) (now (history .entry)) (length (now (reading .entry)))) first (now (reading .entry))) ⌝ }
+{
+    calls::code_of(readings::first_reading(grammar, history, reading))
+}
+
+// Overwrites the reading in the buffer by the next one.
+#[no_mangle]
+pub extern "C" fn gaffmedlar_next_reading(grammar: &[u8], history: &[u8], reading: &mut [u8]) -> u8
+    ensures { λ r. ⌜ (r, now (reading .exit)) ≡ coded (callOn (subject (now (grammar .entry)) (now (history .entry)) (length (now (reading .entry)))) next (now (reading .entry))) ⌝ }
+{
+    calls::code_of(readings::next_reading(grammar, history, reading))
+}
+
+// Makes a list of the two calls above on one buffer: 0 is first reading, any other number next reading. Answers 0, or 15 where there is
+// no room for the answers.
+#[no_mangle]
+pub extern "C" fn gaffmedlar_run_calls(
+    grammar: &[u8],
+    history: &[u8],
+    calls: &[u8],
+    answers: &mut [u8],
+    buffer: &mut [u8],
+) -> u8
+    ensures { λ r. ⌜ (r, now (answers .exit), now (buffer .exit)) ≡ callsWire (callsDue (subject (now (grammar .entry)) (now (history .entry)) (length (now (buffer .entry)))) (now (calls .entry)) (now (answers .entry)) (now (buffer .entry))) ⌝ }
+{
+    let made = calls::run_calls(grammar, history, calls, answers, buffer);
+    match made {
+        CallsAnswer::Made => 0,
+        CallsAnswer::Refused(k) => k,
+    }
+}
+
+// Writes four words for each position: the set of rules that stand there in some reading.
+#[no_mangle]
+pub extern "C" fn gaffmedlar_sets(grammar: &[u8], history: &[u8], words: &mut [u32]) -> u8
+    ensures { λ r. ⌜ (r, now (words .exit)) ≡ setsWire (setsDue (now (grammar .entry)) (now (history .entry)) (now (words .entry))) ⌝ }
+{
+    let given = sets::sets(grammar, history, words);
+    match given {
+        SetsAnswer::Written => 0,
+        SetsAnswer::Refused(k) => k,
+    }
+}
+
+// How many positions have more than one rule in their set.
+#[no_mangle]
+pub extern "C" fn gaffmedlar_doubtful_count(grammar: &[u8], history: &[u8]) -> CountReply
+    ensures { λ r. ⌜ r ≡ countWire (countDue (now (grammar .entry)) (now (history .entry))) ⌝ }
+{
+    let given = sets::doubtful_count(grammar, history);
+    match given {
+        CountAnswer::Count(count) => CountReply { answer: 0, count },
+        CountAnswer::Refused(k) => CountReply {
+            answer: k,
+            count: 0,
+        },
+    }
+}
+
+// Writes n + 1 bytes: byte i is 1 where the first i tokens alone have a reading, else 0.
+#[no_mangle]
+pub extern "C" fn gaffmedlar_stop_marks(grammar: &[u8], history: &[u8], marks: &mut [u8]) -> u8
+    ensures { λ r. ⌜ (r, now (marks .exit)) ≡ marksWire (marksDue (now (grammar .entry)) (now (history .entry)) (now (marks .entry))) ⌝ }
+{
+    let given = stop_marks::stop_marks(grammar, history, marks);
+    match given {
+        MarksAnswer::Written => 0,
+        MarksAnswer::Refused(k) => k,
+    }
+}

@@ -1,0 +1,57 @@
+-- Plain facts about tests, numbers and the elements of lists.
+use Prim.Native.Nat.{ℕ, zero, suc, _+_, _<_}
+use native.Mathlib.Nat.{zero-add, suc-add}
+use native.Mathlib.Omega.{arith}
+use mathlib.Core.Path.{_≡_, refl}
+use mathlib.Core.Logic.{_⊎_, inl, inr, ⊎-elim}
+use mathlib.Core.Bool.{Bool, true, false, _&&_, _||_, false≢true}
+use mathlib.Core.List.{List, [], _∷_, _++_}
+use mathlib.Core.Option.{some, Option·none-ne-some}
+use borrow.Author.Tests.{ltb-true, ltb-false}
+use lib.Dec.{ltb}
+use lib.ListN.{length, drop, getElem?}
+
+pub and-left : (a b : Bool) → (a && b) ≡ true → a ≡ true
+and-left true b p = refl
+and-left false b p = p
+
+pub and-right : (a b : Bool) → (a && b) ≡ true → b ≡ true
+and-right true b p = p
+and-right false b p = absurd (false≢true p)
+
+pub or-cases : (a b : Bool) → (a || b) ≡ true → (a ≡ true) ⊎ (b ≡ true)
+or-cases true b p = inl refl
+or-cases false b p = inr p
+
+pub trichotomy : (x y : ℕ) → (x ≡ y) ⊎ ((x < y) ⊎ (y < x))
+trichotomy x y = go (ltb x y) refl (ltb y x) refl
+  where
+    go : (a : Bool) → ltb x y ≡ a → (b : Bool) → ltb y x ≡ b → (x ≡ y) ⊎ ((x < y) ⊎ (y < x))
+    go true p b q = inr (inl (ltb-true x y p))
+    go false p true q = inr (inr (ltb-true y x q))
+    go false p false q = inl (omega (arith, ltb-false))
+
+module _ {A : Type 0} where
+  pub at-left : {x : A} (s t : List A) (p : ℕ) → getElem? s p ≡ some x → getElem? (s ++ t) p ≡ some x
+  at-left {x} [] t p h = absurd (Option·none-ne-some x h)
+  at-left (y ∷ s) t zero h = h
+  at-left (y ∷ s) t (suc p) h = at-left s t p h
+
+  pub at-right : (s t : List A) (p : ℕ) → getElem? (s ++ t) (length s + p) ≡ getElem? t p
+  at-right [] t p = rw zero-add
+  at-right (y ∷ s) t p = rw suc-add (at-right s t p)
+
+  pub at-cases : (x : A) (s t : List A) (p : ℕ) → getElem? (s ++ t) p ≡ some x → (getElem? s p ≡ some x) ⊎ ((k : ℕ) × (p ≡ length s + k) × (getElem? t k ≡ some x))
+  at-cases x [] t p h = inr (p, omega arith, h)
+  at-cases x (y ∷ s) t zero h = inl h
+  at-cases x (y ∷ s) t (suc p) h = ⊎-elim inl (λ c. inr (c .0, omega arith, c .2)) (at-cases x s t p h)
+
+  pub drop-left : {x : A} {r : List A} (s t : List A) (p : ℕ) → drop p s ≡ x ∷ r → drop p (s ++ t) ≡ x ∷ (r ++ t)
+  drop-left s t zero h = rw h
+  drop-left [] t (suc p) h = absurd (let z : _≡_ {A = ℕ} 0 1 = cc in omega arith)
+  drop-left (y ∷ s) t (suc p) h = drop-left s t p h
+
+  pub at-below : {x : A} (s : List A) (p : ℕ) → getElem? s p ≡ some x → p < length s
+  at-below {x} [] p h = absurd (Option·none-ne-some x h)
+  at-below (y ∷ s) zero h = omega arith
+  at-below (y ∷ s) (suc p) h = omega (arith, at-below s p h)

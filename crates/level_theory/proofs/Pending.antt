@@ -1,0 +1,152 @@
+-- Pending closes: where they stand, and which of them are pending further on.
+use Prim.Native.Nat.{ℕ, zero, suc, _+_, _-_, _<_, _≤_}
+use native.Mathlib.Omega.{arith}
+use mathlib.Core.Path.{_≡_, refl, _∙_, ap}
+use mathlib.Core.Logic.{_⊎_, inl, inr, ⊎-elim}
+use mathlib.Core.List.{List, [], _∷_, map, List·Memᴰ, List·Memᴰ·head, List·Memᴰ·tail, List·Memᴰ·not-nil, List·Memᴰ·cases-cons}
+use mathlib.Core.Option.{some, Option·none-ne-some, Option·some-injective}
+use lib.ListN.{drop, set, getElem?}
+use lib.Seq.{drop-drop, getD-set-other}
+use Rattle.vpg.specs.declared.OpenName.{OpenName}
+use Rattle.vpg.specs.declared.CloseName.{CloseName}
+use Rattle.vpg.specs.declared.Token.{Token}
+use Rattle.vpg.specs.believed.Grammar.{Rules}
+use Rattle.level_theory.specs.Masks.{Outer, tail, masks}
+use Rattle.level_theory.specs.Pending.{Closes, rest, pendingOver, pending, pendingAt, dueAt}
+
+abbrev Close : Type 0
+Close = CloseName × ℕ
+
+-- ── positions ──
+
+-- all stand at p or behind
+abbrev pub From : ℕ → Closes → Type 0
+From p l = (d : Close) → List·Memᴰ d l → p ≤ d .1
+
+pub rest-in : {d : Close} (l : Closes) → List·Memᴰ d (rest l) → List·Memᴰ d l
+rest-in [] m = m
+rest-in (x ∷ l) m = List·Memᴰ·tail m
+
+pub pending-from : (v : List Token) (p : ℕ) → From p (pending v p)
+unfolding pending
+pending-from [] p d m = absurd (List·Memᴰ·not-nil m)
+pending-from (Token.Mark c ∷ v) p d m = omega (arith, pending-from v (suc p) d m)
+pending-from (Token.Open a ∷ v) p d m = omega (arith, pending-from v (suc p) d (rest-in (pending v (suc p)) m))
+pending-from (Token.Close b ∷ v) p d m = ⊎-elim (λ e. rw e (omega arith)) (λ n. omega (arith, pending-from v (suc p) d n)) (List·Memᴰ·cases-cons m)
+
+-- each stands before those that follow it
+abbrev pub Rising : Closes → Type 0
+Rising [] = Unit
+Rising (d ∷ l) = From (suc (d .1)) l × Rising l
+
+rest-rising : (l : Closes) → Rising l → Rising (rest l)
+rest-rising [] h = h
+rest-rising (d ∷ l) h = h .1
+
+pub pending-rising : (v : List Token) (p : ℕ) → Rising (pending v p)
+unfolding pending
+pending-rising [] p = tt
+pending-rising (Token.Mark c ∷ v) p = pending-rising v (suc p)
+pending-rising (Token.Open a ∷ v) p = rest-rising (pending v (suc p)) (pending-rising v (suc p))
+pending-rising (Token.Close b ∷ v) p = (pending-from v (suc p), pending-rising v (suc p))
+
+-- ── one position on ──
+
+pub drop-next : {A : Type 0} (w : List A) (p : ℕ) {t : A} {v : List A} → drop p w ≡ t ∷ v → drop (suc p) w ≡ v
+drop-next [] zero e = absurd (let z : _≡_ {A = ℕ} 0 1 = cc in omega arith)
+drop-next [] (suc p) e = absurd (let z : _≡_ {A = ℕ} 0 1 = cc in omega arith)
+drop-next (x ∷ w) zero e = cc
+drop-next (x ∷ w) (suc p) e = drop-next w p e
+
+pub pending-next : (w : List Token) (p : ℕ) {t : Token} {v : List Token} → drop p w ≡ t ∷ v → pendingAt w p ≡ pendingOver t p (pendingAt w (suc p))
+unfolding pending
+pending-next w p e = rw (e, drop-next w p e)
+
+-- a close that is pending from q on, and stands at p or behind, is pending from p on
+over-later : (t : Token) (q : ℕ) (l : Closes) {d : Close} → List·Memᴰ d (pendingOver t q l) → q < d .1 → List·Memᴰ d l
+over-later (Token.Mark c) q l m h = m
+over-later (Token.Open a) q l m h = rest-in l m
+over-later (Token.Close b) q l {d} m h = go (List·Memᴰ·cases-cons m)
+  where
+    go : (d ≡ (b, q)) ⊎ List·Memᴰ d l → List·Memᴰ d l
+    go (inl e) = absurd (let z : d .1 ≡ q = rw e in omega arith)
+    go (inr n) = n
+
+suffix-later : (v : List Token) (q k : ℕ) {d : Close} → List·Memᴰ d (pending v q) → q + k ≤ d .1 → List·Memᴰ d (pending (drop k v) (q + k))
+unfolding pending
+suffix-later v q zero m h = let e : q + 0 ≡ q = omega arith in rw e m
+suffix-later [] q (suc k) m h = absurd (List·Memᴰ·not-nil m)
+suffix-later (t ∷ v) q (suc k) {d} m h =
+    let e : q + suc k ≡ suc q + k = omega arith in
+    rw e (suffix-later v (suc q) k (over-later t q (pending v (suc q)) m (omega arith)) (omega arith))
+
+pub pending-later : (w : List Token) (q p : ℕ) {d : Close} → q ≤ p → List·Memᴰ d (pendingAt w q) → p ≤ d .1 → List·Memᴰ d (pendingAt w p)
+pending-later w q p {d} h m k =
+    let e : q + (p - q) ≡ p = omega arith in
+    simp (drop-drop, e) at (suffix-later (drop q w) q (p - q) m (omega arith))
+
+-- the close of an open at p is not pending from a position up to p on
+pub close-fresh : (w : List Token) (q p : ℕ) {a : OpenName} {v : List Token} {b : Close} {l : Closes} → drop p w ≡ Token.Open a ∷ v → pendingAt w (suc p) ≡ b ∷ l → q ≤ p →
+    (d : Close) → List·Memᴰ d (pendingAt w q) → d .1 ≡ b .1 → ⊥
+close-fresh w q p {b = b} {l} e f h d m k =
+    let r : Rising (b ∷ l) = rw f at (pending-rising (drop (suc p) w) (suc p)) in
+    let s : suc p ≤ b .1 = pending-from (drop (suc p) w) (suc p) b (rw f (List·Memᴰ·head refl)) in
+    let n : List·Memᴰ d l = simp (pending-next w p e, f) at (pending-later w q p h m (omega arith)) in
+    omega (arith, r .0 d n)
+
+-- ── what stands at a pending close ──
+
+pub record IsClose (w : List Token) (d : Close) : Type 0 where
+  pub at : drop (d .1) w ≡ Token.Close (d .0) ∷ drop (suc (d .1)) w
+
+closes-in : (w v : List Token) (p : ℕ) → drop p w ≡ v → (d : Close) → List·Memᴰ d (pending v p) → IsClose w d
+unfolding pending
+closes-in w [] p e d m = absurd (List·Memᴰ·not-nil m)
+closes-in w (Token.Mark c ∷ v) p e d m = closes-in w v (suc p) (drop-next w p e) d m
+closes-in w (Token.Open a ∷ v) p e d m = closes-in w v (suc p) (drop-next w p e) d (rest-in (pending v (suc p)) m)
+closes-in w (Token.Close b ∷ v) p e d m =
+    ⊎-elim (λ q. rw q (record { at = e ∙ rw (drop-next w p e) })) (λ n. closes-in w v (suc p) (drop-next w p e) d n) (List·Memᴰ·cases-cons m)
+
+pub pending-close : (w : List Token) (p : ℕ) (d : Close) → List·Memᴰ d (pendingAt w p) → IsClose w d
+pending-close w p d m = closes-in w (drop p w) p refl d m
+
+-- ── the closes behind a pending close ──
+
+pub at-next : (w v : List Token) (p : ℕ) → drop p w ≡ v → (i : ℕ) (d : Close) → getElem? (pending v p) i ≡ some d → drop (suc i) (pending v p) ≡ pendingAt w (suc (d .1))
+unfolding pending
+at-next w [] p e i d m = absurd (Option·none-ne-some d m)
+at-next w (Token.Mark c ∷ v) p e i d m = at-next w v (suc p) (drop-next w p e) i d m
+at-next w (Token.Open a ∷ v) p e i d m = go (pending v (suc p)) m (at-next w v (suc p) (drop-next w p e) (suc i) d)
+  where
+    go : (l : Closes) → getElem? (rest l) i ≡ some d → (getElem? l (suc i) ≡ some d → drop (suc (suc i)) l ≡ pendingAt w (suc (d .1))) → drop (suc i) (rest l) ≡ pendingAt w (suc (d .1))
+    go [] m below = absurd (Option·none-ne-some d m)
+    go (x ∷ l) m below = below m
+at-next w (Token.Close b ∷ v) p e zero d m = let q : p ≡ d .1 = ap (λ (x : Close). x .1) (Option·some-injective _ _ m) in rw (← q, drop-next w p e)
+at-next w (Token.Close b ∷ v) p e (suc i) d m = at-next w v (suc p) (drop-next w p e) i d m
+
+-- the pending closes behind the first one
+pub pending-rest : (w : List Token) (p : ℕ) (d : Close) (l : Closes) → pendingAt w p ≡ d ∷ l → l ≡ pendingAt w (suc (d .1))
+pending-rest w p d l e = rw e at (at-next w (drop p w) p refl 0 d (rw e))
+
+-- ── masks and stacks over the pending closes ──
+
+levels-in : (g : Rules) (w v : List Token) (p : ℕ) → drop p w ≡ v → masks g v .1 ≡ map (λ d. (d .0, masks g (drop (suc (d .1)) w) .0)) (pending v p)
+unfolding pending masks
+levels-in g w [] p e = refl
+levels-in g w (Token.Mark c ∷ v) p e = levels-in g w v (suc p) (drop-next w p e)
+levels-in g w (Token.Open a ∷ v) p e = ap tail (levels-in g w v (suc p) (drop-next w p e)) ∙ tails (pending v (suc p))
+  where
+    tails : (l : Closes) → tail (map (λ d. (d .0, masks g (drop (suc (d .1)) w) .0)) l) ≡ map (λ d. (d .0, masks g (drop (suc (d .1)) w) .0)) (rest l)
+    tails [] = refl
+    tails (d ∷ l) = refl
+levels-in g w (Token.Close b ∷ v) p e = rw (drop-next w p e) (ap (λ (l : Outer). (b, masks g v .0) ∷ l) (levels-in g w v (suc p) (drop-next w p e)))
+
+-- the outer levels are those behind the pending closes
+pub masks-outer : (g : Rules) (w : List Token) (p : ℕ) → masks g (drop p w) .1 ≡ map (λ d. (d .0, masks g (drop (suc (d .1)) w) .0)) (pendingAt w p)
+masks-outer g w p = levels-in g w (drop p w) p refl
+
+-- a store behind a close that is not among them
+pub due-set : (f : List ℕ) (j v : ℕ) (l : Closes) → ((d : Close) → List·Memᴰ d l → d .1 ≡ j → ⊥) → dueAt (set f j v) l ≡ dueAt f l
+due-set f j v [] h = refl
+due-set f j v (d ∷ l) h =
+    rw (getD-set-other f j (d .1) v 0 (h d (List·Memᴰ·head refl)), due-set f j v l (λ x m. h x (List·Memᴰ·tail m)))

@@ -1,0 +1,83 @@
+-- Which nonterminals derive the rest of each open level, computed from right to left.
+use Prim.Native.Nat.{ℕ}
+use mathlib.Core.Path.{_≡_}
+use mathlib.Core.Bool.{Bool, true, false, _&&_, _||_}
+use mathlib.Core.List.{List, [], _∷_}
+use lib.Dec.{eqb}
+use Rattle.vpg.specs.declared.CloseName.{CloseName}
+use Rattle.vpg.specs.declared.Rule.{Rule}
+use Rattle.vpg.specs.declared.Token.{Token}
+use Rattle.vpg.specs.believed.Grammar.{Rules}
+use Rattle.vpg.specs.Runs.{Stack}
+use Rattle.vpg.specs.Steps.{left}
+
+-- a set of nonterminals
+abbrev pub Nonterminals : Type 0
+Nonterminals = ℕ → Bool
+
+-- the outer levels, innermost first: each with the close that leads back to it
+abbrev pub Outer : Type 0
+Outer = List (CloseName × Nonterminals)
+
+-- the nonterminals that derive the rest of the current level, and those of the outer ones
+abbrev pub Masks : Type 0
+Masks = Nonterminals × Outer
+
+abbrev pub any : (Rule → Bool) → Rules → Bool
+any p [] = false
+any p (R ∷ g) = p R || any p g
+
+-- is L a nonterminal of the next outer level, behind the close b
+abbrev pub behind : Outer → CloseName → Nonterminals
+behind [] b L = false
+behind (d ∷ ms) b L = eqb (b .0) (d .0 .0) && d .1 L
+
+-- can R stand at the token, whatever nonterminal it is for; m: the masks behind the token
+abbrev pub applies : Masks → Token → Rule → Bool
+applies m (Token.Mark c) (Rule.Empty M) = false
+applies m (Token.Mark c) (Rule.Mark M c′ M₁) = eqb (c′ .0) (c .0) && m .0 M₁
+applies m (Token.Mark c) (Rule.Step M a M₁ b M₂) = false
+applies m (Token.Open a) (Rule.Empty M) = false
+applies m (Token.Open a) (Rule.Mark M c M₁) = false
+applies m (Token.Open a) (Rule.Step M a′ M₁ b M₂) = eqb (a′ .0) (a .0) && (m .0 M₁ && behind (m .1) b M₂)
+applies m (Token.Close b) (Rule.Empty M) = true
+applies m (Token.Close b) (Rule.Mark M c M₁) = false
+applies m (Token.Close b) (Rule.Step M a M₁ b′ M₂) = false
+
+-- can R stand where no token is left
+abbrev pub finishes : Rule → Bool
+finishes (Rule.Empty M) = true
+finishes (Rule.Mark M c M₁) = false
+finishes (Rule.Step M a M₁ b M₂) = false
+
+-- the nonterminals of which a rule passes
+abbrev pub lefts : (Rule → Bool) → Rules → Nonterminals
+lefts p g L = any (λ R. eqb (left R) L && p R) g
+
+abbrev pub tail : Outer → Outer
+tail [] = []
+tail (d ∷ ms) = ms
+
+-- the outer levels before a token
+abbrev pub outer : Token → Masks → Outer
+outer (Token.Mark c) m = m .1
+outer (Token.Open a) m = tail (m .1)
+outer (Token.Close b) m = (b, m .0) ∷ m .1
+
+-- the masks before a token, from those behind it
+abbrev pub over : Rules → Token → Masks → Masks
+over g t m = (lefts (applies m t) g, outer t m)
+
+unfoldable pub masks : Rules → List Token → Masks
+masks g [] = (lefts finishes g, [])
+masks g (t ∷ w) = over g t (masks g w)
+
+-- each level that is due has the close of the mask at its depth, and a nonterminal of the mask
+abbrev pub Match : Stack → Outer → Type 0
+Match [] [] = Unit
+Match [] (m ∷ ms) = ⊥
+Match (d ∷ s) [] = ⊥
+Match (d ∷ s) (m ∷ ms) = (d .0 ≡ m .0) × (m .1 (d .1) ≡ true) × Match s ms
+
+abbrev pub Fits : ℕ → Stack → Masks → Type 0
+Fits L s m = (m .0 L ≡ true) × Match s (m .1)

@@ -1,0 +1,32 @@
+-- Text laid into a buffer that is a window on it.
+use Prim.Native.Nat.{ℕ, _+_, _-_}
+use mathlib.Core.Bool.{Bool, true, false}
+use mathlib.Core.List.{List, [], _∷_, _++_}
+use lib.Dec.{ltb}
+use lib.ListN.{length, set, take, drop}
+use Rattle.lines.specs.declared.Place.{Place}
+
+-- a place, and the buffer
+abbrev pub Laid : Type 0
+Laid = Place × List ℕ
+
+-- one byte: passed over, written, or left out
+abbrev pub putIf : Bool → Bool → Place → List ℕ → ℕ → Laid
+putIf true y p out b = (record { skip = p .skip - 1; at = p .at }, out)
+putIf false true p out b = (record { skip = p .skip; at = p .at + 1 }, set out (p .at) b)
+putIf false false p out b = (p, out)
+
+abbrev pub put : Laid → ℕ → Laid
+put w b = putIf (ltb 0 (w .0 .skip)) (ltb (w .0 .at) (length (w .1))) (w .0) (w .1) b
+
+unfoldable pub laid : Laid → List ℕ → Laid
+laid w [] = w
+laid w (b ∷ text) = laid (put w b) text
+
+-- the part of the text behind its first bytes, as many as `skip`, that a buffer of `size` bytes has room for
+abbrev pub shown : ℕ → ℕ → List ℕ → List ℕ
+shown skip size text = take size (drop skip text)
+
+-- how many bytes are shown, and the buffer: these bytes, and behind them what was there
+abbrev pub window : ℕ → List ℕ → List ℕ → ℕ × List ℕ
+window skip out text = (length (shown skip (length out) text), shown skip (length out) text ++ drop (length (shown skip (length out) text)) out)

@@ -1,0 +1,16 @@
+-- `add_if`: by the test.
+use borrow.Author.Needs.{needs}
+use Rattle.pair_states.proofs.add_if.Statement.{statement}
+use Rattle.pair_states.proofs.add_if.Tie as tie
+
+with-requires : tie.Need-with-requires
+with-requires c κs = search needs
+
+returns : tie.Need-returns
+returns c = rw (c .before .if1 .taken) (c .with .ensures)
+
+returns-2 : tie.Need-returns-2
+returns-2 c = search needs
+
+pub add-if-spec : {M : Type 1} → statement M
+add-if-spec = tie.close (tie.spec with-requires returns returns-2)

@@ -1,0 +1,11 @@
+-- Which state 32 words are.
+use Prim.Native.Nat.{ℕ, _<_}
+use mathlib.Core.Path.{_≡_}
+use mathlib.Core.List.{List}
+use lib.ListN.{getD}
+use Rattle.bits.specs.Bit.{bit}
+use Rattle.pair_theory.specs.Pairs.{PairState}
+
+-- digit L₂ of word L₁ says whether (L₁, L₂) is in the state
+pub record Encodes (rows : List ℕ) (S : PairState) : Type 0 where
+  pub at : (L₁ L₂ : ℕ) → L₁ < 32 → L₂ < 32 → bit (getD rows L₁ 0) L₂ ≡ S L₁ L₂

@@ -1,0 +1,2 @@
+pub mod PairExample
+pub mod Pairs

@@ -1,0 +1,101 @@
+-- A row has the kept rules of the table, and the nonterminals with which they go on.
+use Prim.Native.Nat.{ℕ, zero, suc, _≤_}
+use native.Mathlib.Omega.{arith}
+use mathlib.Core.Path.{_≡_, refl, sym, _∙_, ap}
+use mathlib.Core.Bool.{Bool, true, false, cond, _&&_, _||_, or-false}
+use mathlib.Core.List.{List}
+use lib.ListN.{length, getD, length-set}
+use Rattle.bits.specs.Bit.{bit}
+use Rattle.bits.proofs.Bits.{bit-zero, bit-add}
+use Rattle.vpg.specs.declared.Rule.{Rule}
+use Rattle.sets_theory.specs.believed.Sets.{count}
+use Rattle.level_theory.specs.Masks.{any}
+use Rattle.level_theory.specs.Kept.{goesTo, returnsTo, going, returning}
+use Rattle.tables.specs.Table.{ruleIn, rulesIn}
+use Rattle.contexts.specs.declared.Place.{Place}
+use Rattle.contexts.proofs.Places.{eqb-comm, any-snoc}
+use Rattle.rule_set.specs.Words.{Held, addIn}
+use Rattle.rule_set.specs.declared.Ways.{Ways}
+use Rattle.rule_set.specs.Rows.{keepsAt, nextWith, behindWith, waysWith, waysIn, wordsIn}
+use Rattle.rule_set.proofs.Words.{held-none, held-with, held-without}
+
+-- ── one rule ──
+
+next-bit : (x K : ℕ) (R : Rule) → bit (nextWith x R) K ≡ (bit x K || goesTo R K)
+next-bit x K (Rule.Empty M) = sym (or-false (bit x K))
+next-bit x K (Rule.Mark M c M₁) = bit-add x M₁ K ∙ ap (λ (b : Bool). bit x K || b) (eqb-comm K M₁)
+next-bit x K (Rule.Step M a M₁ b M₂) = bit-add x M₁ K ∙ ap (λ (b : Bool). bit x K || b) (eqb-comm K M₁)
+
+behind-bit : (x K : ℕ) (R : Rule) → bit (behindWith x R) K ≡ (bit x K || returnsTo R K)
+behind-bit x K (Rule.Empty M) = sym (or-false (bit x K))
+behind-bit x K (Rule.Mark M c M₁) = sym (or-false (bit x K))
+behind-bit x K (Rule.Step M a M₁ b M₂) = bit-add x M₂ K ∙ ap (λ (b : Bool). bit x K || b) (eqb-comm K M₂)
+
+-- ── all rules ──
+
+module _ (t : List ℕ) (here : ℕ) (place : Place) where
+  abbrev pub Keeps : ℕ → Bool
+  Keeps r = keepsAt here place (ruleIn t r)
+
+  abbrev Ways-of : ℕ → Ways
+  Ways-of n = waysIn t here place n
+
+  abbrev Words-of : ℕ → List ℕ
+  Words-of n = wordsIn t here place n
+
+  pub held-most : (n : ℕ) → waysIn t here place n .held ≤ n
+  unfolding waysIn
+  held-most zero = omega arith
+  held-most (suc n) = go (Keeps n) (held-most n)
+    where
+      go : (b : Bool) → Ways-of n .held ≤ n → cond b (waysWith (Ways-of n) (ruleIn t n)) (Ways-of n) .held ≤ suc n
+      go true h = omega arith
+      go false h = omega arith
+
+  -- how many rules are kept
+  pub held-count : (n : ℕ) → waysIn t here place n .held ≡ count n Keeps
+  unfolding waysIn count
+  held-count zero = refl
+  held-count (suc n) = go (Keeps n) refl (held-count n)
+    where
+      go : (b : Bool) → Keeps n ≡ b → Ways-of n .held ≡ count n Keeps → cond b (waysWith (Ways-of n) (ruleIn t n)) (Ways-of n) .held ≡ count (suc n) Keeps
+      go true q h = rw q (omega arith)
+      go false q h = rw q (omega arith)
+
+  -- which rules are kept
+  pub words-held : (n : ℕ) → n ≤ 128 → (length (wordsIn t here place n) ≡ 4) × Held 32 n Keeps (wordsIn t here place n)
+  unfolding wordsIn
+  words-held zero h = (refl, held-none 32 Keeps (Words-of 0) zeros)
+    where
+      zeros : (k : ℕ) → getD (Words-of 0) k 0 ≡ 0
+      zeros zero = refl
+      zeros (suc zero) = refl
+      zeros (suc (suc zero)) = refl
+      zeros (suc (suc (suc zero))) = refl
+      zeros (suc (suc (suc (suc k)))) = refl
+  words-held (suc n) h = go (Keeps n) refl (words-held n (omega arith))
+    where
+      go : (b : Bool) → Keeps n ≡ b → (length (Words-of n) ≡ 4) × Held 32 n Keeps (Words-of n) →
+          (length (cond b (addIn 32 (Words-of n) n) (Words-of n)) ≡ 4) × Held 32 (suc n) Keeps (cond b (addIn 32 (Words-of n) n) (Words-of n))
+      go true q (l, k) = (length-set (Words-of n) _ _ ∙ l, held-with 32 n Keeps (Words-of n) (omega arith) (omega arith) q k)
+      go false q (l, k) = (l, held-without 32 n Keeps (Words-of n) q k)
+
+  -- one rule more, where a set of nonterminals grows by what the kept rules say
+  grows : (f : Ways → ℕ) (k : Rule → Bool) (K n : ℕ) (b : Bool) → keepsAt here place (ruleIn t n) ≡ b → bit (f (waysWith (Ways-of n) (ruleIn t n))) K ≡ (bit (f (Ways-of n)) K || k (ruleIn t n)) →
+      bit (f (Ways-of n)) K ≡ any (λ R. keepsAt here place R && k R) (rulesIn t n) →
+      bit (f (cond b (waysWith (Ways-of n) (ruleIn t n)) (Ways-of n))) K ≡ any (λ R. keepsAt here place R && k R) (rulesIn t (suc n))
+  unfolding rulesIn
+  grows f k K n true q e h = rw any-snoc (e ∙ rw (h, q))
+  grows f k K n false q e h = rw any-snoc (h ∙ rw q (sym (or-false _)))
+
+  -- the nonterminals at the next position
+  pub next-going : (K n : ℕ) → bit (waysIn t here place n .next) K ≡ going (keepsAt here place) (rulesIn t n) K
+  unfolding waysIn rulesIn
+  next-going K zero = bit-zero K
+  next-going K (suc n) = grows (λ x. x .next) (λ R. goesTo R K) K n _ refl (next-bit (Ways-of n .next) K (ruleIn t n)) (next-going K n)
+
+  -- and those behind the close
+  pub behind-returning : (K n : ℕ) → bit (waysIn t here place n .behind) K ≡ returning (keepsAt here place) (rulesIn t n) K
+  unfolding waysIn rulesIn
+  behind-returning K zero = bit-zero K
+  behind-returning K (suc n) = grows (λ x. x .behind) (λ R. returnsTo R K) K n _ refl (behind-bit (Ways-of n .behind) K (ruleIn t n)) (behind-returning K n)

@@ -1,0 +1,133 @@
+-- Sets in words of W digits each, for every W and every number of words.
+use Prim.Native.Nat.{ℕ, zero, suc, _+_, _*_, _/_, _%_, _^_, _<_, _≤_}
+use native.Mathlib.Nat.{not-suc-le-zero, le-of-suc-le-suc, eq-or-lt-of-le, one-mul, zero-mul, zero-add, pow-suc, mod-lt, div-add-mod', mul-comm}
+use native.Mathlib.Omega.{arith}
+use mathlib.Core.Path.{_≡_, refl, sym, _∙_, ap}
+use mathlib.Core.Logic.{_⊎_, inl, inr, _≢_, ⊎-elim}
+use mathlib.Core.Bool.{Bool, true, false, _&&_, _||_, or-true, or-false}
+use mathlib.Core.List.{List, [], _∷_}
+use borrow.Author.Tests.{eqb-true, eqb-false, eq-eqb, ne-eqb, lt-ltb, le-ltb, ltb-true, ltb-false}
+use lib.Arith.{digits-div, digits-mod}
+use lib.Bits.{or-shifted-r}
+use lib.Dec.{eqb, ltb}
+use lib.ListN.{length, getD, set, replicate, length-set}
+use lib.Pow.{pow-pos}
+use lib.Seq.{getD-set-same, getD-set-other}
+use Rattle.bits.specs.Bit.{bit, addBit}
+use Rattle.bits.proofs.Bits.{bit-zero, bit-above, bit-add, add-below, same}
+use Rattle.sets_theory.specs.believed.Sets.{wordOf}
+use Rattle.rule_set.specs.Words.{bitIn, addIn, Held}
+
+or-yes : (a x : Bool) → x ≡ true → (a || x) ≡ true
+or-yes a x e = rw e (or-true a)
+
+or-no : (a x : Bool) → x ≡ false → (a || x) ≡ a
+or-no a x e = rw e (or-false a)
+
+pub add-length : (W : ℕ) (ws : List ℕ) (r : ℕ) → length (addIn W ws r) ≡ length ws
+add-length W ws r = length-set ws (r / W) (addBit (getD ws (r / W) 0) (r % W))
+
+pub cleared : (ws : List ℕ) → length ws ≡ 4 → set (set (set (set ws 0 0) 1 0) 2 0) 3 0 ≡ replicate 4 0
+cleared [] h = absurd (omega arith)
+cleared (a ∷ []) h = absurd (omega arith)
+cleared (a ∷ (b ∷ [])) h = absurd (omega arith)
+cleared (a ∷ (b ∷ (c ∷ []))) h = absurd (omega arith)
+cleared (a ∷ (b ∷ (c ∷ (d ∷ [])))) h = refl
+cleared (a ∷ (b ∷ (c ∷ (d ∷ (e ∷ ws))))) h = absurd (omega arith)
+
+-- ── one word ──
+
+word-with : (n : ℕ) (f : ℕ → Bool) → wordOf n f < 2 ^ n → f n ≡ true → wordOf (suc n) f ≡ addBit (wordOf n f) n
+unfolding wordOf
+word-with n f h e = rw e (sym (or-shifted-r 1 n (wordOf n f) h) ∙ rw one-mul)
+
+word-without : (n : ℕ) (f : ℕ → Bool) → f n ≡ false → wordOf (suc n) f ≡ wordOf n f
+unfolding wordOf
+word-without n f e = rw (e, zero-mul, zero-add)
+
+word-below : (n : ℕ) (f : ℕ → Bool) → wordOf n f < 2 ^ n
+unfolding wordOf
+word-below zero f = pow-pos 0
+word-below (suc n) f = go (f n) refl (word-below n f)
+  where
+    go : (b : Bool) → f n ≡ b → wordOf n f < 2 ^ n → wordOf (suc n) f < 2 ^ suc n
+    go true e h = rw (word-with n f h e) (add-below (suc n) (wordOf n f) n (omega (arith, pow-suc 2 n)) (omega arith))
+    go false e h = rw (word-without n f e) (omega (arith, pow-suc 2 n))
+
+-- digit b of the word of a test says whether the test passes
+pub bit-word : (n : ℕ) (f : ℕ → Bool) (b : ℕ) → b < n → bit (wordOf n f) b ≡ f b
+bit-word zero f b h = absurd (not-suc-le-zero h)
+bit-word (suc n) f b h = go (f n) refl (bit-word n f b) (eq-or-lt-of-le (le-of-suc-le-suc h))
+  where
+    go : (x : Bool) → f n ≡ x → (b < n → bit (wordOf n f) b ≡ f b) → (b ≡ n) ⊎ (b < n) → bit (wordOf (suc n) f) b ≡ f b
+    go true e below (inl q) = rw (word-with n f (word-below n f) e) (bit-add (wordOf n f) n b ∙ or-yes (bit (wordOf n f) b) (eqb b n) (eq-eqb b n q) ∙ sym (rw q e))
+    go true e below (inr l) = rw (word-with n f (word-below n f) e) (bit-add (wordOf n f) n b ∙ or-no (bit (wordOf n f) b) (eqb b n) (ne-eqb b n (λ q. omega arith)) ∙ below l)
+    go false e below (inl q) = rw (word-without n f e) (bit-above n (wordOf n f) b (word-below n f) (omega arith) ∙ sym (rw q e))
+    go false e below (inr l) = rw (word-without n f e) (below l)
+
+-- and no other word of the width has these digits
+pub word-is : (n m : ℕ) (f : ℕ → Bool) → m < 2 ^ n → ((b : ℕ) → b < n → bit m b ≡ f b) → m ≡ wordOf n f
+word-is n m f h e = same n m (wordOf n f) h (word-below n f) (λ b l. e b l ∙ sym (bit-word n f b l))
+
+-- ── several words ──
+
+module _ (W : ℕ) where
+  same-digit : (k r : ℕ) → k / W ≡ r / W → eqb (k % W) (r % W) ≡ eqb k r
+  same-digit k r e = go (eqb k r) refl
+    where
+      go : (b : Bool) → eqb k r ≡ b → eqb (k % W) (r % W) ≡ b
+      go true q = eq-eqb (k % W) (r % W) (ap (λ (x : ℕ). x % W) (eqb-true k r q))
+      go false q = ne-eqb (k % W) (r % W) (λ d. let i : k / W * W + k % W ≡ r / W * W + r % W = rw (e, d) in eqb-false k r q (sym (div-add-mod' k W) ∙ i ∙ div-add-mod' r W))
+
+  pub bit-in-add : (ws : List ℕ) (r k : ℕ) → r / W < length ws → bitIn W (addIn W ws r) k ≡ (bitIn W ws k || eqb k r)
+  bit-in-add ws r k h = go (eqb (k / W) (r / W)) refl
+    where
+      m : ℕ
+      m = getD ws (r / W) 0
+
+      go : (b : Bool) → eqb (k / W) (r / W) ≡ b → bitIn W (addIn W ws r) k ≡ (bitIn W ws k || eqb k r)
+      go true q =
+          let e : k / W ≡ r / W = eqb-true _ _ q in
+          rw (e, getD-set-same ws (r / W) (addBit m (r % W)) 0 h) (bit-add m (r % W) (k % W) ∙ ap (λ (x : Bool). bit m (k % W) || x) (same-digit k r e))
+      go false q =
+          let d : k / W ≢ r / W = eqb-false _ _ q in
+          rw (getD-set-other ws (r / W) (k / W) (addBit m (r % W)) 0 d, ne-eqb k r (λ e. d (ap (λ (x : ℕ). x / W) e))) (sym (or-false _))
+
+  pub held-none : (f : ℕ → Bool) (ws : List ℕ) → ((k : ℕ) → getD ws k 0 ≡ 0) → Held W 0 f ws
+  held-none f ws z = record { small = λ k. rw (z k) (pow-pos W); digits = λ r. rw (z (r / W), le-ltb r 0 (omega arith)) (bit-zero (r % W)) }
+
+  pub held-with : (n : ℕ) (f : ℕ → Bool) (ws : List ℕ) → 0 < W → n / W < length ws → f n ≡ true → Held W n f ws → Held W (suc n) f (addIn W ws n)
+  held-with n f ws pos room q h = record { small = small; digits = λ r. bit-in-add ws n r room ∙ rw (h .digits r) (digit r (eqb r n) refl) }
+    where
+      small : (k : ℕ) → getD (addIn W ws n) k 0 < 2 ^ W
+      small k = go (eqb k (n / W)) refl
+        where
+          go : (b : Bool) → eqb k (n / W) ≡ b → getD (addIn W ws n) k 0 < 2 ^ W
+          go true e = rw (eqb-true k (n / W) e, getD-set-same ws (n / W) (addBit (getD ws (n / W) 0) (n % W)) 0 room) (add-below W (getD ws (n / W) 0) (n % W) (h .small (n / W)) (mod-lt n pos))
+          go false e = rw (getD-set-other ws (n / W) k (addBit (getD ws (n / W) 0) (n % W)) 0 (eqb-false k (n / W) e)) (h .small k)
+
+      digit : (r : ℕ) (b : Bool) → eqb r n ≡ b → ((ltb r n && f r) || b) ≡ (ltb r (suc n) && f r)
+      digit r true e = let i = eqb-true r n e in or-true (ltb r n && f r) ∙ sym (rw (lt-ltb r (suc n) (omega arith), i, q))
+      digit r false e = or-false (ltb r n && f r) ∙ ap (λ (x : Bool). x && f r) (more (ltb r n) refl)
+        where
+          more : (b : Bool) → ltb r n ≡ b → b ≡ ltb r (suc n)
+          more true l = sym (lt-ltb r (suc n) (omega (arith, ltb-true r n l)))
+          more false l = sym (le-ltb r (suc n) (let d : r ≢ n = eqb-false r n e in go (eq-or-lt-of-le (ltb-false r n l)) d))
+            where
+              go : (n ≡ r) ⊎ (n < r) → r ≢ n → suc n ≤ r
+              go (inl i) d = absurd (d (sym i))
+              go (inr i) d = i
+
+  pub held-without : (n : ℕ) (f : ℕ → Bool) (ws : List ℕ) → f n ≡ false → Held W n f ws → Held W (suc n) f ws
+  held-without n f ws q h = record { small = h .small; digits = λ r. h .digits r ∙ digit r (ltb r n) refl }
+    where
+      digit : (r : ℕ) (b : Bool) → ltb r n ≡ b → (b && f r) ≡ (ltb r (suc n) && f r)
+      digit r true e = rw (lt-ltb r (suc n) (omega (arith, ltb-true r n e)))
+      digit r false e = ⊎-elim (λ i. sym (rw (lt-ltb r (suc n) (omega arith), ← i) q)) (λ l. rw (le-ltb r (suc n) l)) (eq-or-lt-of-le (ltb-false r n e))
+
+  -- word k has the digits W k to W k + W - 1
+  pub held-word : (n : ℕ) (f : ℕ → Bool) (ws : List ℕ) → Held W n f ws → (k : ℕ) → getD ws k 0 ≡ wordOf W (λ b. ltb (W * k + b) n && f (W * k + b))
+  held-word n f ws h k = word-is W (getD ws k 0) _ (h .small k) digit
+    where
+      digit : (b : ℕ) → b < W → bit (getD ws k 0) b ≡ (ltb (W * k + b) n && f (W * k + b))
+      digit b l = sym (rw (mul-comm W k, digits-div k l, digits-mod k l)) ∙ h .digits (W * k + b)

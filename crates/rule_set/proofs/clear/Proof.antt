@@ -1,0 +1,34 @@
+-- `clear`: a list of four words, each of which is set to 0.
+use borrow.Author.Needs.{needs}
+use Rattle.rule_set.proofs.Words.{cleared}
+use Rattle.rule_set.proofs.clear.Statement.{statement}
+use Rattle.rule_set.proofs.clear.Tie as tie
+
+slice-write-words : tie.Need-slice-write-words
+slice-write-words c = search needs
+
+slice-write-words-2 : tie.Need-slice-write-words-2
+slice-write-words-2 c = search needs
+
+slice-write-words-3 : tie.Need-slice-write-words-3
+slice-write-words-3 c = search needs
+
+slice-write-words-4 : tie.Need-slice-write-words-4
+slice-write-words-4 c = search needs
+
+same-length : tie.Need-same-length
+same-length c = search needs
+
+returns : tie.Need-returns
+returns c = cleared (c .args .words .now) (c .pre)
+
+pub clear-spec : {M : Type 1} → statement M
+clear-spec =
+    tie.close
+    (tie.spec
+    slice-write-words
+    slice-write-words-2
+    slice-write-words-3
+    slice-write-words-4
+    same-length
+    returns)

@@ -1,0 +1,143 @@
+// The rules kept at a position: their set in words, how many they are, and the nonterminals with which they go on.
+use contexts::Place;
+use vpg::Rule;
+ghost use mathlib.Core.Path.{_≡_};
+ghost use Prim.Native.Nat.{_<_};
+ghost use lib.ListN.{length, replicate};
+ghost use Rattle.tables.specs.Table.{ruleIn};
+ghost use Rattle.tables.specs.Ready.{Below, Ready};
+ghost use Rattle.rule_set.specs.Words.{addIn};
+ghost use Rattle.rule_set.specs.Rows.{keepsAt, nextWith, behindWith, waysWith, waysTurn, noWays, waysIn, wordsIn};
+
+// How many rules are kept at a position, the nonterminals at the next position and those behind the close.
+pub struct Ways {
+    pub held: u32,
+    pub next: u32,
+    pub behind: u32,
+}
+
+// Whether the nonterminal of rule r can stand here, and the rule too. Few rules can, whatever their nonterminal: that is asked first.
+fn keeps(here: u32, table: &[u16; 768], r: usize, place: Place) -> bool
+    requires { ⌜ (r < 128) × Below 32 (ruleIn (now table) r) ⌝ }
+    ensures { λ x. ⌜ x ≡ keepsAt here place (ruleIn (now (table .entry)) r) ⌝ }
+{
+    if contexts::applies(table, r, place) {
+        bits::has(here, tables::left_in(table, r) as usize)
+    } else {
+        false
+    }
+}
+
+// The nonterminals at the next position, with the rule's.
+fn next_with(set: u32, rule: Rule) -> u32
+    requires { ⌜ Below 32 rule ⌝ }
+    ensures { λ r. ⌜ r ≡ nextWith set rule ⌝ }
+{
+    match rule {
+        Rule::Empty(_) => set,
+        Rule::Mark(_, _, l1) => bits::with(set, l1 as usize),
+        Rule::Step(_, _, l1, _, _) => bits::with(set, l1 as usize),
+    }
+}
+
+// The nonterminals behind the close, with the rule's.
+fn behind_with(set: u32, rule: Rule) -> u32
+    requires { ⌜ Below 32 rule ⌝ }
+    ensures { λ r. ⌜ r ≡ behindWith set rule ⌝ }
+{
+    match rule {
+        Rule::Empty(_) => set,
+        Rule::Mark(_, _, _) => set,
+        Rule::Step(_, _, _, _, l2) => bits::with(set, l2 as usize),
+    }
+}
+
+// Adds rule r to the set of rules.
+fn add(words: &mut [u32], r: usize)
+    requires { ⌜ (length (now words) ≡ 4) × (r < 128) ⌝ }
+    ensures { λ _. ⌜ now (words .exit) ≡ addIn 32 (now (words .entry)) r ⌝ }
+{
+    words[r / 32] = bits::with(words[r / 32], r % 32);
+}
+
+// The ways on, with those of a rule that is kept.
+fn ways_with(ways: Ways, rule: Rule) -> Ways
+    requires { ⌜ (ways .held < 128) × Below 32 rule ⌝ }
+    ensures { λ x. ⌜ x ≡ waysWith ways rule ⌝ }
+{
+    let next = next_with(ways.next, rule);
+    let behind = behind_with(ways.behind, rule);
+    Ways {
+        held: ways.held + 1,
+        next,
+        behind,
+    }
+}
+
+// None of them yet.
+fn no_ways() -> Ways
+    ensures { λ x. ⌜ x ≡ noWays ⌝ }
+{
+    Ways {
+        held: 0,
+        next: 0,
+        behind: 0,
+    }
+}
+
+// The empty set of rules.
+fn clear(words: &mut [u32])
+    requires { ⌜ length (now words) ≡ 4 ⌝ }
+    ensures { λ _. ⌜ now (words .exit) ≡ replicate 4 0 ⌝ }
+{
+    words[0] = 0;
+    words[1] = 0;
+    words[2] = 0;
+    words[3] = 0;
+}
+
+// The rules kept at a place, where the nonterminals `here` can stand: their set is written, rule 32k + b as digit b of word k.
+pub fn row_at(table: &[u16; 768], count: usize, here: u32, place: Place, words: &mut [u32]) -> Ways
+    requires { ⌜ Ready (now table) count ⌝ }
+    requires { ⌜ length (now words) ≡ 4 ⌝ }
+    ensures { λ x. ⌜ (x ≡ waysIn (now (table .entry)) here place count) × (now (words .exit) ≡ wordsIn (now (table .entry)) here place count) ⌝ }
+{
+    clear(words);
+    let mut ways = no_ways();
+    let mut r: usize = 0;
+    while r < count {
+        let k = r;
+        r += 1;
+        if keeps(here, table, k, place) {
+            add(words, k);
+            ways = ways_with(ways, tables::rule_of(table, k));
+        }
+    }
+    ways
+}
+
+// The ways on, with those of rule r where it is kept.
+fn ways_turn(ways: Ways, here: u32, table: &[u16; 768], r: usize, place: Place) -> Ways
+    requires { ⌜ (ways .held < 128) × (r < 128) × Below 32 (ruleIn (now table) r) ⌝ }
+    ensures { λ x. ⌜ x ≡ waysTurn ways here place (ruleIn (now (table .entry)) r) ⌝ }
+{
+    if keeps(here, table, r, place) {
+        ways_with(ways, tables::rule_of(table, r))
+    } else {
+        ways
+    }
+}
+
+// The ways on alone, where nobody asks for the set.
+pub fn ways_at(table: &[u16; 768], count: usize, here: u32, place: Place) -> Ways
+    requires { ⌜ Ready (now table) count ⌝ }
+    ensures { λ x. ⌜ x ≡ waysIn (now (table .entry)) here place count ⌝ }
+{
+    let mut ways = no_ways();
+    let mut r: usize = 0;
+    while r < count {
+        ways = ways_turn(ways, here, table, r, place);
+        r += 1;
+    }
+    ways
+}

@@ -1,0 +1,124 @@
+-- `marks`. The invariant: the words are those of a configuration, and the marks written, with those that it gives for the tokens left, are all.
+use Prim.Native.Nat.{ℕ, _-_, _≤_}
+use native.Mathlib.Omega.{arith}
+use mathlib.Core.Path.{_∙_}
+use borrow.Author.Needs.{needs}
+use lib.ListN.{length, replicate, length-replicate, length-set}
+use Rattle.stop_marks_core.proofs.Turns.{Turn, depths, first-turn, next-turn, last-turn}
+use Rattle.tables.specs.Ready.{grammarIn}
+use Rattle.stop_marks_core.proofs.marks.Statement.{statement}
+use Rattle.stop_marks_core.proofs.marks.Tie as tie
+
+abbrev Inv-loop : tie.InvT-loop
+Inv-loop table count start w out₀ empties stack₀ names₀ rows₀ depth₀ i₀ out stack names rows depth i = (i ≤ length w) × Turn (grammarIn table count start) w out₀ i rows depth stack names out
+
+abbrev μ-loop : tie.MeasureT-loop
+μ-loop table count start w out₀ empties stack₀ names₀ rows₀ depth₀ i₀ out stack names rows depth i = length w - i
+
+empties-requires : tie.Need-empties-requires Inv-loop μ-loop
+empties-requires c κs = search needs
+
+begin-requires : tie.Need-begin-requires Inv-loop μ-loop
+begin-requires c κs = search needs
+
+loop-holds : tie.Need-loop-holds Inv-loop μ-loop
+loop-holds c =
+    let s = c .before .before .before .before in
+    let a = s .args in (
+      omega arith,
+      first-turn (a .table .now) (a .count) (a .start) (a .w .now) (a .out .now)
+          (c .begin .result) (replicate 4096 0) (replicate 128 0) (c .begin .ensures) (s .pre .1 .1 .1 .0) (length-replicate {A = ℕ} 4096 0) (length-replicate {A = ℕ} 128 0),
+    )
+
+mark-of-requires : tie.Need-mark-of-requires Inv-loop μ-loop
+mark-of-requires c κs = search needs
+
+slice-write-out : tie.Need-slice-write-out Inv-loop μ-loop
+slice-write-out c =
+    let l = c .before .before .loop in
+    let u = l .inv .1 in omega (arith, u .size)
+
+mul-token-of : tie.Need-mul-token-of Inv-loop μ-loop
+mul-token-of c = search needs
+
+shared-slice-read-token-of : tie.Need-shared-slice-read-token-of Inv-loop μ-loop
+shared-slice-read-token-of c = search needs
+
+token-of-requires : tie.Need-token-of-requires Inv-loop μ-loop
+token-of-requires c κs = c .before .before .before .before .before .before .before .before .pre .1 .1 .0 .small (c .before .before .before .loop .i) (c .before .before .loop-test .taken)
+
+step-requires : tie.Need-step-requires Inv-loop μ-loop
+step-requires c κs =
+    let l = c .before .before .before .before .before .before .loop in
+    let s = c .before .before .before .before .before .before .before .before .before .before .before in
+    let u = l .inv .1 in
+    let d = depths u (c .before .before .before .before .before .loop-test .taken) in
+    (s .pre .0, (c .before .before .before .before .before .before .before .before .empties .ensures, (rw (c .before .before .token-of .ensures) d, (u .stack-size, u .names-size))))
+
+add-i : tie.Need-add-i Inv-loop μ-loop
+add-i c = search needs
+
+loop-less : tie.Need-loop-less Inv-loop μ-loop
+loop-less c = search needs
+
+loop-again : tie.Need-loop-again Inv-loop μ-loop
+loop-again c =
+    let l = c .before .before .before .before .before .before .before .before .loop in
+    let s = c .before .before .before .before .before .before .before .before .before .before .before .before .before in
+    let a = s .args in
+    let u = l .inv .1 in
+    let is = c .before .before .before .before .before .before .mark-of .ensures (a .table .now) (a .count) (a .start) (l .stack) (l .names) (u .configuration)
+    (s .pre .0) (c .before .before .before .before .before .before .before .before .before .before .empties .ensures) (u .holds) in (
+      omega arith,
+      next-turn (a .table .now) (a .count) (a .start) (a .w .now) (a .out .now)
+          (l .i) (l .rows) (l .depth) (l .stack) (l .names) (l .out) (c .before .before .before .before .before .before .mark-of .result) (s .pre .1 .1 .1 .1) u is
+          (c .before .step .result .rows) (c .before .step .result .depth) _ _ (c .before .before .before .before .before .before .before .loop-test .taken) (rw (c .before .before .before .before .token-of .ensures) at (c .before .step .ensures)),
+    )
+
+mark-of-requires-2 : tie.Need-mark-of-requires-2 Inv-loop μ-loop
+mark-of-requires-2 c κs = search needs
+
+slice-write-out-2 : tie.Need-slice-write-out-2 Inv-loop μ-loop
+slice-write-out-2 c =
+    let l = c .before .before .loop in
+    let u = l .inv .1 in omega (arith, u .size)
+
+same-length : tie.Need-same-length Inv-loop μ-loop
+same-length c =
+    let l = c .before .before .loop in
+    let u = l .inv .1 in length-set (l .out) (l .i) (c .mark-of2 .result) ∙ u .size
+
+returns : tie.Need-returns Inv-loop μ-loop
+returns c =
+    let l = c .before .before .loop in
+    let s = c .before .before .before .before .before .before .before in
+    let a = s .args in
+    let u = l .inv .1 in
+    let is = c .mark-of2 .ensures (a .table .now) (a .count) (a .start) (l .stack) (l .names) (u .configuration)
+    (s .pre .0) (c .before .before .before .before .empties .ensures) (u .holds) in
+    last-turn (a .table .now) (a .count) (a .start) (a .w .now) (a .out .now)
+    (l .i) (l .rows) (l .depth) (l .stack) (l .names) (l .out) (c .mark-of2 .result) (s .pre .1 .1 .1 .1) u is
+    (s .pre .0) (s .pre .1 .0) (omega arith)
+
+pub marks-spec : {M : Type 1} → statement M
+marks-spec =
+    tie.close
+    (tie.spec
+    Inv-loop
+    μ-loop
+    empties-requires
+    begin-requires
+    loop-holds
+    mark-of-requires
+    slice-write-out
+    mul-token-of
+    shared-slice-read-token-of
+    token-of-requires
+    step-requires
+    add-i
+    loop-less
+    loop-again
+    mark-of-requires-2
+    slice-write-out-2
+    same-length
+    returns)

@@ -1,0 +1,56 @@
+-- `test_enumerator::written::rules_of` is safe and ends: a rule takes six bytes at most, here and in the file.
+use borrow.Author.Needs.{needs}
+use Prim.Native.Nat.{_+_, _-_, _≤_}
+use mathlib.Core.Path.{_≡_}
+use lib.ListN.{length}
+use Rattle.test_enumerator.proofs.written.rules_of.Statement.{statement}
+use Rattle.test_enumerator.proofs.written.rules_of.Tie as tie
+
+abbrev Inv-loop : tie.InvT-loop
+Inv-loop file rules₀ size p₀ to₀ rules p to = (to ≤ size + 5) × (p ≤ 3 + to) × (length rules ≡ 768)
+
+abbrev μ-loop : tie.MeasureT-loop
+μ-loop file rules₀ size p₀ to₀ rules p to = (size + 6) - to
+
+rule-bytes-requires : tie.Need-rule-bytes-requires Inv-loop μ-loop
+rule-bytes-requires c κs = search needs
+
+behind-requires : tie.Need-behind-requires Inv-loop μ-loop
+behind-requires c κs = search needs
+
+loop-holds : tie.Need-loop-holds Inv-loop μ-loop
+loop-holds c = search needs
+
+slice-aggregate-copy-rule : tie.Need-slice-aggregate-copy-rule Inv-loop μ-loop
+slice-aggregate-copy-rule c = search needs
+
+copy-rule-requires : tie.Need-copy-rule-requires Inv-loop μ-loop
+copy-rule-requires c κs = search needs
+
+add-to : tie.Need-add-to Inv-loop μ-loop
+add-to c = search needs
+
+loop-less : tie.Need-loop-less Inv-loop μ-loop
+loop-less c = search needs
+
+loop-again : tie.Need-loop-again Inv-loop μ-loop
+loop-again c = search needs
+
+returns : tie.Need-returns Inv-loop μ-loop
+returns c = search needs
+
+pub rules-of-spec : {M : Type 1} → statement M
+rules-of-spec =
+    tie.close
+    (tie.spec
+    Inv-loop
+    μ-loop
+    rule-bytes-requires
+    behind-requires
+    loop-holds
+    slice-aggregate-copy-rule
+    copy-rule-requires
+    add-to
+    loop-less
+    loop-again
+    returns)

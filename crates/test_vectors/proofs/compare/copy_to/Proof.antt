@@ -1,0 +1,56 @@
+-- `test_vectors::compare::copy_to` is safe and ends.
+use borrow.Author.Needs.{needs}
+use Prim.Native.Nat.{_-_}
+use mathlib.Core.Path.{_≡_}
+use lib.ListN.{length}
+use Rattle.test_vectors.proofs.compare.copy_to.Statement.{statement}
+use Rattle.test_vectors.proofs.compare.copy_to.Tie as tie
+
+abbrev Inv-loop : tie.InvT-loop
+Inv-loop xs ys₀ to n i₀ ys i = length ys ≡ length ys₀
+
+abbrev μ-loop : tie.MeasureT-loop
+μ-loop xs ys₀ to n i₀ ys i = n - i
+
+loop-holds : tie.Need-loop-holds Inv-loop μ-loop
+loop-holds c = search needs
+
+add-put : tie.Need-add-put Inv-loop μ-loop
+add-put c = search needs
+
+byte-requires : tie.Need-byte-requires Inv-loop μ-loop
+byte-requires c κs = search needs
+
+put-requires : tie.Need-put-requires Inv-loop μ-loop
+put-requires c κs = search needs
+
+add-i : tie.Need-add-i Inv-loop μ-loop
+add-i c = search needs
+
+loop-less : tie.Need-loop-less Inv-loop μ-loop
+loop-less c = search needs
+
+loop-again : tie.Need-loop-again Inv-loop μ-loop
+loop-again c = search needs
+
+same-length : tie.Need-same-length Inv-loop μ-loop
+same-length c = search needs
+
+returns : tie.Need-returns Inv-loop μ-loop
+returns c = search needs
+
+pub copy-to-spec : {M : Type 1} → statement M
+copy-to-spec =
+    tie.close
+    (tie.spec
+    Inv-loop
+    μ-loop
+    loop-holds
+    add-put
+    byte-requires
+    put-requires
+    add-i
+    loop-less
+    loop-again
+    same-length
+    returns)

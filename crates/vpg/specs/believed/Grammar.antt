@@ -1,0 +1,49 @@
+-- Grammars, derivations and readings: Definition 2.1 of the paper and document 01, "Tokens, stages, rules" and "Readings".
+use Prim.Native.Nat.{ℕ}
+use mathlib.Core.Path.{_≡_}
+use mathlib.Core.List.{List, [], _∷_, _++_}
+use mathlib.Core.Option.{some}
+use lib.ListN.{getElem?}
+use Rattle.vpg.specs.declared.MarkName.{MarkName}
+use Rattle.vpg.specs.declared.OpenName.{OpenName}
+use Rattle.vpg.specs.declared.CloseName.{CloseName}
+use Rattle.vpg.specs.declared.Rule.{Rule}
+use Rattle.vpg.specs.declared.Token.{Token}
+
+-- "Rules are numbered from 0 in file order": rule r is the r-th of the list
+abbrev pub Rules : Type 0
+Rules = List Rule
+
+-- (V, Σ, P, L₀) of the paper: V is the numbers below `nonterminals` (document 01: stages), P the rules, L₀ the start
+pub record Grammar : Type 0 where
+  pub nonterminals : ℕ
+  pub start : ℕ
+  pub rules : Rules
+
+-- a derivation tree, with the number of the rule at each node; "the order in which stages are replaced doesn't count"
+pub data Tree : Type 0 where
+  leaf : ℕ → Tree
+  mark : ℕ → Tree → Tree
+  step : ℕ → Tree → Tree → Tree
+
+-- `Derives g L w t`: by the rules of g, L derives the tokens w, and t says how. One constructor for each form of Definition 2.1
+pub data Derives (g : Rules) : ℕ → List Token → Tree → Type 0 where
+  -- (1) L becomes nothing
+  by-empty : {r L : ℕ} → getElem? g r ≡ some (Rule.Empty L) → Derives g L [] (leaf r)
+  -- (2) L becomes mark c, then L₁
+  by-mark : {r L : ℕ} {c : MarkName} {L₁ : ℕ} {w : List Token} {t : Tree} →
+      getElem? g r ≡ some (Rule.Mark L c L₁) → Derives g L₁ w t → Derives g L (Token.Mark c ∷ w) (mark r t)
+  -- (3) L becomes open a, L₁, close b, then L₂
+  by-step : {r L : ℕ} {a : OpenName} {L₁ : ℕ} {b : CloseName} {L₂ : ℕ} {v w : List Token} {t u : Tree} →
+      getElem? g r ≡ some (Rule.Step L a L₁ b L₂) → Derives g L₁ v t → Derives g L₂ w u →
+      Derives g L (Token.Open a ∷ (v ++ (Token.Close b ∷ w))) (step r t u)
+
+-- "written as rule numbers": a node's number, then those of its parts in the order of the tokens
+abbrev pub code : Tree → List ℕ
+code (leaf r) = r ∷ []
+code (mark r t) = r ∷ code t
+code (step r t u) = r ∷ (code t ++ code u)
+
+-- "a derivation of the whole history" from the start, written as rule numbers
+abbrev pub Reading : Grammar → List Token → List ℕ → Type 0
+Reading g w e = (t : Tree) × Derives (g .rules) (g .start) w t × (code t ≡ e)
