@@ -3,7 +3,7 @@ use Prim.Native.Nat.{ℕ, zero, suc, _+_, _<_, _≤_}
 use native.Mathlib.Numerals.{add-one}
 use native.Mathlib.Omega.{arith}
 use mathlib.Core.Path.{_≡_, refl, sym, _∙_, ap, ap₂}
-use mathlib.Core.Bool.{Bool, true, false}
+use mathlib.Core.Bool.{Bool, true, false, cond}
 use mathlib.Core.List.{List, [], _∷_, _++_, map, append-assoc, append-nil}
 use borrow.Author.Tests.{lt-ltb, le-ltb}
 use lib.Dec.{ltb}
@@ -12,7 +12,6 @@ use lib.Seq.{take-suc-set, drop-set-lt}
 use Rattle.listing_model.specs.believed.Listing.{Call, Answer, Subject, due, Shown, start, model, shows, trace}
 use Rattle.listing_model.specs.Calls.{callOn, overEntries}
 use Rattle.listing_model.proofs.Listing.{Proper, listing, start-agrees, entries-proper}
-use Rattle.numbers.specs.believed.Number.{pick}
 use Rattle.files.specs.believed.Files.{Files, accepted, refused}
 use Rattle.service.specs.believed.Frame.{filesIn, served}
 use Rattle.history_file.specs.believed.HistoryFile.{tokensOf}
@@ -54,7 +53,7 @@ subject-proper grammar history size = go (filesIn grammar history)
     go (refused e) = tt
     go (accepted g ts) = pass (ltb size (suc (length ts)))
       where
-        pass : (b : Bool) → Proper (pick b (due 15) (overEntries g (tokensOf ts)))
+        pass : (b : Bool) → Proper (cond b (due 15) (overEntries g (tokensOf ts)))
         pass true = tt
         pass false = entries-proper g (tokensOf ts)
 

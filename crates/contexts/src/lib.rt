@@ -1,4 +1,6 @@
 // What stands at a position, which rules can stand there, and the nonterminals of those rules.
+use tables::Head;
+use tables::Table;
 use vpg::CloseName;
 use vpg::MarkName;
 use vpg::OpenName;
@@ -8,12 +10,12 @@ ghost use Prim.Native.Nat.{_<_};
 ghost use Rattle.tables.specs.Table.{ruleIn};
 ghost use Rattle.tables.specs.Ready.{Below, Ready};
 ghost use Rattle.history_file.specs.believed.HistoryFile.{tokenWith};
-ghost use Rattle.contexts.specs.Place.{isClose, markApplies, stepApplies, appliesTo, withLeft, levelIn};
+ghost use Rattle.contexts.specs.Context.{isClose, markApplies, stepApplies, appliesTo, withLeft, levelIn};
 
 // What stands at a position: the kind and the name of the token, the nonterminals that derive what follows it, and for an open the name of
 // its close and the nonterminals that derive what follows that. At the end stands a close. A place is made at one of three points, so it has
 // the token's two numbers: a token carried from there is put together and taken apart again at every position, which took a tenth of the time.
-pub struct Place {
+pub struct Context {
     pub kind: u32,
     pub name: u16,
     pub inside: u32,
@@ -21,10 +23,10 @@ pub struct Place {
     pub after: u32,
 }
 
-fn token_of(place: Place) -> Token
-    ensures { λ r. ⌜ r ≡ tokenWith (place .kind) (place .name) ⌝ }
+fn token_of(context: Context) -> Token
+    ensures { λ r. ⌜ r ≡ tokenWith (context .kind) (context .name) ⌝ }
 {
-    history_file::token_with(place.kind, place.name)
+    history_file::token_with(context.kind, context.name)
 }
 
 fn is_close(token: Token) -> bool
@@ -38,14 +40,14 @@ fn is_close(token: Token) -> bool
 }
 
 // Whether a form 1 rule's mark stands here and what follows can be derived.
-fn mark_applies(name: MarkName, to: u16, place: Place) -> bool
+fn mark_applies(name: MarkName, to: u16, context: Context) -> bool
     requires { ⌜ to < 32 ⌝ }
-    ensures { λ r. ⌜ r ≡ markApplies name to place ⌝ }
+    ensures { λ r. ⌜ r ≡ markApplies name to context ⌝ }
 {
-    let token = token_of(place);
+    let token = token_of(context);
     match token {
         Token::Mark(c) => if vpg::same_mark(name, c) {
-            bits::has(place.inside, to as usize)
+            bits::has(context.inside, to as usize)
         } else {
             false
         },
@@ -55,19 +57,19 @@ fn mark_applies(name: MarkName, to: u16, place: Place) -> bool
 }
 
 // Whether a form 2 rule's open and close stand here, and the inside and what follows the close can be derived.
-fn step_applies(a: OpenName, to: u16, b: CloseName, last: u16, place: Place) -> bool
+fn step_applies(a: OpenName, to: u16, b: CloseName, last: u16, context: Context) -> bool
     requires { ⌜ (to < 32) × (last < 32) ⌝ }
-    ensures { λ r. ⌜ r ≡ stepApplies a to b last place ⌝ }
+    ensures { λ r. ⌜ r ≡ stepApplies a to b last context ⌝ }
 {
-    let token = token_of(place);
-    let close = place.close;
+    let token = token_of(context);
+    let close = context.close;
     match token {
         Token::Mark(_) => false,
         Token::Open(c) => {
             if vpg::same_open(a, c) {
-                if bits::has(place.inside, to as usize) {
+                if bits::has(context.inside, to as usize) {
                     if vpg::same_close(b, close) {
-                        bits::has(place.after, last as usize)
+                        bits::has(context.after, last as usize)
                     } else {
                         false
                     }
@@ -83,26 +85,26 @@ fn step_applies(a: OpenName, to: u16, b: CloseName, last: u16, place: Place) -> 
 }
 
 // Whether the rule of number r can stand here, whatever nonterminal it is for. Its numbers are looked at only as far as need be.
-pub fn applies(table: &[u16; 768], r: usize, place: Place) -> bool
+pub fn applies(table: &Table, r: usize, context: Context) -> bool
     requires { ⌜ (r < 128) × Below 32 (ruleIn (now table) r) ⌝ }
-    ensures { λ x. ⌜ x ≡ appliesTo (ruleIn (now (table .entry)) r) place ⌝ }
+    ensures { λ x. ⌜ x ≡ appliesTo (ruleIn (now (table .entry)) r) context ⌝ }
 {
     let v = tables::six_in(table, r);
     if v.0 == 0 {
-        return is_close(token_of(place));
+        return is_close(token_of(context));
     }
     if v.0 == 1 {
-        return mark_applies(MarkName(v.2), v.3, place);
+        return mark_applies(MarkName(v.2), v.3, context);
     }
-    step_applies(OpenName(v.2), v.3, CloseName(v.4), v.5, place)
+    step_applies(OpenName(v.2), v.3, CloseName(v.4), v.5, context)
 }
 
 // The set with the nonterminal of rule r, where the rule can stand here.
-fn with_left(set: u32, table: &[u16; 768], r: usize, place: Place) -> u32
+fn with_left(set: u32, table: &Table, r: usize, context: Context) -> u32
     requires { ⌜ (r < 128) × Below 32 (ruleIn (now table) r) ⌝ }
-    ensures { λ x. ⌜ x ≡ withLeft set (ruleIn (now (table .entry)) r) place ⌝ }
+    ensures { λ x. ⌜ x ≡ withLeft set (ruleIn (now (table .entry)) r) context ⌝ }
 {
-    if applies(table, r, place) {
+    if applies(table, r, context) {
         bits::with(set, tables::left_in(table, r) as usize)
     } else {
         set
@@ -110,14 +112,15 @@ fn with_left(set: u32, table: &[u16; 768], r: usize, place: Place) -> u32
 }
 
 // The nonterminals of the rules that can stand here.
-pub fn level(table: &[u16; 768], count: usize, place: Place) -> u32
-    requires { ⌜ Ready (now table) count ⌝ }
-    ensures { λ m. ⌜ m ≡ levelIn (now (table .entry)) place count ⌝ }
+pub fn level(table: &Table, head: Head, context: Context) -> u32
+    requires { ⌜ Ready (now table) head ⌝ }
+    ensures { λ m. ⌜ m ≡ levelIn (now (table .entry)) context (head .rules) ⌝ }
 {
+    let count = head.rules;
     let mut set: u32 = 0;
     let mut r: usize = 0;
     while r < count {
-        set = with_left(set, table, r, place);
+        set = with_left(set, table, r, context);
         r += 1;
     }
     set

@@ -21,9 +21,9 @@ use Rattle.level_theory.proofs.Search.{None, end-first}
 use Rattle.level_theory.proofs.Local.{Turn, turn, first-turn}
 use Rattle.level_theory.proofs.Walk.{passes-end, end-passes, stored}
 use Rattle.vpg.specs.Steps.{left}
-use Rattle.laws.proofs.Basics.{and-left, and-right}
-use Rattle.contexts.specs.declared.Place.{Place}
-use Rattle.contexts.specs.Place.{appliesTo}
+use Rattle.laws.proofs.Bools.{and-left, and-right}
+use Rattle.contexts.specs.declared.Context.{Context}
+use Rattle.contexts.specs.Context.{appliesTo}
 use Rattle.tables.specs.Table.{ruleIn, rulesIn}
 use Rattle.tables.proofs.Tables.{rules-at}
 use Rattle.history_file.specs.believed.HistoryFile.{tokenOf, tokensOf}
@@ -107,19 +107,19 @@ module _ {t : List ℕ} {n : ℕ} {ts m mask : List ℕ} (set-up : Setting t n t
     kept = refl;
   }
 
-  module _ {new due : List ℕ} {L p : ℕ} (k : Goes new due L p) (place : Place) (stands : Stands W mask p place) (r : ℕ) (small : Smallest t n L place r) where
+  module _ {new due : List ℕ} {L p : ℕ} (k : Goes new due L p) (context : Context) (stands : Stands W mask p context) (r : ℕ) (small : Smallest t n L context r) where
     after : Leveled G W mask (suc p)
     after q h l = set-up .leveled q (omega arith) l
 
     -- a rule is found
     pub found-rule : r < n
-    found-rule = found t n W mask p L place stands after (dueAt due (pendingAt W p)) r (k .fits) small
+    found-rule = found t n W mask p L context stands after (dueAt due (pendingAt W p)) r (k .fits) small
 
     passing : Passes (testAt G (drop p W)) G L r
-    passing = passes t n W mask p L place stands after r found-rule (small .found found-rule)
+    passing = passes t n W mask p L context stands after r found-rule (small .found found-rule)
 
     none-before : None (testAt G (drop p W)) G L (λ q. q < r)
-    none-before = least t n W mask p L place stands after r small
+    none-before = least t n W mask p L context stands after r small
 
     module _ (more : p < length ts) where
       here : drop p W ≡ tokenOf (getD ts p 0) ∷ drop (suc p) W
@@ -131,7 +131,7 @@ module _ {t : List ℕ} {n : ℕ} {ts m mask : List ℕ} (set-up : Setting t n t
       here-turn : Turn G W (length W) due p (tokenOf (getD ts p 0)) here L r (ruleIn t r)
       here-turn =
           turn G W (length W) due p (tokenOf (getD ts p 0)) here L r (ruleIn t r) inside (k .fits) (rules-at t n r found-rule) (eqb-true _ _ (and-left _ _ (small .found found-rule)))
-          (sym (stands G after (ruleIn t r)) ∙ and-right (eqb (left (ruleIn t r)) L) (appliesTo (ruleIn t r) place) (small .found found-rule))
+          (sym (stands G after (ruleIn t r)) ∙ and-right (eqb (left (ruleIn t r)) L) (appliesTo (ruleIn t r) context) (small .found found-rule))
 
       pub going-next : Goes (set new p r) (set due (getD m p 0) (later (ruleIn t r) (getD due (getD m p 0) 0))) (inner (ruleIn t r) (getD due p 0)) (p + 1)
       going-next =

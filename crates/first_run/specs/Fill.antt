@@ -12,18 +12,18 @@ use Rattle.vpg.specs.Extremes.{Least}
 use Rattle.vpg.specs.Runs.{State}
 use Rattle.vpg.specs.Steps.{left}
 use Rattle.level_theory.specs.Walk.{Run}
-use Rattle.contexts.specs.declared.Place.{Place}
-use Rattle.contexts.specs.Place.{appliesTo}
+use Rattle.contexts.specs.declared.Context.{Context}
+use Rattle.contexts.specs.Context.{appliesTo}
 use Rattle.tables.specs.Table.{ruleIn}
 
 -- the rule is for L and can stand here
-abbrev pub ruleFits : Rule → ℕ → Place → Bool
-ruleFits R L place = eqb (left R) L && appliesTo R place
+abbrev pub ruleFits : Rule → ℕ → Context → Bool
+ruleFits R L context = eqb (left R) L && appliesTo R context
 
 -- r is the smallest of the first n rules that is for L and can stand here; or there is none
-pub record Smallest (t : List ℕ) (n L : ℕ) (place : Place) (r : ℕ) : Type 0 where
-  pub found : r < n → ruleFits (ruleIn t r) L place ≡ true
-  pub least : (q : ℕ) → q < n → q < r → ruleFits (ruleIn t q) L place ≡ false
+pub record Smallest (t : List ℕ) (n L : ℕ) (context : Context) (r : ℕ) : Type 0 where
+  pub found : r < n → ruleFits (ruleIn t r) L context ≡ true
+  pub least : (q : ℕ) → q < n → q < r → ruleFits (ruleIn t q) L context ≡ false
 
 -- from position p on the buffer now has the first run from the state s; all else is as it was
 pub record Filled (g : Rules) (w : List Token) (s : State) (p : ℕ) (old new : List ℕ) : Type 0 where

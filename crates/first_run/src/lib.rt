@@ -1,5 +1,5 @@
 // The first reading: forward over the tokens, at each position the smallest rule that can stand there.
-use contexts::Place;
+use contexts::Context;
 use tables::Six;
 ghost use mathlib.Core.Path.{_≡_};
 ghost use mathlib.Core.List.{[]};
@@ -18,25 +18,25 @@ ghost use Rattle.first_run.specs.Fill.{ruleFits, Smallest, Filled};
 ghost use Rattle.first_run.specs.First.{firstSaid};
 
 // Whether the rule of number r is for the nonterminal and can stand here.
-pub fn fits(table: &[u16; 768], r: usize, l: u16, place: Place) -> bool
+pub fn fits(table: &[u16; 768], r: usize, l: u16, context: Context) -> bool
     requires { ⌜ (r < 128) × Below 32 (ruleIn (now table) r) ⌝ }
-    ensures { λ x. ⌜ x ≡ ruleFits (ruleIn (now (table .entry)) r) l place ⌝ }
+    ensures { λ x. ⌜ x ≡ ruleFits (ruleIn (now (table .entry)) r) l context ⌝ }
 {
     if tables::left_in(table, r) == l {
-        contexts::applies(table, r, place)
+        contexts::applies(table, r, context)
     } else {
         false
     }
 }
 
 // The smallest rule for the nonterminal that can stand here; count where there is none.
-pub fn smallest(table: &[u16; 768], count: usize, l: u16, place: Place) -> usize
+pub fn smallest(table: &[u16; 768], count: usize, l: u16, context: Context) -> usize
     requires { ⌜ Ready (now table) count ⌝ }
-    ensures { λ r. ⌜ Smallest (now (table .entry)) count l place r ⌝ }
+    ensures { λ r. ⌜ Smallest (now (table .entry)) count l context r ⌝ }
 {
     let mut r: usize = 0;
     while r < count {
-        if fits(table, r, l, place) {
+        if fits(table, r, l, context) {
             return r;
         }
         r += 1;
@@ -89,7 +89,7 @@ pub fn fill(
     let mut l = l0;
     let mut p = from;
     while p < w.len() {
-        let r = smallest(table, count, l, levels::place_at(w, m, mask, p));
+        let r = smallest(table, count, l, levels::context_at(w, m, mask, p));
         let rule = tables::six_in(table, r);
         out[p] = r as u8;
         let j = m[p];
@@ -97,7 +97,7 @@ pub fn fill(
         store_later(&mut due, j, rule);
         p += 1;
     }
-    let last = smallest(table, count, l, levels::place_at(w, m, mask, p));
+    let last = smallest(table, count, l, levels::context_at(w, m, mask, p));
     out[p] = last as u8;
 }
 

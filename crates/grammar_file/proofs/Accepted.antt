@@ -7,13 +7,14 @@ use mathlib.Core.List.{List, [], _∷_, _++_, append-nil, append-assoc, List·Me
 use mathlib.Core.Option.{some, Option·none-ne-some, Option·some-injective}
 use native.Mathlib.Omega.{arith}
 use lib.ListN.{length, getElem?}
+use Rattle.laws.specs.Distinct.{Distinct}
 use Rattle.numbers.specs.declared.FieldRead.{FieldRead}
 use Rattle.numbers.specs.declared.FieldRead.the-variants.{Field, Refused as FieldRefused}
 use Rattle.numbers.specs.believed.Number.{Source}
 use Rattle.numbers.specs.believed.Field.{countAt}
 use Rattle.numbers.specs.Written.{NumbersAt, none, one, Holds}
 use Rattle.numbers.proofs.Fields.{Counted, count-read, count-reads}
-use Rattle.numbers.proofs.Picks.{picked-second}
+use Rattle.laws.proofs.Bools.{chose-second}
 use Rattle.numbers.proofs.Standing.{none-left, one-left, join, part}
 use Rattle.rules.specs.declared.RuleRead.{RuleRead}
 use Rattle.rules.specs.declared.RuleRead.the-variants.{Read, Refused as RuleRefused}
@@ -25,7 +26,7 @@ use Rattle.tables.proofs.Earlier.{earlier-is}
 use Rattle.vpg.specs.declared.Rule.{Rule}
 use Rattle.vpg.specs.believed.Grammar.{Grammar}
 use Rattle.grammar_file.specs.believed.GrammarFile.{GrammarFile, accepted, refused, afterRule, afterCount, rulesFrom, grammarFrom}
-use Rattle.grammar_file.specs.Wellformed.{Distinct, Wellformed, rulesNumbers, numbersOf}
+use Rattle.grammar_file.specs.Wellformed.{Wellformed, rulesNumbers, numbersOf}
 
 -- ── lists of rules ──
 
@@ -110,7 +111,7 @@ module _ (x : Source) (nonterminals start : ℕ) where
   rules-read : (g : Grammar) (due at : ℕ) (rules : List Rule) → rulesFrom x nonterminals start due at rules ≡ accepted g → RulesAre g due at rules
   unfolding rulesFrom
   rules-read g zero at rules h =
-      let p = picked-second (x .more at) _ _ apart h in
+      let p = chose-second (x .more at) _ _ apart h in
       record {
         rest = [];
         is = rw append-nil (same-grammar (p .1));
@@ -124,7 +125,7 @@ module _ (x : Source) (nonterminals start : ℕ) where
   rules-read g (suc due) at rules h =
       let f = after-rule (ruleAt (x .number) at nonterminals) _ h in
       let i = rule-is (x .number) nonterminals at (f .0) (f .1) .0 (f .2) in
-      let p = picked-second (earlier (f .0) rules) _ _ apart (f .3) in
+      let p = chose-second (earlier (f .0) rules) _ _ apart (f .3) in
       one-rule (f .0) (i .0) (i .1) (p .0) (rules-read g due (f .1) (rules ++ (f .0 ∷ [])) (p .1))
 
   rules-reads : (rest : List Rule) (at end : ℕ) (rules : List Rule) → NumbersAt (x .number) at (rulesNumbers rest) end → x .more end ≡ false

@@ -5,7 +5,7 @@ use mathlib.Core.List.{List, [], _∷_, List·Memᴰ, List·Memᴰ·head, List·
 use native.Mathlib.Omega.{arith}
 use lib.ListN.{length, getD}
 use Rattle.rules.specs.RuleNumbers.{Fits}
-use Rattle.tables.specs.Ready.{Below, Ready}
+use Rattle.tables.specs.Ready.{Below, Ready, headOf}
 use Rattle.tables.specs.Table.{tableOf}
 use Rattle.tables.proofs.Tables.{table-rule}
 use Rattle.vpg.specs.declared.Rule.{Rule}
@@ -22,7 +22,7 @@ fits-below n (Rule.Empty l) h f = omega arith
 fits-below n (Rule.Mark l c l1) h f = omega arith
 fits-below n (Rule.Step l a l1 b l2) h f = omega arith
 
-pub wellformed-ready : (g : Grammar) → Wellformed g → Ready (tableOf (g .rules)) (length (g .rules))
+pub wellformed-ready : (g : Grammar) → Wellformed g → Ready (tableOf (g .rules)) (headOf g)
 wellformed-ready g w = record {
   few = w .rules-most;
   small =
@@ -30,4 +30,5 @@ wellformed-ready g w = record {
       let r = getD (g .rules) k (Rule.Empty 0) in
       rw (table-rule (g .rules) k (Rule.Empty 0) (w .rules-most) h)
       (fits-below (g .nonterminals) r (w .nonterminals-most) (w .fits r (getD-member (g .rules) k (Rule.Empty 0) h)));
+  start-small = omega (arith, w .start-below, w .nonterminals-most);
 }

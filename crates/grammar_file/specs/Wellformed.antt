@@ -6,11 +6,7 @@ use lib.ListN.{length}
 use Rattle.rules.specs.RuleNumbers.{ruleNumbers, Fits}
 use Rattle.vpg.specs.declared.Rule.{Rule}
 use Rattle.vpg.specs.believed.Grammar.{Grammar}
-
--- no rule stands twice
-abbrev pub Distinct : List Rule → Type 0
-Distinct [] = Unit {0}
-Distinct (r ∷ rs) = (List·Memᴰ r rs → ⊥) × Distinct rs
+use Rattle.laws.specs.Distinct.{Distinct}
 
 -- "stage count (1 to 32), rule count (1 to 128), then each rule"
 pub record Wellformed (g : Grammar) : Type 0 where

@@ -14,7 +14,7 @@ use Rattle.numbers.specs.believed.Number.{Source}
 use Rattle.numbers.specs.believed.Field.{fieldAt}
 use Rattle.numbers.specs.Written.{NumbersAt, none, one, Holds}
 use Rattle.numbers.proofs.Fields.{Limited, field-read, field-reads}
-use Rattle.numbers.proofs.Picks.{picked-second}
+use Rattle.laws.proofs.Bools.{chose-second}
 use Rattle.numbers.proofs.Standing.{none-left, one-left}
 use Rattle.history_file.specs.declared.TokenRead.{TokenRead}
 use Rattle.history_file.specs.declared.TokenRead.the-variants.{Token as TokenIs, Refused as TokenRefused}
@@ -69,8 +69,8 @@ module _ (x : Source) where
   tokens-read : (ts : List ℕ) (due at depth : ℕ) (before : List ℕ) → tokensFrom x due at depth before ≡ accepted ts → TokensAre ts due at depth before
   unfolding tokensFrom
   tokens-read ts zero at depth before h =
-      let o = picked-second (ltb 0 depth) _ _ apart h in
-      let p = picked-second (x .more at) _ _ apart (o .1) in
+      let o = chose-second (ltb 0 depth) _ _ apart h in
+      let p = chose-second (x .more at) _ _ apart (o .1) in
       let closed = ltb-false 0 depth (o .0) in
       record {
         rest = [];

@@ -6,6 +6,7 @@ use native.Mathlib.Numerals.{add-one}
 use native.Mathlib.Omega.{arith}
 use lib.ListN.{length, take, drop, set, replicate, take-append-drop}
 use lib.Seq.{drop-cons, drop-set-lt, take-suc-set, length-take-le}
+use Rattle.laws.proofs.Lists.{tails}
 
 -- all from place k on are zeros
 abbrev pub Cleared : ℕ → List ℕ → ℕ → Type 0
@@ -15,9 +16,6 @@ pub cleared-next : (n : ℕ) (l : List ℕ) (k v : ℕ) → k < length l → k <
 cleared-next n l k v h m p =
     let e : n - k ≡ suc (n - suc k) = omega arith in
     rw (add-one k, drop-set-lt (suc k) l k v (omega arith)) (tails (rw (drop-cons l k 0 h, e) at p))
-  where
-    tails : {x y : ℕ} {a b : List ℕ} → x ∷ a ≡ y ∷ b → a ≡ b
-    tails q = cc
 
 pub front-next : (l : List ℕ) (k v : ℕ) → k < length l → take (k + 1) (set l k v) ≡ take k l ++ (v ∷ [])
 front-next l k v h = rw add-one (take-suc-set l k v h)

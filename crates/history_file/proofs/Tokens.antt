@@ -2,7 +2,7 @@
 use Prim.Native.Nat.{ℕ, suc, _+_, _-_, _<_, _≤_}
 use mathlib.Core.Path.{_≡_, refl}
 use mathlib.Core.Logic.{_≢_}
-use mathlib.Core.Bool.{Bool, true, false, _&&_, _||_}
+use mathlib.Core.Bool.{Bool, true, false, cond, _&&_, _||_}
 use mathlib.Core.List.{List, [], _∷_, _++_}
 use native.Mathlib.Nat.{mod-lt}
 use native.Mathlib.Omega.{arith}
@@ -10,8 +10,8 @@ use lib.Dec.{eqb, leb, lit<}
 use borrow.Author.Tests.{leb-false, lt-leb, eqb-false, eqb-true, eq-eqb, ne-eqb}
 use Rattle.numbers.specs.declared.NumberRead.{NumberRead}
 use Rattle.numbers.specs.declared.NumberRead.the-variants.{Number, Refused as NumberRefused}
-use Rattle.numbers.specs.believed.Number.{pick, Source}
-use Rattle.numbers.proofs.Picks.{picked-second}
+use Rattle.numbers.specs.believed.Number.{Source}
+use Rattle.laws.proofs.Bools.{chose-second}
 use Rattle.history_file.specs.declared.TokenRead.the-variants.{Token as TokenIs, Refused as TokenRefused}
 use Rattle.history_file.specs.believed.HistoryFile.{kind, tokenJudged, judged, tokenAt, depthAfter, refused, tokensFrom}
 
@@ -41,9 +41,9 @@ pub judged-read : (r : NumberRead) (depth t next : ℕ) → judged r depth ≡ T
 unfolding tokenJudged
 judged-read (NumberRefused e) depth t next h = absurd (let z : _≡_ {A = ℕ} 0 1 = cc in omega arith)
 judged-read (Number u at) depth t next h =
-    let p = picked-second (leb 256 u || eqb (kind u) 3) _ _ apart h in
-    let q = picked-second (eqb (kind u) 2 && eqb depth 0) _ _ apart (p .1) in
-    let s = picked-second (eqb (kind u) 1 && leb 128 depth) _ _ apart (q .1) in
+    let p = chose-second (leb 256 u || eqb (kind u) 3) _ _ apart h in
+    let q = chose-second (eqb (kind u) 2 && eqb depth 0) _ _ apart (p .1) in
+    let s = chose-second (eqb (kind u) 1 && leb 128 depth) _ _ apart (q .1) in
     let n = neither (leb 256 u) (eqb (kind u) 3) (p .0) in
     let ne = eqb-false (kind u) 3 (n .1) in
     let z : u ≡ t = cc in
@@ -80,7 +80,7 @@ pub depth-most : (r : NumberRead) (depth t next : ℕ) → Judged r depth t next
 unfolding depthAfter
 depth-most r depth t next j h = go (eqb (kind t) 1) refl (eqb (kind t) 2)
   where
-    go : (b : Bool) → eqb (kind t) 1 ≡ b → (d : Bool) → pick b (depth + 1) (pick d (depth - 1) depth) ≤ 128
+    go : (b : Bool) → eqb (kind t) 1 ≡ b → (d : Bool) → cond b (depth + 1) (cond d (depth - 1) depth) ≤ 128
     go true p d = let l = j .opens (eqb-true _ _ p) in omega arith
     go false p true = omega arith
     go false p false = h

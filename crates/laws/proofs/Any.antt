@@ -3,20 +3,12 @@ use Prim.Native.Nat.{ℕ, zero, suc, _<_}
 use native.Mathlib.Nat.{not-suc-le-zero}
 use native.Mathlib.Omega.{arith}
 use native.Mathlib.Decide.{decLt}
-use mathlib.Core.Path.{_≡_, refl}
-use mathlib.Core.Bool.{Bool, true, false, _&&_, _||_, false≢true, or-true}
-use mathlib.Core.List.{List, [], _∷_}
+use mathlib.Core.Path.{_≡_, refl, sym}
+use mathlib.Core.Bool.{Bool, true, false, _||_, false≢true, or-true, or-false, or-assoc}
+use mathlib.Core.List.{List, [], _∷_, _++_}
 use mathlib.Core.Option.{some, Option·none-ne-some, Option·some-injective}
-use borrow.Author.Tests.{eq-eqb}
-use lib.Dec.{eqb}
 use lib.ListN.{getElem?}
 use Rattle.laws.specs.Any.{any, anyBelow}
-
-pub both : {a b : Bool} → a ≡ true → b ≡ true → (a && b) ≡ true
-both p q = rw (p, q)
-
-pub eqb-refl : (n : ℕ) → eqb n n ≡ true
-eqb-refl n = eq-eqb n n refl
 
 pub record Some {A : Type 0} (p : A → Bool) (l : List A) : Type 0 where
   pub number : ℕ
@@ -36,6 +28,10 @@ pub some-any : {A : Type 0} (p : A → Bool) (l : List A) (i : ℕ) {x : A} → 
 some-any p [] i {x} e q = absurd (Option·none-ne-some x e)
 some-any p (y ∷ l) zero {x} e q = rw (Option·some-injective y x e, q)
 some-any p (y ∷ l) (suc i) e q = rw (some-any p l i e q) (or-true (p y))
+
+pub any-snoc : {A : Type 0} (p : A → Bool) (l : List A) (x : A) → any p (l ++ (x ∷ [])) ≡ (any p l || p x)
+any-snoc p [] x = or-false (p x)
+any-snoc p (y ∷ l) x = rw (any-snoc p l x) (sym (or-assoc (p y) (any p l) (p x)))
 
 pub record Below (n : ℕ) (p : ℕ → Bool) : Type 0 where
   pub number : ℕ

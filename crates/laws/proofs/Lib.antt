@@ -1,2 +1,3 @@
 pub mod Any
-pub mod Basics
+pub mod Bools
+pub mod Lists

@@ -8,6 +8,7 @@ use mathlib.Core.Option.{some, Option·none-ne-some, Option·some-injective}
 use borrow.Author.Tests.{eqb-true, eq-eqb}
 use lib.Dec.{eqb}
 use lib.ListN.{getElem?}
+use Rattle.laws.proofs.Any.{any-some, some-any}
 use Rattle.vpg.specs.declared.MarkName.{MarkName}
 use Rattle.vpg.specs.declared.OpenName.{OpenName}
 use Rattle.vpg.specs.declared.CloseName.{CloseName}
@@ -16,35 +17,9 @@ use Rattle.vpg.specs.declared.Token.{Token}
 use Rattle.vpg.specs.believed.Grammar.{Rules}
 use Rattle.vpg.specs.Runs.{Stack, runs}
 use Rattle.vpg.specs.Steps.{left}
-use Rattle.laws.proofs.Basics.{and-left, and-right}
+use Rattle.laws.proofs.Bools.{and-left, and-right, both}
 use Rattle.vpg.proofs.Take.{Move, by-empty, by-mark, by-step, taken, take, ended, end, name-mark, name-open, name-close}
-use Rattle.level_theory.specs.Masks.{Nonterminals, Outer, Masks, any, behind, applies, finishes, lefts, outer, masks, Match, Fits}
-
--- ── any ──
-
-pub record Some (p : Rule → Bool) (g : Rules) : Type 0 where
-  pub number : ℕ
-  pub rule : Rule
-  pub is : getElem? g number ≡ some rule
-  pub passes : p rule ≡ true
-
-pub any-some : (p : Rule → Bool) (g : Rules) → any p g ≡ true → Some p g
-any-some p [] q = absurd (false≢true q)
-any-some p (R ∷ g) q = go (p R) refl q (any-some p g)
-  where
-    go : (b : Bool) → p R ≡ b → (b || any p g) ≡ true → (any p g ≡ true → Some p g) → Some p (R ∷ g)
-    go true e q below = record { number = 0; rule = R; is = refl; passes = e }
-    go false e q below =
-        let h = below q in
-        record { number = suc (h .number); rule = h .rule; is = h .is; passes = h .passes }
-
-pub some-any : (p : Rule → Bool) (g : Rules) (r : ℕ) (R : Rule) → getElem? g r ≡ some R → p R ≡ true → any p g ≡ true
-some-any p [] r R e q = absurd (Option·none-ne-some R e)
-some-any p (R′ ∷ g) zero R e q = rw (Option·some-injective R′ R e, q)
-some-any p (R′ ∷ g) (suc r) R e q = rw (some-any p g r R e q) (or-true (p R′))
-
-pub both : {a b : Bool} → a ≡ true → b ≡ true → (a && b) ≡ true
-both p q = rw (p, q)
+use Rattle.level_theory.specs.Masks.{Nonterminals, Outer, Masks, behind, applies, finishes, lefts, outer, masks, Match, Fits}
 
 -- rule number r is for L and passes
 pub record Passes (p : Rule → Bool) (g : Rules) (L r : ℕ) : Type 0 where
@@ -56,10 +31,10 @@ pub record Passes (p : Rule → Bool) (g : Rules) (L r : ℕ) : Type 0 where
 pub lefts-some : (p : Rule → Bool) (g : Rules) (L : ℕ) → lefts p g L ≡ true → (r : ℕ) × Passes p g L r
 lefts-some p g L q =
     let h = any-some (λ R. eqb (left R) L && p R) g q in
-    (h .number, record { rule = h .rule; is = h .is; from = eqb-true _ _ (and-left _ _ (h .passes)); passes = and-right (eqb (left (h .rule)) L) _ (h .passes) })
+    (h .number, record { rule = h .element; is = h .is; from = eqb-true _ _ (and-left _ _ (h .passes)); passes = and-right (eqb (left (h .element)) L) _ (h .passes) })
 
 pub some-lefts : (p : Rule → Bool) (g : Rules) (L r : ℕ) (R : Rule) → getElem? g r ≡ some R → left R ≡ L → p R ≡ true → lefts p g L ≡ true
-some-lefts p g L r R i e q = some-any (λ R. eqb (left R) L && p R) g r R i (both (eq-eqb _ _ e) q)
+some-lefts p g L r R i e q = some-any (λ R. eqb (left R) L && p R) g r i (both (eq-eqb _ _ e) q)
 
 -- ── one step ──
 

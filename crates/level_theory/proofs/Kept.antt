@@ -9,6 +9,9 @@ use mathlib.Core.Option.{Option, none, some, Option·none-ne-some, Option·some-
 use borrow.Author.Tests.{eqb-true, eq-eqb}
 use lib.Dec.{eqb}
 use lib.ListN.{getElem?, drop}
+use Rattle.laws.proofs.Lists.{heads, tails}
+use Rattle.laws.proofs.Any.{any-some, some-any}
+use Rattle.laws.specs.Any.{any}
 use Rattle.vpg.specs.declared.CloseName.{CloseName}
 use Rattle.vpg.specs.declared.Rule.{Rule}
 use Rattle.vpg.specs.declared.Token.{Token}
@@ -16,31 +19,19 @@ use Rattle.vpg.specs.believed.Grammar.{Rules, Grammar}
 use Rattle.vpg.specs.Runs.{Stack, runs, entries}
 use Rattle.sets_theory.specs.believed.Sets.{kept}
 use Rattle.vpg.specs.Steps.{left}
-use Rattle.laws.proofs.Basics.{and-left, and-right, or-cases}
+use Rattle.laws.proofs.Bools.{and-left, and-right, or-cases, both, same-test}
 use Rattle.sets_theory.proofs.Sets.{kept-entry}
 use Rattle.vpg.proofs.Take.{Move, by-empty, by-mark, by-step, moved, moves, Taken, taken, take, ended, end}
-use Rattle.level_theory.specs.Masks.{Nonterminals, any, applies, masks, Match, Fits}
+use Rattle.level_theory.specs.Masks.{Nonterminals, applies, masks, Match, Fits}
 use Rattle.level_theory.specs.Pending.{Closes, rest, pendingOver, pendingAt, closeOf}
 use Rattle.level_theory.specs.Walk.{testAt}
 use Rattle.level_theory.specs.Kept.{keeps, goesTo, returnsTo, going, returning, passed, Reached, Behind, Returns, Front}
-use Rattle.level_theory.proofs.Alive.{any-some, some-any, both, lefts-some, applies-goes, goes-applies, ends-empty, run-fits, fits-run}
+use Rattle.level_theory.proofs.Alive.{lefts-some, applies-goes, goes-applies, ends-empty, run-fits, fits-run}
 use Rattle.level_theory.proofs.Pending.{From, rest-in, pending-from, drop-next, pending-next, masks-outer}
-
--- two tests that pass together
-same-test : (a b : Bool) → (a ≡ true → b ≡ true) → (b ≡ true → a ≡ true) → a ≡ b
-same-test true b f h = sym (f refl)
-same-test false true f h = h refl
-same-test false false f h = refl
 
 -- ── lists ──
 
 module _ {A : Type 0} where
-  heads : {a b : A} {s t : List A} → a ∷ s ≡ b ∷ t → a ≡ b
-  heads q = cc
-
-  tails : {a b : A} {s t : List A} → a ∷ s ≡ b ∷ t → s ≡ t
-  tails q = cc
-
   drop-all : (l : List A) (p : ℕ) {x : A} {f : List A} → drop p l ≡ x ∷ f → getElem? l p ≡ some x
   drop-all [] zero e = absurd (let z : _≡_ {A = ℕ} 0 1 = cc in omega arith)
   drop-all [] (suc p) e = absurd (let z : _≡_ {A = ℕ} 0 1 = cc in omega arith)
@@ -352,13 +343,13 @@ module _ (g : Grammar) (w : List Token) where
       kept-on : (k : Rule → Bool) → any (λ R. Keeps R && k R) Rs ≡ true → (R : Rule) × (s : Stack) × On R s × (k R ≡ true)
       kept-on k q =
           let h = any-some (λ R. Keeps R && k R) Rs q in
-          let i = and-left (Keeps (h .rule)) (k (h .rule)) (h .passes) in
-          let a = front .stands (left (h .rule)) .0 (and-left (here (left (h .rule))) _ i) in
-          (h .rule, a .0, on (h .number) (h .rule) (a .0) (h .is) (a .1) (and-right (here (left (h .rule))) _ i), and-right (Keeps (h .rule)) (k (h .rule)) (h .passes))
+          let i = and-left (Keeps (h .element)) (k (h .element)) (h .passes) in
+          let a = front .stands (left (h .element)) .0 (and-left (here (left (h .element))) _ i) in
+          (h .element, a .0, on (h .number) (h .element) (a .0) (h .is) (a .1) (and-right (here (left (h .element))) _ i), and-right (Keeps (h .element)) (k (h .element)) (h .passes))
 
       -- and what comes by a rule comes by a kept one
       came-kept : {L : ℕ} {s : Stack} (k : Rule → Bool) (c : Came L s) → k (c .rule) ≡ true → any (λ R. Keeps R && k R) Rs ≡ true
-      came-kept k c q = some-any (λ R. Keeps R && k R) Rs (c .number) (c .rule) (c .is) (both (both (front .stands (left (c .rule)) .1 (c .due, c .reached)) (c .passes)) q)
+      came-kept k c q = some-any (λ R. Keeps R && k R) Rs (c .number) (c .is) (both (both (front .stands (left (c .rule)) .1 (c .due, c .reached)) (c .passes)) q)
 
       far : From (suc p) l
       far = pending-from (drop (suc p) w) (suc p)

@@ -9,6 +9,7 @@ use mathlib.Core.List.{List, [], _∷_, _++_, append-assoc}
 use mathlib.Core.Option.{some}
 use lib.ListN.{length, take, drop, getD, set, getElem?}
 use lib.Seq.{drop-cons, getD-set-other, getD-set-same, take-suc}
+use Rattle.laws.proofs.Lists.{heads, tails}
 use Rattle.vpg.specs.declared.Rule.{Rule}
 use Rattle.vpg.specs.declared.Token.{Token}
 use Rattle.vpg.specs.believed.Grammar.{Rules}
@@ -105,12 +106,6 @@ module _ (g : Rules) (w : List Token) (at f e : List ℕ) where
         let x = taken g (S .0) (S .1) (k .token) (drop (suc q) w) (drop q e) (from-tokens (λ v. Run g S v (drop q e)) w q (k .here) r) in
         let y : getD e q 0 ∷ drop (suc q) e ≡ x .number ∷ x .rest = sym head ∙ x .shape in
         rw (tails y) (same-place g (S .0) (S .1) (k .token) (drop (suc q) w) leads x (heads y))
-      where
-        heads : {a b : ℕ} {x y : List ℕ} → a ∷ x ≡ b ∷ y → a ≡ b
-        heads z = cc
-
-        tails : {a b : ℕ} {x y : List ℕ} → a ∷ x ≡ b ∷ y → x ≡ y
-        tails z = cc
 
     pub last-left : LastFrom (suc q) → None (testAt g (drop q w)) g (S .0) (λ r. getD e q 0 < r) → LastFrom q
     last-left l d =

@@ -12,7 +12,7 @@ use Rattle.vpg.specs.believed.Grammar.{Rules}
 use Rattle.vpg.specs.believed.Order.{Before}
 use Rattle.vpg.specs.Extremes.{Least, Next, Last}
 use Rattle.vpg.specs.Runs.{Stack, State, move}
-use Rattle.laws.proofs.Basics.{trichotomy}
+use Rattle.laws.proofs.Lists.{trichotomy}
 use Rattle.vpg.proofs.Take.{Move, moves, Taken, taken, take, Ended, ended, end}
 use Rattle.level_theory.specs.Masks.{applies, finishes, masks}
 use Rattle.level_theory.specs.Walk.{Run}

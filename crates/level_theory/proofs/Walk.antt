@@ -6,6 +6,7 @@ use mathlib.Core.Bool.{true}
 use mathlib.Core.List.{List, [], _∷_, map, List·Memᴰ}
 use lib.ListN.{length, drop, getD, set}
 use lib.Seq.{set-getD, getD-set-same}
+use Rattle.laws.proofs.Lists.{heads, tails}
 use Rattle.vpg.specs.declared.CloseName.{CloseName}
 use Rattle.vpg.specs.declared.Rule.{Rule}
 use Rattle.vpg.specs.declared.Token.{Token}
@@ -67,12 +68,6 @@ module _ (g : Rules) (w : List Token) (p n : ℕ) (f : List ℕ) where
   placed (by-empty {L} {M} {b} {s}) e h room q =
       let k : (b, M) ∷ s ≡ (b, getD f p 0) ∷ dueAt f Behind = q ∙ ap (dueAt f) (pending-next w p e) in
       record { next = ap (λ (x : CloseName × ℕ). x .1) (heads k); due = tails k ∙ ap (λ (x : List ℕ). dueAt x Behind) (sym (set-getD f (closeOf Behind n) 0)) }
-    where
-      heads : {x y : CloseName × ℕ} {a b : Stack} → x ∷ a ≡ y ∷ b → x ≡ y
-      heads r = cc
-
-      tails : {x y : CloseName × ℕ} {a b : Stack} → x ∷ a ≡ y ∷ b → a ≡ b
-      tails r = cc
   placed (by-mark {s = s}) e h room q =
       record { next = refl; due = q ∙ ap (dueAt f) (pending-next w p e) ∙ ap (λ (x : List ℕ). dueAt x Behind) (sym (set-getD f (closeOf Behind n) 0)) }
   placed (by-step {L} {L₁} {L₂} {a} {b} {s}) e h room q = record { next = refl; due = go (closing b L₁ L₂ s h) }

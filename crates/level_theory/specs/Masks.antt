@@ -4,6 +4,7 @@ use mathlib.Core.Path.{_≡_}
 use mathlib.Core.Bool.{Bool, true, false, _&&_, _||_}
 use mathlib.Core.List.{List, [], _∷_}
 use lib.Dec.{eqb}
+use Rattle.laws.specs.Any.{any}
 use Rattle.vpg.specs.declared.CloseName.{CloseName}
 use Rattle.vpg.specs.declared.Rule.{Rule}
 use Rattle.vpg.specs.declared.Token.{Token}
@@ -22,10 +23,6 @@ Outer = List (CloseName × Nonterminals)
 -- the nonterminals that derive the rest of the current level, and those of the outer ones
 abbrev pub Masks : Type 0
 Masks = Nonterminals × Outer
-
-abbrev pub any : (Rule → Bool) → Rules → Bool
-any p [] = false
-any p (R ∷ g) = p R || any p g
 
 -- is L a nonterminal of the next outer level, behind the close b
 abbrev pub behind : Outer → CloseName → Nonterminals

@@ -1,5 +1,6 @@
 -- The closes that end open levels, with their positions, and the stack that an array of nonterminals by position describes.
 use Prim.Native.Nat.{ℕ, suc}
+use mathlib.Core.Path.{_≡_}
 use mathlib.Core.List.{List, [], _∷_, map}
 use lib.ListN.{drop, getD}
 use Rattle.vpg.specs.declared.CloseName.{CloseName}
@@ -28,6 +29,10 @@ pending (t ∷ w) p = pendingOver t p (pending w (suc p))
 -- those from position p of w on
 abbrev pub pendingAt : List Token → ℕ → Closes
 pendingAt w p = pending (drop p w) p
+
+-- every close has its open among the tokens
+abbrev pub WellMatched : List Token → Type 0
+WellMatched w = pendingAt w 0 ≡ []
 
 -- the position of the first of them, or n
 abbrev pub closeOf : Closes → ℕ → ℕ

@@ -4,11 +4,12 @@ use native.Mathlib.Nat.{le-of-suc-le-suc, not-suc-le-zero, eq-or-lt-of-le}
 use native.Mathlib.Omega.{arith}
 use mathlib.Core.Path.{_≡_, refl, sym, _∙_, ap, fun-ext}
 use mathlib.Core.Logic.{⊎-elim}
-use mathlib.Core.Bool.{Bool, true, false, _&&_, and-false}
+use mathlib.Core.Bool.{Bool, true, false, cond, _&&_, and-false}
 use mathlib.Core.List.{List, [], _∷_, map, List·Memᴰ, List·Memᴰ·head}
 use lib.Dec.{eqb}
 use lib.ListN.{length, drop, getD, set, drop-of-length-le, length-map}
 use lib.Seq.{getD-set-same, getD-set-other}
+use Rattle.laws.proofs.Lists.{heads}
 use Rattle.bits.specs.Bit.{bit}
 use Rattle.bits.proofs.Bits.{bit-zero}
 use Rattle.vpg.specs.declared.CloseName.{CloseName}
@@ -20,11 +21,11 @@ use Rattle.level_theory.specs.Pending.{Closes, rest, pending, pendingAt, closeO
 use Rattle.level_theory.specs.Walk.{testAt}
 use Rattle.level_theory.proofs.Walk.{level-test}
 use Rattle.level_theory.proofs.Pending.{pending-from, pending-next, pending-close, pending-rest, masks-outer}
-use Rattle.contexts.specs.declared.Place.{Place}
-use Rattle.contexts.specs.Place.{appliesTo, appliesHere, endPlace, levelIn}
-use Rattle.contexts.proofs.Places.{level-bit}
-use Rattle.tables.specs.Table.{rulesIn}
-use Rattle.numbers.specs.believed.Number.{pick}
+use Rattle.contexts.specs.declared.Context.{Context}
+use Rattle.contexts.specs.Context.{appliesTo, appliesHere, endContext, levelIn}
+use Rattle.contexts.proofs.Contexts.{level-bit}
+use Rattle.tables.specs.declared.Head.{Head}
+use Rattle.tables.specs.Ready.{rulesOf}
 use Rattle.history_file.specs.believed.HistoryFile.{kind, tokenWith, tokenOf, tokensOf}
 use Rattle.levels.specs.Levels.{nextTop, Matched, Leveled, Stands}
 
@@ -42,7 +43,7 @@ close-of : (t : ℕ) (b : CloseName) → tokenOf t ≡ Token.Close b → b .0 �
 unfolding tokenOf tokenWith
 close-of t b h = go (eqb (kind t) 0) (eqb (kind t) 1) h
   where
-    go : (x y : Bool) → pick x (Token.Mark (record { 0 = t / 4 })) (pick y (Token.Open (record { 0 = t / 4 })) (Token.Close (record { 0 = t / 4 }))) ≡ Token.Close b → b .0 ≡ t / 4
+    go : (x y : Bool) → cond x (Token.Mark (record { 0 = t / 4 })) (cond y (Token.Open (record { 0 = t / 4 })) (Token.Close (record { 0 = t / 4 }))) ≡ Token.Close b → b .0 ≡ t / 4
     go true y e = absurd (let z : _≡_ {A = ℕ} 0 1 = cc in omega arith)
     go false true e = absurd (let z : _≡_ {A = ℕ} 0 1 = cc in omega arith)
     go false false e = let z : record { 0 = t / 4 } ≡ b = named e in sym (ap (λ (x : CloseName). x .0) z)
@@ -109,11 +110,11 @@ applies-words m (Token.Close c) x b y h k (Rule.Empty M) = refl
 applies-words m (Token.Close c) x b y h k (Rule.Mark M c′ M₁) = refl
 applies-words m (Token.Close c) x b y h k (Rule.Step M a M₁ b′ M₂) = refl
 
-pub stands-end : (w : List Token) (mask : List ℕ) (p : ℕ) → length w ≤ p → Stands w mask p endPlace
+pub stands-end : (w : List Token) (mask : List ℕ) (p : ℕ) → length w ≤ p → Stands w mask p endContext
 unfolding testAt tokenWith
 stands-end w mask p h g l R = rw (drop-of-length-le w h) (go R)
   where
-    go : (R : Rule) → appliesTo R endPlace ≡ testAt g [] R
+    go : (R : Rule) → appliesTo R endContext ≡ testAt g [] R
     go (Rule.Empty M) = refl
     go (Rule.Mark M c M₁) = refl
     go (Rule.Step M a M₁ b M₂) = refl
@@ -146,9 +147,6 @@ module _ (ts mask : List ℕ) (p : ℕ) (here : p < length ts) where
           let n′ : b .0 ≡ d .0 .0 = e ∙ rw z (sym n) in
           rw (n′, z, l (suc (d .1)) (after f) (close-below W (suc p) d (rw f (List·Memᴰ·head refl))) L)
         where
-          heads : {x y : Token} {u v : List Token} → x ∷ u ≡ y ∷ v → x ≡ y
-          heads r = cc
-
           after : pendingAt W (suc p) ≡ d ∷ q → suc p ≤ suc (d .1)
           after f = omega (arith, pending-from (drop (suc p) W) (suc p) d (rw f (List·Memᴰ·head refl)))
 
@@ -196,17 +194,17 @@ module _ (ts : List ℕ) where
       then : (k : ℕ) → k ≤ length Words → i < k → getD (set m i top) k 0 ≡ closeOf (pendingAt Words (suc k)) (length Words)
       then k l f = rw (getD-set-other m i k top 0 (λ e. omega arith)) (q k f l)
 
-module _ (t : List ℕ) (count : ℕ) (w : List Token) where
+module _ (t : List ℕ) (head : Head) (w : List Token) where
   abbrev G : Rules
-  G = rulesIn t count
+  G = rulesOf t head
 
   pub leveled-end : (mask : List ℕ) (i : ℕ) → length w < i → Leveled G w mask i
   leveled-end mask i h k p q = absurd (omega arith)
 
-  pub leveled-turn : (mask : List ℕ) (i : ℕ) (place : Place) (v : ℕ) → 0 < i → i ≤ length mask → Leveled G w mask i → Stands w mask (i - 1) place → v ≡ levelIn t place count →
+  pub leveled-turn : (mask : List ℕ) (i : ℕ) (context : Context) (v : ℕ) → 0 < i → i ≤ length mask → Leveled G w mask i → Stands w mask (i - 1) context → v ≡ levelIn t context (head .rules) →
       Leveled G w (set mask (i - 1) v) (i - 1)
-  leveled-turn mask zero place v pos h l s e = absurd (omega arith)
-  leveled-turn mask (suc i) place v pos h l s e = let q : suc i - 1 ≡ i = omega arith in rw q (λ k f r L. ⊎-elim (now k L) (then k r L) (eq-or-lt-of-le f))
+  leveled-turn mask zero context v pos h l s e = absurd (omega arith)
+  leveled-turn mask (suc i) context v pos h l s e = let q : suc i - 1 ≡ i = omega arith in rw q (λ k f r L. ⊎-elim (now k L) (then k r L) (eq-or-lt-of-le f))
     where
       q : suc i - 1 ≡ i
       q = omega arith
@@ -214,7 +212,7 @@ module _ (t : List ℕ) (count : ℕ) (w : List Token) where
       now : (k L : ℕ) → i ≡ k → bit (getD (set mask i v) k 0) L ≡ masks G (drop k w) .0 L
       now k L f =
           rw (← f, getD-set-same mask i v 0 h, e)
-          (level-bit t place count L
+          (level-bit t context (head .rules) L
           ∙ ap (λ (p : Rule → Bool). lefts p G L) (fun-ext ((rw q at s) G l))
           ∙ level-test G (drop i w) L)
 

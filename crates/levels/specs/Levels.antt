@@ -8,12 +8,12 @@ use Rattle.vpg.specs.declared.Rule.{Rule}
 use Rattle.vpg.specs.declared.Token.{Token}
 use Rattle.vpg.specs.believed.Grammar.{Rules}
 use Rattle.level_theory.specs.Masks.{masks}
-use Rattle.level_theory.specs.Pending.{pendingAt, closeOf}
+use Rattle.level_theory.specs.Pending.{pendingAt, closeOf, WellMatched}
 use Rattle.level_theory.specs.Walk.{testAt}
-use Rattle.contexts.specs.declared.Place.{Place}
-use Rattle.contexts.specs.Place.{appliesTo}
-use Rattle.tables.specs.Table.{rulesIn}
-use Rattle.tables.specs.Ready.{Ready}
+use Rattle.contexts.specs.declared.Context.{Context}
+use Rattle.contexts.specs.Context.{appliesTo}
+use Rattle.tables.specs.declared.Head.{Head}
+use Rattle.tables.specs.Ready.{Ready, rulesOf}
 use Rattle.history_file.specs.believed.HistoryFile.{tokensOf}
 use Rattle.history_file.specs.HistoryTokens.{Tokens}
 
@@ -32,12 +32,13 @@ abbrev pub Leveled : Rules → List Token → List ℕ → ℕ → Type 0
 Leveled g w mask p = (k : ℕ) → p ≤ k → k ≤ length w → (L : ℕ) → bit (getD mask k 0) L ≡ masks g (drop k w) .0 L
 
 -- what stands at position p: where the words behind p are right, exactly those rules can stand here that can stand before the tokens
-abbrev pub Stands : List Token → List ℕ → ℕ → Place → Type 0
-Stands w mask p place = (g : Rules) → Leveled g w mask (suc p) → (R : Rule) → appliesTo R place ≡ testAt g (drop p w) R
+abbrev pub Stands : List Token → List ℕ → ℕ → Context → Type 0
+Stands w mask p context = (g : Rules) → Leveled g w mask (suc p) → (R : Rule) → appliesTo R context ≡ testAt g (drop p w) R
 
--- what a walk over the tokens may take for granted: the rules, the tokens, the matching closes and the levels
-pub record Setting (table : List ℕ) (count : ℕ) (ts m mask : List ℕ) : Type 0 where
-  pub ready : Ready table count
+-- what a pass over the tokens may take for granted: the rules, well-matched tokens, the matching closes and the levels
+pub record Setting (table : List ℕ) (head : Head) (ts closes masks : List ℕ) : Type 0 where
+  pub ready : Ready table head
   pub tokens : Tokens ts
-  pub matched : Matched (tokensOf ts) m 0
-  pub leveled : Leveled (rulesIn table count) (tokensOf ts) mask 0
+  pub balanced : WellMatched (tokensOf ts)
+  pub matched : Matched (tokensOf ts) closes 0
+  pub leveled : Leveled (rulesOf table head) (tokensOf ts) masks 0

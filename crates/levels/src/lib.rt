@@ -1,16 +1,26 @@
 // Arrays by position: the matching closes, and backward over the tokens the nonterminals that derive the rest of each level.
-use contexts::Place;
+use contexts::Context;
+use tables::Head;
+use tables::Table;
 use vpg::CloseName;
 use vpg::Token;
 ghost use mathlib.Core.Path.{_≡_};
 ghost use Prim.Native.Nat.{_/_, _<_, _≤_};
 ghost use lib.ListN.{length};
-ghost use Rattle.contexts.specs.Place.{endPlace};
-ghost use Rattle.tables.specs.Table.{rulesIn};
-ghost use Rattle.tables.specs.Ready.{Ready};
+ghost use Rattle.contexts.specs.Context.{endContext};
+ghost use Rattle.tables.specs.Ready.{Ready, rulesOf};
 ghost use Rattle.history_file.specs.believed.HistoryFile.{tokensOf};
 ghost use Rattle.history_file.specs.HistoryTokens.{Tokens};
 ghost use Rattle.levels.specs.Levels.{nextTop, Matched, Leveled, Stands};
+
+// For each position the first pending close behind it: for an open, its own close. The number of tokens where there is none.
+pub type Closes = [usize; 1025];
+
+// For each position the nonterminals that derive the rest of its level, as the digits of a word.
+pub type Masks = [u32; 1025];
+
+// A nonterminal for each position.
+pub type Nonterminals = [u16; 1025];
 
 // The first pending close from position i on; top is the first one behind the token, beyond the one behind that.
 fn next_top(token: Token, i: usize, top: usize, beyond: usize) -> usize
@@ -23,30 +33,30 @@ fn next_top(token: Token, i: usize, top: usize, beyond: usize) -> usize
     }
 }
 
-// The first pending close behind each position: for an open, its own close. The number of tokens where there is none.
-pub fn closes(w: &[u32]) -> [usize; 1025]
-    requires { ⌜ Tokens (now w) ⌝ }
-    ensures { λ m. ⌜ (length m ≡ 1025) × Matched (tokensOf (now (w .entry))) m 0 ⌝ }
+// The matching closes, in one pass backward over the tokens.
+pub fn closes_of(tokens: &[u32]) -> Closes
+    requires { ⌜ Tokens (now tokens) ⌝ }
+    ensures { λ closes. ⌜ (length closes ≡ 1025) × Matched (tokensOf (now (tokens .entry))) closes 0 ⌝ }
 {
-    let n = w.len();
-    let mut m = [0usize; 1025];
-    m[n] = n;
+    let n = tokens.len();
+    let mut closes = [0usize; 1025];
+    closes[n] = n;
     let mut top = n;
     let mut i = n;
     while 0 < i {
         i -= 1;
-        let beyond = m[top];
-        m[i] = top;
-        top = next_top(history_file::token_of(w[i]), i, top, beyond);
+        let beyond = closes[top];
+        closes[i] = top;
+        top = next_top(history_file::token_of(tokens[i]), i, top, beyond);
     }
-    m
+    closes
 }
 
-fn end_place() -> Place
-    ensures { λ r. ⌜ r ≡ endPlace ⌝ }
+fn end_context() -> Context
+    ensures { λ r. ⌜ r ≡ endContext ⌝ }
 {
     let close = CloseName(0);
-    Place {
+    Context {
         kind: 2,
         name: 0,
         inside: 0,
@@ -63,24 +73,24 @@ fn close_name(t: u32) -> CloseName
 }
 
 // What stands at position p, from the levels of the positions behind it.
-pub fn place_at(w: &[u32], m: &[usize; 1025], mask: &[u32; 1025], p: usize) -> Place
-    requires { ⌜ Tokens (now w) ⌝ }
-    requires { ⌜ p ≤ length (now w) ⌝ }
-    requires { ⌜ Matched (tokensOf (now w)) (now m) 0 ⌝ }
-    ensures { λ r. ⌜ Stands (tokensOf (now (w .entry))) (now (mask .entry)) p r ⌝ }
+pub fn context_at(tokens: &[u32], closes: &Closes, masks: &Masks, p: usize) -> Context
+    requires { ⌜ Tokens (now tokens) ⌝ }
+    requires { ⌜ p ≤ length (now tokens) ⌝ }
+    requires { ⌜ Matched (tokensOf (now tokens)) (now closes) 0 ⌝ }
+    ensures { λ r. ⌜ Stands (tokensOf (now (tokens .entry))) (now (masks .entry)) p r ⌝ }
 {
-    if p == w.len() {
-        return end_place();
+    if p == tokens.len() {
+        return end_context();
     }
-    let t = w[p];
+    let t = tokens[p];
     let kind = t % 4;
     let name = (t / 4) as u16;
-    let inside = mask[p + 1];
-    let j = m[p];
-    if j < w.len() {
-        let close = close_name(w[j]);
-        let after = mask[j + 1];
-        return Place {
+    let inside = masks[p + 1];
+    let j = closes[p];
+    if j < tokens.len() {
+        let close = close_name(tokens[j]);
+        let after = masks[j + 1];
+        return Context {
             kind,
             name,
             inside,
@@ -89,7 +99,7 @@ pub fn place_at(w: &[u32], m: &[usize; 1025], mask: &[u32; 1025], p: usize) -> P
         };
     }
     let close = CloseName(0);
-    Place {
+    Context {
         kind,
         name,
         inside,
@@ -99,18 +109,18 @@ pub fn place_at(w: &[u32], m: &[usize; 1025], mask: &[u32; 1025], p: usize) -> P
 }
 
 // The nonterminals that derive the rest of the level from each position.
-pub fn masks(table: &[u16; 768], count: usize, w: &[u32], m: &[usize; 1025]) -> [u32; 1025]
-    requires { ⌜ Ready (now table) count ⌝ }
-    requires { ⌜ Tokens (now w) ⌝ }
-    requires { ⌜ Matched (tokensOf (now w)) (now m) 0 ⌝ }
-    ensures { λ r. ⌜ (length r ≡ 1025) × Leveled (rulesIn (now (table .entry)) count) (tokensOf (now (w .entry))) r 0 ⌝ }
+pub fn masks_of(table: &Table, head: Head, tokens: &[u32], closes: &Closes) -> Masks
+    requires { ⌜ Ready (now table) head ⌝ }
+    requires { ⌜ Tokens (now tokens) ⌝ }
+    requires { ⌜ Matched (tokensOf (now tokens)) (now closes) 0 ⌝ }
+    ensures { λ r. ⌜ (length r ≡ 1025) × Leveled (rulesOf (now (table .entry)) head) (tokensOf (now (tokens .entry))) r 0 ⌝ }
 {
-    let mut mask = [0u32; 1025];
-    let mut i = w.len() + 1;
+    let mut masks = [0u32; 1025];
+    let mut i = tokens.len() + 1;
     while 0 < i {
         i -= 1;
-        let place = place_at(w, m, &mask, i);
-        mask[i] = contexts::level(table, count, place);
+        let context = context_at(tokens, closes, &masks, i);
+        masks[i] = contexts::level(table, head, context);
     }
-    mask
+    masks
 }

@@ -5,41 +5,41 @@ ghost use Rattle.lines.specs.believed.Laid.{put, laid};
 ghost use Rattle.lines.specs.believed.Text.{decimal, readingText, tokensLine, doubtfulLine, noneLine, readingLine, endLine, moreLine, refusedGrammarLine, refusedHistoryLine};
 
 // How many bytes of the text are still to be passed over, and where in the buffer the next one goes.
-pub struct Place {
+pub struct Cursor {
     pub skip: usize,
     pub at: usize,
 }
 
 // One byte, where it is not passed over and there is room.
-pub fn put_byte(out: &mut [u8], p: Place, b: u8) -> Place
+pub fn put_byte(out: &mut [u8], p: Cursor, b: u8) -> Cursor
     ensures { λ r. ⌜ (r, now (out .exit)) ≡ put (p, now (out .entry)) b ⌝ }
 {
     let skip = p.skip;
     let at = p.at;
     if skip > 0 {
-        return Place { skip: skip - 1, at };
+        return Cursor { skip: skip - 1, at };
     }
     if at < out.len() {
         out[at] = b;
-        return Place { skip, at: at + 1 };
+        return Cursor { skip, at: at + 1 };
     }
     p
 }
 
-pub fn put_bytes(out: &mut [u8], p: Place, bytes: &[u8]) -> Place
+pub fn put_bytes(out: &mut [u8], p: Cursor, bytes: &[u8]) -> Cursor
     ensures { λ r. ⌜ (r, now (out .exit)) ≡ laid (p, now (out .entry)) (now (bytes .entry)) ⌝ }
 {
-    let mut place = p;
+    let mut cursor = p;
     let mut i: usize = 0;
     while i < bytes.len() {
-        place = put_byte(out, place, bytes[i]);
+        cursor = put_byte(out, cursor, bytes[i]);
         i += 1;
     }
-    place
+    cursor
 }
 
 // A number in decimal.
-pub fn put_number(out: &mut [u8], p: Place, n: u64) -> Place
+pub fn put_number(out: &mut [u8], p: Cursor, n: u64) -> Cursor
     ensures { λ r. ⌜ (r, now (out .exit)) ≡ laid (p, now (out .entry)) (decimal n) ⌝ }
 {
     let mut digits = [0u8; 20];
@@ -48,7 +48,7 @@ pub fn put_number(out: &mut [u8], p: Place, n: u64) -> Place
 }
 
 // A word, a number and the line's end.
-fn number_line(out: &mut [u8], p: Place, word: &[u8], n: u64) -> Place
+fn number_line(out: &mut [u8], p: Cursor, word: &[u8], n: u64) -> Cursor
     ensures { λ r. ⌜ (r, now (out .exit)) ≡ laid (p, now (out .entry)) (now (word .entry) ++ decimal n ++ (10 ∷ [])) ⌝ }
 {
     let behind = put_bytes(out, p, word);
@@ -57,56 +57,56 @@ fn number_line(out: &mut [u8], p: Place, word: &[u8], n: u64) -> Place
 }
 
 // How many tokens the history has.
-pub fn tokens_line(out: &mut [u8], p: Place, n: u64) -> Place
+pub fn tokens_line(out: &mut [u8], p: Cursor, n: u64) -> Cursor
     ensures { λ r. ⌜ (r, now (out .exit)) ≡ laid (p, now (out .entry)) (tokensLine n) ⌝ }
 {
     number_line(out, p, b"tokens ", n)
 }
 
 // How many positions are doubtful.
-pub fn doubtful_line(out: &mut [u8], p: Place, d: u64) -> Place
+pub fn doubtful_line(out: &mut [u8], p: Cursor, d: u64) -> Cursor
     ensures { λ r. ⌜ (r, now (out .exit)) ≡ laid (p, now (out .entry)) (doubtfulLine d) ⌝ }
 {
     number_line(out, p, b"doubtful ", d)
 }
 
 // There is no reading.
-pub fn none_line(out: &mut [u8], p: Place) -> Place
+pub fn none_line(out: &mut [u8], p: Cursor) -> Cursor
     ensures { λ r. ⌜ (r, now (out .exit)) ≡ laid (p, now (out .entry)) noneLine ⌝ }
 {
     put_bytes(out, p, b"none\n")
 }
 
 // All k readings were listed.
-pub fn end_line(out: &mut [u8], p: Place, k: u64) -> Place
+pub fn end_line(out: &mut [u8], p: Cursor, k: u64) -> Cursor
     ensures { λ r. ⌜ (r, now (out .exit)) ≡ laid (p, now (out .entry)) (endLine k) ⌝ }
 {
     number_line(out, p, b"end ", k)
 }
 
 // k readings were listed, and another follows.
-pub fn more_line(out: &mut [u8], p: Place, k: u64) -> Place
+pub fn more_line(out: &mut [u8], p: Cursor, k: u64) -> Cursor
     ensures { λ r. ⌜ (r, now (out .exit)) ≡ laid (p, now (out .entry)) (moreLine k) ⌝ }
 {
     number_line(out, p, b"more ", k)
 }
 
 // The grammar file is refused by the number k.
-pub fn refused_grammar_line(out: &mut [u8], p: Place, k: u64) -> Place
+pub fn refused_grammar_line(out: &mut [u8], p: Cursor, k: u64) -> Cursor
     ensures { λ r. ⌜ (r, now (out .exit)) ≡ laid (p, now (out .entry)) (refusedGrammarLine k) ⌝ }
 {
     number_line(out, p, b"refused grammar ", k)
 }
 
 // The history file is refused by the number k.
-pub fn refused_history_line(out: &mut [u8], p: Place, k: u64) -> Place
+pub fn refused_history_line(out: &mut [u8], p: Cursor, k: u64) -> Cursor
     ensures { λ r. ⌜ (r, now (out .exit)) ≡ laid (p, now (out .entry)) (refusedHistoryLine k) ⌝ }
 {
     number_line(out, p, b"refused history ", k)
 }
 
 // One rule number of a reading, with the blank before it.
-fn put_rule(out: &mut [u8], p: Place, x: u8) -> Place
+fn put_rule(out: &mut [u8], p: Cursor, x: u8) -> Cursor
     ensures { λ r. ⌜ (r, now (out .exit)) ≡ laid (p, now (out .entry)) (32 ∷ decimal x) ⌝ }
 {
     let behind = put_byte(out, p, 32);
@@ -114,20 +114,20 @@ fn put_rule(out: &mut [u8], p: Place, x: u8) -> Place
 }
 
 // The rule numbers of a reading, each with a blank before it.
-fn put_rules(out: &mut [u8], p: Place, reading: &[u8]) -> Place
+fn put_rules(out: &mut [u8], p: Cursor, reading: &[u8]) -> Cursor
     ensures { λ r. ⌜ (r, now (out .exit)) ≡ laid (p, now (out .entry)) (readingText (now (reading .entry))) ⌝ }
 {
-    let mut place = p;
+    let mut cursor = p;
     let mut i: usize = 0;
     while i < reading.len() {
-        place = put_rule(out, place, reading[i]);
+        cursor = put_rule(out, cursor, reading[i]);
         i += 1;
     }
-    place
+    cursor
 }
 
 // The reading number k.
-pub fn reading_line(out: &mut [u8], p: Place, k: u64, reading: &[u8]) -> Place
+pub fn reading_line(out: &mut [u8], p: Cursor, k: u64, reading: &[u8]) -> Cursor
     ensures { λ r. ⌜ (r, now (out .exit)) ≡ laid (p, now (out .entry)) (readingLine k (now (reading .entry))) ⌝ }
 {
     let behind = put_number(out, p, k);

@@ -11,7 +11,7 @@ use lib.Dec.{eqb}
 use lib.ListN.{getD, length}
 use Rattle.vpg.specs.believed.Order.{Ascending}
 use Rattle.listing_model.specs.believed.Listing.{same, found, find}
-use Rattle.laws.proofs.Basics.{and-left, and-right}
+use Rattle.laws.proofs.Bools.{and-left, and-right}
 use Rattle.vpg.proofs.Order.{before-irreflexive}
 
 pub same-eq : (e f : List ℕ) → same e f ≡ true → e ≡ f

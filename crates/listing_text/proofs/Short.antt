@@ -3,7 +3,7 @@ use Prim.Native.Nat.{ℕ, zero, suc, _+_, _*_, _/_, _%_, _≤_}
 use native.Mathlib.Nat.{suc-mul}
 use native.Mathlib.Omega.{arith}
 use mathlib.Core.Path.{_≡_, refl, sym, _∙_, ap}
-use mathlib.Core.Bool.{Bool, true, false}
+use mathlib.Core.Bool.{Bool, true, false, cond}
 use mathlib.Core.List.{List, [], _∷_, _++_, List·Memᴰ, List·Memᴰ·head, List·Memᴰ·tail}
 use lib.Dec.{ltb}
 use lib.ListN.{length, drop, length-append, length-map, drop-of-length-le, take-append-drop}
@@ -18,7 +18,7 @@ use Rattle.history_file.specs.believed.HistoryFile
 use Rattle.history_file.proofs.Accepted.{history-wellformed}
 use Rattle.numbers.specs.believed.Number.{bytes}
 use Rattle.lines.specs.believed.Laid.{shown}
-use Rattle.lines.specs.believed.Text.{orNothing, decimalBy, decimal, lineEnd, numberLine, readingText, readingLine, tokensLine, doubtfulLine, tokensWord, doubtfulWord, endWord, moreWord, refusedWord, grammarWord, historyWord}
+use Rattle.lines.specs.believed.Text.{decimalBy, decimal, lineEnd, numberLine, readingText, readingLine, tokensLine, doubtfulLine, tokensWord, doubtfulWord, endWord, moreWord, refusedWord, grammarWord, historyWord}
 use Rattle.listing_text.specs.believed.Listing.{listedFrom, mostListed, readingsListed, filesListed, listing}
 
 -- ── lines ──
@@ -27,7 +27,7 @@ digits-short : (k n : ℕ) → length (decimalBy k n) ≤ k
 digits-short zero n = omega arith
 digits-short (suc k) n = go (ltb n 10) (digits-short k (n / 10))
   where
-    go : (b : Bool) → length (decimalBy k (n / 10)) ≤ k → length (orNothing b (decimalBy k (n / 10)) ++ ((48 + n % 10) ∷ [])) ≤ suc k
+    go : (b : Bool) → length (decimalBy k (n / 10)) ≤ k → length (cond b [] (decimalBy k (n / 10)) ++ ((48 + n % 10) ∷ [])) ≤ suc k
     go true h = omega arith
     go false h = rw (length-append (decimalBy k (n / 10)) ((48 + n % 10) ∷ [])) (omega arith)
 

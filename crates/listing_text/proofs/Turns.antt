@@ -19,7 +19,7 @@ use Rattle.service.specs.believed.Frame.{filesIn}
 use Rattle.service.proofs.Served.{served-on}
 use Rattle.readings.specs.believed.Answers.{subject}
 use Rattle.lines.specs.believed.Laid.{Laid, laid}
-use Rattle.lines.specs.declared.Place.{Place}
+use Rattle.lines.specs.declared.Cursor.{Cursor}
 use Rattle.lines.specs.believed.Text.{readingLine, endLine, moreLine}
 use Rattle.lines.proofs.Laying.{laid-append}
 use Rattle.listing_text.specs.believed.Listing.{listedFrom, mostListed}
@@ -104,39 +104,39 @@ listed-end (suc left) k l h = rw h
 
 -- ── the loop ──
 
-pub record Turns (l : List (List ℕ)) (n : ℕ) (reading₀ text₀ : List ℕ) (at : Place) (reading text : List ℕ) (place : Place) (k : ℕ) : Type 0 where
+pub record Turns (l : List (List ℕ)) (n : ℕ) (reading₀ text₀ : List ℕ) (at : Cursor) (reading text : List ℕ) (cursor : Cursor) (k : ℕ) : Type 0 where
   pub most : k ≤ 1000
   pub below : k < length l
   pub room : n < length reading
   pub size : length reading ≡ length reading₀
   pub text-size : length text ≡ length text₀
   pub holds : take (n + 1) reading ≡ getD l k []
-  pub so-far : laid (place, text) (listedFrom (1000 - k) k (drop k l)) ≡ laid (at, text₀) (listedFrom mostListed 0 l)
+  pub so-far : laid (cursor, text) (listedFrom (1000 - k) k (drop k l)) ≡ laid (at, text₀) (listedFrom mostListed 0 l)
 
-module _ (grammar history : List ℕ) (n : ℕ) (pass : Passing grammar history n) (reading₀ text₀ : List ℕ) (at : Place) where
+module _ (grammar history : List ℕ) (n : ℕ) (pass : Passing grammar history n) (reading₀ text₀ : List ℕ) (at : Cursor) where
   abbrev L : List (List ℕ)
   L = entriesOf grammar history
 
   pub turns-start : Begun L n reading₀ → Turns L n reading₀ text₀ at reading₀ text₀ at 0
   turns-start b = record { most = omega arith; below = b .some-one; room = b .room; size = refl; text-size = refl; holds = b .holds; so-far = refl }
 
-  module _ {reading text : List ℕ} {place : Place} {k : ℕ} (t : Turns L n reading₀ text₀ at reading text place k) where
+  module _ {reading text : List ℕ} {cursor : Cursor} {k : ℕ} (t : Turns L n reading₀ text₀ at reading text cursor k) where
     turn-onward : (b : Bool) (new : List ℕ) → (b, new) ≡ told (callOn (subject grammar history (length reading)) next reading) → Onward L n k b new
     turn-onward b new q =
         onward L n (entries-in-order grammar history n pass) k (t .below) reading (rw (add-one n) at (t .holds)) b new
         (q ∙ ap (λ (x : Subject). told (callOn x next reading)) (subject-is grammar history n pass (length reading) (t .room)))
 
-    turn-laid : k < 1000 → (p : Laid) → p ≡ laid (place, text) (readingLine (k + 1) (take (n + 1) reading)) →
+    turn-laid : k < 1000 → (p : Laid) → p ≡ laid (cursor, text) (readingLine (k + 1) (take (n + 1) reading)) →
         laid p (listedFrom (1000 - (k + 1)) (k + 1) (drop (k + 1) L)) ≡ laid (at, text₀) (listedFrom mostListed 0 L)
     turn-laid h p e =
         let rest = listedFrom (1000 - (k + 1)) (k + 1) (drop (k + 1) L) in
-        ap (λ (x : Laid). laid x rest) e ∙ sym (laid-append (place, text) (readingLine (k + 1) (take (n + 1) reading)) rest)
-        ∙ ap (λ (x : List ℕ). laid (place, text) (readingLine (k + 1) x ++ rest)) (t .holds) ∙ ap (laid (place, text)) (sym (listed-turn L k h (t .below))) ∙ t .so-far
+        ap (λ (x : Laid). laid x rest) e ∙ sym (laid-append (cursor, text) (readingLine (k + 1) (take (n + 1) reading)) rest)
+        ∙ ap (λ (x : List ℕ). laid (cursor, text) (readingLine (k + 1) x ++ rest)) (t .holds) ∙ ap (laid (cursor, text)) (sym (listed-turn L k h (t .below))) ∙ t .so-far
 
-    pub turns-next : k < 1000 → (place′ : Place) (text′ : List ℕ) → length text′ ≡ length text → (place′, text′) ≡ laid (place, text) (readingLine (k + 1) (take (n + 1) reading)) →
+    pub turns-next : k < 1000 → (cursor′ : Cursor) (text′ : List ℕ) → length text′ ≡ length text → (cursor′, text′) ≡ laid (cursor, text) (readingLine (k + 1) (take (n + 1) reading)) →
         (b : Bool) (new : List ℕ) → b ≡ true → length new ≡ length reading → (b, new) ≡ told (callOn (subject grammar history (length reading)) next reading) →
-        Turns L n reading₀ text₀ at new text′ place′ (k + 1)
-    turns-next h place′ text′ ts e b new is size q =
+        Turns L n reading₀ text₀ at new text′ cursor′ (k + 1)
+    turns-next h cursor′ text′ ts e b new is size q =
         let o : (suc k < length L) × (take (suc n) new ≡ getD L (suc k) []) = subst (λ (x : Bool). Onward L n k x new) is (turn-onward b new q) in
         record {
           most = omega arith;
@@ -145,15 +145,15 @@ module _ (grammar history : List ℕ) (n : ℕ) (pass : Passing grammar history 
           size = size ∙ t .size;
           text-size = ts ∙ t .text-size;
           holds = rw (add-one n, add-one k) (o .1);
-          so-far = turn-laid h (place′, text′) e;
+          so-far = turn-laid h (cursor′, text′) e;
         }
 
-    pub turns-end : k < 1000 → (p : Laid) → p ≡ laid (place, text) (readingLine (k + 1) (take (n + 1) reading)) →
+    pub turns-end : k < 1000 → (p : Laid) → p ≡ laid (cursor, text) (readingLine (k + 1) (take (n + 1) reading)) →
         (b : Bool) (new : List ℕ) → b ≡ false → (b, new) ≡ told (callOn (subject grammar history (length reading)) next reading) →
         (r : Laid) → r ≡ laid p (endLine (k + 1)) → r ≡ laid (at, text₀) (listedFrom mostListed 0 L)
     turns-end h p e b new is q r f =
         let o : length L ≡ suc k = subst (λ (x : Bool). Onward L n k x new) is (turn-onward b new q) in
         f ∙ ap (laid p) (sym (listed-end (1000 - (k + 1)) (k + 1) (drop (k + 1) L) (drop-of-length-le L {i = k + 1} (omega (arith, o))))) ∙ turn-laid h p e
 
-    pub turns-more : 1000 ≤ k → (r : Laid) → r ≡ laid (place, text) (moreLine k) → r ≡ laid (at, text₀) (listedFrom mostListed 0 L)
-    turns-more h r f = f ∙ ap (laid (place, text)) (sym (listed-more L k (omega (arith, t .most)) (t .below))) ∙ t .so-far
+    pub turns-more : 1000 ≤ k → (r : Laid) → r ≡ laid (cursor, text) (moreLine k) → r ≡ laid (at, text₀) (listedFrom mostListed 0 L)
+    turns-more h r f = f ∙ ap (laid (cursor, text)) (sym (listed-more L k (omega (arith, t .most)) (t .below))) ∙ t .so-far

@@ -1,7 +1,7 @@
 // The whole listing of two files as text.
 use files::GrammarCheck;
 use files::HistoryCheck;
-use lines::Place;
+use lines::Cursor;
 use readings::Answer;
 use sets::CountAnswer;
 ghost use mathlib.Core.Path.{_≡_};
@@ -55,26 +55,26 @@ fn list_readings(
     n: usize,
     reading: &mut [u8],
     text: &mut [u8],
-    p: Place,
-) -> Place
+    p: Cursor,
+) -> Cursor
     requires { ⌜ Passing (now grammar) (now history) n ⌝ }
     requires { ⌜ Begun (entriesOf (now grammar) (now history)) n (now reading) ⌝ }
     ensures { λ r. ⌜ (r, now (text .exit)) ≡ laid (p, now (text .entry)) (listedFrom mostListed 0 (entriesOf (now (grammar .entry)) (now (history .entry)))) ⌝ }
 {
-    let mut place = p;
+    let mut cursor = p;
     let mut k: u64 = 0;
     while k < 1000 {
         k += 1;
-        place = lines::reading_line(text, place, k, &reading[..n + 1]);
+        cursor = lines::reading_line(text, cursor, k, &reading[..n + 1]);
         if !next_written(grammar, history, reading) {
-            return lines::end_line(text, place, k);
+            return lines::end_line(text, cursor, k);
         }
     }
-    lines::more_line(text, place, k)
+    lines::more_line(text, cursor, k)
 }
 
 // The listing where both files pass.
-fn list_accepted(grammar: &[u8], history: &[u8], n: u16, text: &mut [u8], p: Place) -> Place
+fn list_accepted(grammar: &[u8], history: &[u8], n: u16, text: &mut [u8], p: Cursor) -> Cursor
     requires { ⌜ Passing (now grammar) (now history) n ⌝ }
     ensures { λ r. ⌜ (r, now (text .exit)) ≡ laid (p, now (text .entry)) (listing (now (grammar .entry)) (now (history .entry))) ⌝ }
 {
@@ -87,7 +87,7 @@ fn list_accepted(grammar: &[u8], history: &[u8], n: u16, text: &mut [u8], p: Pla
     list_readings(grammar, history, n as usize, &mut reading, text, behind)
 }
 
-fn list_from(grammar: &[u8], history: &[u8], text: &mut [u8], p: Place) -> Place
+fn list_from(grammar: &[u8], history: &[u8], text: &mut [u8], p: Cursor) -> Cursor
     ensures { λ r. ⌜ (r, now (text .exit)) ≡ laid (p, now (text .entry)) (listing (now (grammar .entry)) (now (history .entry))) ⌝ }
 {
     let g = files::grammar_check(grammar);
@@ -108,7 +108,7 @@ pub fn list(grammar: &[u8], history: &[u8], skip: usize, text: &mut [u8]) -> usi
     ensures { λ r. ⌜ (r, now (text .exit)) ≡ window skip (now (text .entry)) (listing (now (grammar .entry)) (now (history .entry))) ⌝ }
     ensures { λ r. ⌜ Counts r (now (text .exit)) ⌝ }
 {
-    let start = Place { skip, at: 0 };
+    let start = Cursor { skip, at: 0 };
     let end = list_from(grammar, history, text, start);
     end.at
 }

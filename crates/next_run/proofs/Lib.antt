@@ -1,3 +1,3 @@
-pub mod Places
+pub mod Positions
 pub mod Rewriting
 pub mod Successor

@@ -20,14 +20,14 @@ use Rattle.listing_model.specs.Calls.{callOn, overEntries}
 use Rattle.vpg.specs.Runs.{State, entries}
 use Rattle.vpg.specs.Steps.{left}
 use Rattle.vpg.proofs.Ascends.{entries-ascending}
-use Rattle.laws.proofs.Basics.{and-left, and-right}
+use Rattle.laws.proofs.Bools.{and-left, and-right, both}
 use Rattle.listing_model.proofs.Calls.{next-refused, next-written, next-no-further}
 use Rattle.vpg.proofs.Take.{end}
 use Rattle.level_theory.specs.Masks.{finishes, masks, Fits}
 use Rattle.level_theory.specs.Pending.{pendingAt, closeOf, dueAt}
 use Rattle.level_theory.specs.Walk.{Run, testAt, inner, later}
 use Rattle.level_theory.specs.Local.{stateAt}
-use Rattle.level_theory.proofs.Alive.{Passes, both, run-fits}
+use Rattle.level_theory.proofs.Alive.{Passes, run-fits}
 use Rattle.level_theory.proofs.Search.{None, end-last, end-next}
 use Rattle.level_theory.proofs.Walk.{passes-end, end-passes}
 use Rattle.level_theory.proofs.Local.{Turn, turn, RunFrom, LastFrom, NextFrom, run-left, last-left, next-here, next-all}
@@ -136,10 +136,10 @@ module _ {t : List ℕ} {n : ℕ} {ts m mask : List ℕ} (set-up : Setting t n t
       last-behind l = last-from (length W - suc p) (suc p) (omega arith) (h .last)
 
       above : getD E p 0 < r
-      above = rw (number p (omega (arith, h .place, tokens-length ts))) (h .larger)
+      above = rw (number p (omega (arith, h .position, tokens-length ts))) (h .larger)
 
       between : None (testAt G (drop p W)) G (getD at p 0) (λ s. (getD E p 0 < s) × (s < r))
-      between = none-at p (λ s. (getD E p 0 < s) × (s < r)) (λ s b a. h .least s (rw (number p (omega (arith, h .place, tokens-length ts))) at (a .0)) (a .1))
+      between = none-at p (λ s. (getD E p 0 < s) × (s < r)) (λ s b a. h .least s (rw (number p (omega (arith, h .position, tokens-length ts))) at (a .0)) (a .1))
 
       module _ (more : p < length ts) where
         here : drop p W ≡ tokenOf (getD ts p 0) ∷ drop (suc p) W
@@ -154,7 +154,7 @@ module _ {t : List ℕ} {n : ℕ} {ts m mask : List ℕ} (set-up : Setting t n t
         found-turn u e =
             let x = passes-at p r (h .rule) (h .fits) in
             turn G W (length W) f p u e (getD at p 0) r (ruleIn t r) inside
-            (run-fits G (drop p W) (getD at p 0) (dueAt f (pendingAt W p)) (drop p E) (run-from (length W - p) p (omega (arith, h .place)))) (x .is) (x .from) (x .passes)
+            (run-fits G (drop p W) (getD at p 0) (dueAt f (pendingAt W p)) (drop p E) (run-from (length W - p) p (omega (arith, h .position)))) (x .is) (x .from) (x .passes)
 
         pub rewrite-fits : Fits (inner (ruleIn t r) (getD f p 0)) (dueAt (set f (getD m p 0) (later (ruleIn t r) (getD f (getD m p 0) 0))) (pendingAt W (suc p))) (masks G (drop (suc p) W))
         rewrite-fits = rw (closing set-up p (omega arith)) (found-turn (tokenOf (getD ts p 0)) here .fits)
@@ -178,7 +178,7 @@ module _ {t : List ℕ} {n : ℕ} {ts m mask : List ℕ} (set-up : Setting t n t
               at-end x a d = rw (last-number, state-end, done) (end-next G (getD at (length W) 0) (getD E (length W) 0) r a (passes-end (rw done at x)) (λ s b z. (rw done at d) s b (end-passes z)))
 
       follows-next : (x : List ℕ) → Follows G S (drop p W) x → NextFrom G W at f E p (r ∷ x)
-      follows-next x y = ⊎-elim (λ e. ending e) (λ l. going l) (eq-or-lt-of-le (h .place))
+      follows-next x y = ⊎-elim (λ e. ending e) (λ l. going l) (eq-or-lt-of-le (h .position))
         where
           ending : p ≡ length W → NextFrom G W at f E p (r ∷ x)
           ending e = let z : x ≡ [] = empty (drop p W) (drop-of-length-le W {i = p} (omega arith)) y in rw z (next-end e)
@@ -194,8 +194,8 @@ module _ {t : List ℕ} {n : ℕ} {ts m mask : List ℕ} (set-up : Setting t n t
 
       pub written-is : (new : List ℕ) → Rewritten G W S p r buf new → (written, new) ≡ callOn (overEntries (grammarIn t n start) W) next buf
       written-is new x =
-          let y : NextFrom G W at f E 0 (take p E ++ (r ∷ x .rest)) = next-all G W at f E p (r ∷ x .rest) (omega (arith, numbers, h .place, tokens-length ts)) (λ q l. k .leads q (omega (arith, h .place))) (follows-next (x .rest) (x .follows)) in
-          let z : take p E ≡ take p buf = take-take p (suc (length ts)) buf (omega (arith, h .place, tokens-length ts)) in
+          let y : NextFrom G W at f E 0 (take p E ++ (r ∷ x .rest)) = next-all G W at f E p (r ∷ x .rest) (omega (arith, numbers, h .position, tokens-length ts)) (λ q l. k .leads q (omega (arith, h .position))) (follows-next (x .rest) (x .follows)) in
+          let z : take p E ≡ take p buf = take-take p (suc (length ts)) buf (omega (arith, h .position, tokens-length ts)) in
           let e : new ≡ (take p E ++ (r ∷ x .rest)) ++ drop (suc (length W)) buf = sym (take-append-drop (suc (length W)) new) ∙ ap₂ _++_ (x .written ∙ ap (λ (b : List ℕ). b ++ (r ∷ x .rest)) (sym z)) (x .kept) in
           ap (λ (b : List ℕ). (written, b)) e
           ∙ sym (next-written (entries (grammarIn t n start) W) (suc (length W)) buf (take p E ++ (r ∷ x .rest)) (entries-ascending (grammarIn t n start) W) (rw on-numbers is-run)

@@ -27,16 +27,16 @@ NoneFrom t n w at e p = (q : ℕ) → p ≤ q → q ≤ length w → (r : ℕ) �
 
 -- position p is the last at which a rule with a larger number fits, and r is the smallest such rule there
 pub record LastAt (t : List ℕ) (n : ℕ) (w : List Token) (at e : List ℕ) (p r : ℕ) : Type 0 where
-  pub place : p ≤ length w
+  pub position : p ≤ length w
   pub larger : getD e p 0 < r
   pub rule : r < n
   pub fits : fitsAt t n w at p r ≡ true
   pub least : (s : ℕ) → getD e p 0 < s → s < r → fitsAt t n w at p s ≡ false
   pub last : NoneFrom t n w at e (suc p)
 
-abbrev pub LastPlace : List ℕ → ℕ → List Token → List ℕ → List ℕ → Found → Type 0
-LastPlace t n w at e (Found.At p r) = LastAt t n w at e p r
-LastPlace t n w at e Found.Nothing = NoneFrom t n w at e 0
+abbrev pub LastPosition : List ℕ → ℕ → List Token → List ℕ → List ℕ → Found → Type 0
+LastPosition t n w at e (Found.At p r) = LastAt t n w at e p r
+LastPosition t n w at e Found.Nothing = NoneFrom t n w at e 0
 
 -- what follows rule number r at the end is nothing, and before that the first run from the state s
 abbrev pub Follows : Rules → State → List Token → List ℕ → Type 0

@@ -12,7 +12,7 @@ ghost use Rattle.tables.specs.Table.{ruleIn, rulesIn};
 ghost use Rattle.tables.specs.Ready.{grammarIn};
 ghost use Rattle.history_file.specs.believed.HistoryFile.{tokensOf};
 ghost use Rattle.levels.specs.Levels.{Setting};
-ghost use Rattle.next_run.specs.Next.{LastPlace, Rewritten, nextSaid};
+ghost use Rattle.next_run.specs.Next.{LastPosition, Rewritten, nextSaid};
 
 // The place and the rule found, or nothing.
 pub enum Found {
@@ -21,7 +21,7 @@ pub enum Found {
 }
 
 // The last place at which a larger rule still leads to a reading, and the smallest such rule there.
-pub fn last_place(
+pub fn last_position(
     table: &[u16; 768],
     count: usize,
     w: &[u32],
@@ -32,7 +32,7 @@ pub fn last_place(
 ) -> Found
     requires { ⌜ Setting (now table) count (now w) (now m) (now mask) ⌝ }
     requires { ⌜ length (now w) < length (now buf) ⌝ }
-    ensures { λ r. ⌜ LastPlace (now (table .entry)) count (tokensOf (now (w .entry))) (now (at .entry)) (now (buf .entry)) r ⌝ }
+    ensures { λ r. ⌜ LastPosition (now (table .entry)) count (tokensOf (now (w .entry))) (now (at .entry)) (now (buf .entry)) r ⌝ }
 {
     let mut p = w.len() + 1;
     let found = 'search: loop {
@@ -40,11 +40,11 @@ pub fn last_place(
             break 'search Found::Nothing;
         }
         p -= 1;
-        let place = levels::place_at(w, m, mask, p);
+        let context = levels::context_at(w, m, mask, p);
         let l = at[p];
         let mut r = buf[p] as usize + 1;
         while r < count {
-            if first_run::fits(table, r, l, place) {
+            if first_run::fits(table, r, l, context) {
                 break 'search Found::At(p, r);
             }
             r += 1;
@@ -106,7 +106,7 @@ pub fn next(
         let walked = replay::walk(table, count, start, w, m, mask, buf);
         if walked.ok {
             let at = walked.at;
-            let found = last_place(table, count, w, m, mask, &at, buf);
+            let found = last_position(table, count, w, m, mask, &at, buf);
             match found {
                 Found::Nothing => {
                     return NextAnswer::NoFurther;

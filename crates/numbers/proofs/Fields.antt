@@ -10,7 +10,7 @@ use Rattle.numbers.specs.declared.NumberRead.the-variants.{Number, Refus
 use Rattle.numbers.specs.declared.FieldRead.{FieldRead}
 use Rattle.numbers.specs.declared.FieldRead.the-variants.{Field, Refused as FieldRefused}
 use Rattle.numbers.specs.believed.Field.{limited, fieldAt, positive, countAt}
-use Rattle.numbers.proofs.Picks.{picked-first, picked-second}
+use Rattle.laws.proofs.Bools.{chose-first, chose-second}
 
 apart : {e n p : ℕ} → FieldRefused e ≢ Field n p
 apart h = let z : _≡_ {A = ℕ} 0 1 = cc in omega arith
@@ -21,7 +21,7 @@ pub record Limited (r : NumberRead) (limit n p : ℕ) : Type 0 where
 
 pub limited-read : (r : NumberRead) (limit e n p : ℕ) → limited r limit e ≡ Field n p → Limited r limit n p
 limited-read (Number m q) limit e n p h =
-    let t = picked-first (ltb m limit) _ _ apart h in
+    let t = chose-first (ltb m limit) _ _ apart h in
     let z : m ≡ n = cc in
     record { read = cc; below = rw (← z) (ltb-true m limit (t .0)) }
 limited-read (NumberRefused x) limit e n p h = absurd (apart h)
@@ -41,7 +41,7 @@ pub record Counted (r : NumberRead) (most n p : ℕ) : Type 0 where
 
 positive-field : (r : FieldRead) (e n p : ℕ) → positive r e ≡ Field n p → (r ≡ Field n p) × (0 < n)
 positive-field (Field m q) e n p h =
-    let t = picked-second (eqb m 0) _ _ apart h in
+    let t = chose-second (eqb m 0) _ _ apart h in
     let z : m ≡ n = cc in
     let some = eqb-false m 0 (t .0) in
     (t .1, rw (← z) (omega arith))

@@ -1,4 +1,3 @@
 pub mod Fields
-pub mod Picks
 pub mod Standing
 pub mod Written

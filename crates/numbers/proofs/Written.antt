@@ -2,7 +2,7 @@
 use Prim.Native.Nat.{ℕ, zero, suc, _+_, _-_, _*_, _/_, _%_, _<_, _≤_}
 use mathlib.Core.Path.{_≡_, refl, sym, ap, _∙_}
 use mathlib.Core.Logic.{_↔_, _≢_}
-use mathlib.Core.Bool.{Bool, true, false}
+use mathlib.Core.Bool.{Bool, true, false, cond}
 use mathlib.Core.List.{List, [], _∷_, _++_, append-nil, append-assoc}
 use native.Mathlib.Omega.{arith}
 use native.Mathlib.Numerals.{add-one}
@@ -11,9 +11,9 @@ use lib.ListN.{length, getD, drop, length-append, length-drop, drop-of-length-le
 use lib.Seq.{drop-cons, drop-drop, drop-append-seam}
 use borrow.Author.Tests.{ltb-true, ltb-false, lt-ltb, le-ltb, eqb-false, ne-eqb}
 use Rattle.numbers.specs.declared.NumberRead.the-variants.{Number, Refused}
-use Rattle.numbers.specs.believed.Number.{pick, twoBytes, numberAt, bytes}
+use Rattle.numbers.specs.believed.Number.{twoBytes, numberAt, bytes}
 use Rattle.numbers.specs.Written.{AllBelow, shortest, written, NumbersAt, none, one, Holds}
-use Rattle.numbers.proofs.Picks.{picked-first, picked-second}
+use Rattle.laws.proofs.Bools.{chose-first, chose-second}
 
 below-at : (limit : ℕ) (ns : List ℕ) (i : ℕ) → AllBelow limit ns → i < length ns → getD ns i 0 < limit
 below-at limit [] i b h = absurd (omega arith)
@@ -57,7 +57,7 @@ shortest-some : (n : ℕ) → 0 < length (shortest n)
 unfolding shortest
 shortest-some n = go (ltb n 128)
   where
-    go : (t : Bool) → 0 < length (pick t (n ∷ []) ((n % 128 + 128) ∷ (n / 128) ∷ []))
+    go : (t : Bool) → 0 < length (cond t (n ∷ []) ((n % 128 + 128) ∷ (n / 128) ∷ []))
     go true = omega arith
     go false = omega arith
 
@@ -80,19 +80,19 @@ module _ (s : List ℕ) (at : ℕ) where
   number-read : AllBelow 256 s → (n next : ℕ) → numberAt s at ≡ Number n next → Stands s at n next
   unfolding numberAt
   number-read b n next h =
-      let p = picked-first (ltb at (length s)) _ _ apart h in
+      let p = chose-first (ltb at (length s)) _ _ apart h in
       go (ltb (getD s at 0) 128) (ltb-true at (length s) (p .0)) refl (p .1)
     where
       go : (t : Bool) → at < length s → ltb (getD s at 0) 128 ≡ t
-          → pick t (Number (getD s at 0) (at + 1)) (pick (ltb (at + 1) (length s)) (twoBytes (getD s at 0) (getD s (at + 1) 0) (at + 1 + 1)) (Refused 1)) ≡ Number n next → Stands s at n next
+          → cond t (Number (getD s at 0) (at + 1)) (cond (ltb (at + 1) (length s)) (twoBytes (getD s at 0) (getD s (at + 1) 0) (at + 1 + 1)) (Refused 1)) ≡ Number n next → Stands s at n next
       go true l e r =
           let en : getD s at 0 ≡ n = cc in
           let ep : at + 1 ≡ next = cc in
           rw (← en, ← ep) (stands-one l (ltb-true _ _ e))
       go false l e r =
-          let q = picked-first (ltb (at + 1) (length s)) _ _ apart r in
-          let f = picked-second (eqb (getD s (at + 1) 0) 0) _ _ apart (q .1) in
-          let p = picked-first (ltb (getD s (at + 1) 0) 128) _ _ apart (f .1) in
+          let q = chose-first (ltb (at + 1) (length s)) _ _ apart r in
+          let f = chose-second (eqb (getD s (at + 1) 0) 0) _ _ apart (q .1) in
+          let p = chose-first (ltb (getD s (at + 1) 0) 128) _ _ apart (f .1) in
           let en : getD s at 0 - 128 + getD s (at + 1) 0 * 128 ≡ n = cc in
           let ep : at + 1 + 1 ≡ next = cc in
           rw (← en, ← ep)

@@ -1,12 +1,12 @@
 -- How numbers are written as bytes, and what it is that numbers stand in a file (document 01, "The two files").
 use Prim.Native.Nat.{ℕ, _+_, _<_, _/_, _%_}
 use mathlib.Core.Path.{_≡_}
-use mathlib.Core.Bool.{false}
+use mathlib.Core.Bool.{false, cond}
 use mathlib.Core.List.{List, [], _∷_, _++_}
 use lib.Dec.{ltb}
 use Rattle.numbers.specs.declared.NumberRead.{NumberRead}
 use Rattle.numbers.specs.declared.NumberRead.the-variants.{Number}
-use Rattle.numbers.specs.believed.Number.{pick, Source}
+use Rattle.numbers.specs.believed.Number.{Source}
 
 -- all numbers of the list are below the limit
 abbrev pub AllBelow : ℕ → List ℕ → Type 0
@@ -16,7 +16,7 @@ AllBelow limit (n ∷ ns) = (n < limit) × AllBelow limit ns
 -- "groups of seven bits, lowest group first. Each byte but the last has its top bit (128) set. Shortest form only, two bytes at most":
 -- the bytes of a number below 128 × 128
 unfoldable pub shortest : ℕ → List ℕ
-shortest n = pick (ltb n 128) (n ∷ []) ((n % 128 + 128) ∷ (n / 128) ∷ [])
+shortest n = cond (ltb n 128) (n ∷ []) ((n % 128 + 128) ∷ (n / 128) ∷ [])
 
 -- the bytes of numbers, one after another
 unfoldable pub written : List ℕ → List ℕ

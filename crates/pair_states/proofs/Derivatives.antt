@@ -17,15 +17,15 @@ use Rattle.vpg.specs.declared.Rule.{Rule}
 use Rattle.laws.specs.Any.{any, anyBelow}
 use Rattle.vpg.specs.believed.Grammar.{Grammar}
 use Rattle.pair_theory.specs.Pairs.{PairState, single, markTo, overMark, openTo, overOpen, endsFrom, finished, closeTo, overClose}
-use Rattle.laws.proofs.Any.{both, eqb-refl, below-some, some-below}
-use Rattle.laws.proofs.Basics.{and-left, and-right}
+use Rattle.laws.proofs.Any.{below-some, some-below}
+use Rattle.laws.proofs.Bools.{both, eqb-refl, and-left, and-right, same-test}
 use Rattle.sets_theory.proofs.Sets.{getD-listed}
 use Rattle.tables.specs.Ready.{Below, Ready, grammarIn}
 use Rattle.tables.specs.Table.{ruleIn, rulesIn}
 use Rattle.pair_words.specs.declared.Pattern.{Pattern}
 use Rattle.pair_words.specs.Row.{followsBy, passes, rowAfter}
 use Rattle.pair_words.proofs.Below.{follows-below}
-use Rattle.pair_words.proofs.Gathers.{same-test, below-cong, any-rules, bit-gather, gather-below, gathers, some-member}
+use Rattle.pair_words.proofs.Gathers.{below-cong, any-rules, bit-gather, gather-below, gathers, some-member}
 use Rattle.pair_states.specs.Words.{rowsAfter, currentsOf, diagonalOf, meets, finishedOf, emptiesOf}
 use Rattle.pair_states.specs.Encodes.{Encodes}
 use Rattle.pair_states.proofs.Fills.{bit-currents}

@@ -9,12 +9,12 @@ use borrow.Author.Count.{below-more}
 use lib.Bits.{bitOr}
 use lib.ListN.{length, getD, set, length-set}
 use lib.Seq.{ext-getD, getD-set-same, getD-set-other}
+use Rattle.laws.proofs.Bools.{or-comm}
 use Rattle.bits.specs.Bit.{bit}
 use Rattle.bits.proofs.Bits.{bit-zero, bit-or}
 use Rattle.laws.specs.Any.{anyBelow}
 use Rattle.sets_theory.specs.believed.Sets.{listed}
 use Rattle.sets_theory.proofs.Sets.{length-listed, getD-listed}
-use Rattle.pair_words.proofs.Gathers.{or-comm}
 use Rattle.pair_states.specs.Words.{currentsOf}
 
 pub bit-currents : (rows : List ℕ) (n L : ℕ) → bit (currentsOf rows n) L ≡ anyBelow n (λ k. bit (getD rows k 0) L)

@@ -8,7 +8,7 @@ use mathlib.Core.Option.{some, Option·none-ne-some, Option·some-injective}
 use lib.ListN.{getElem?}
 use Rattle.vpg.specs.declared.Rule.{Rule}
 use Rattle.pair_theory.specs.Pairs.{Proper}
-use Rattle.laws.proofs.Basics.{at-cases}
+use Rattle.laws.proofs.Lists.{at-cases}
 use Rattle.tables.specs.Ready.{Below, Ready, grammarIn}
 use Rattle.tables.specs.Table.{ruleIn, rulesIn}
 

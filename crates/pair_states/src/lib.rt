@@ -5,6 +5,7 @@ use vpg::CloseName;
 use vpg::MarkName;
 use vpg::OpenName;
 ghost use mathlib.Core.Path.{_≡_};
+ghost use mathlib.Core.Bool.{cond};
 ghost use mathlib.Core.List.{List};
 ghost use Prim.Native.Nat.{ℕ, _<_};
 ghost use lib.Bits.{bitAnd};
@@ -12,7 +13,6 @@ ghost use Rattle.bits.specs.Bit.{addBit};
 ghost use Rattle.laws.specs.Any.{anyBelow};
 ghost use Rattle.pair_theory.specs.Pairs.{PairState, single, overMark, overOpen, overClose, finished};
 ghost use Rattle.tables.specs.Ready.{Ready, grammarIn};
-ghost use Rattle.pair_words.specs.Row.{pick};
 ghost use Rattle.pair_states.specs.Encodes.{Encodes};
 ghost use Rattle.pair_states.specs.Words.{rowsAfter, currentsOf, diagonalOf, meets, finishedOf, emptiesOf};
 
@@ -64,7 +64,7 @@ fn diagonal(set: u32) -> [u32; 32]
 
 fn add_if(m: u32, k: usize, yes: bool) -> u32
     requires { ⌜ k < 32 ⌝ }
-    ensures { λ r. ⌜ r ≡ pick yes (addBit m k) m ⌝ }
+    ensures { λ r. ⌜ r ≡ cond yes (addBit m k) m ⌝ }
 {
     if yes {
         return bits::with(m, k);

@@ -10,6 +10,7 @@ use mathlib.Core.Option.{some}
 use borrow.Author.Tests.{eqb-true}
 use lib.Dec.{eqb}
 use lib.ListN.{getElem?, length, take}
+use Rattle.laws.proofs.Lists.{heads, tails}
 use Rattle.vpg.specs.declared.MarkName.{MarkName}
 use Rattle.vpg.specs.declared.OpenName.{OpenName}
 use Rattle.vpg.specs.declared.CloseName.{CloseName}
@@ -19,8 +20,8 @@ use Rattle.laws.specs.Any.{anyBelow}
 use Rattle.vpg.specs.believed.Grammar.{Rules, Grammar, Tree, code, Derives, by-empty, by-mark, by-step, Reading}
 use Rattle.pair_theory.specs.Pairs.{PairState, PairStack, Configuration, single, begin, markTo, overMark, openTo, overOpen, endsFrom, finished, closeTo, overClose, closed, derivative, after, bottom, accepts, marksFrom, Takes, at-bottom, in-step, Proper, Contexts, Stacked, Within}
 use Rattle.sets_theory.specs.believed.Sets.{one, stopMark, listed, stopMarks}
-use Rattle.laws.proofs.Any.{both, eqb-refl, any-some, some-any, below-some, some-below}
-use Rattle.laws.proofs.Basics.{and-left, and-right}
+use Rattle.laws.proofs.Any.{any-some, some-any, below-some, some-below}
+use Rattle.laws.proofs.Bools.{both, eqb-refl, and-left, and-right}
 use Rattle.sets_theory.proofs.Sets.{stop-mark-is, listed-cong}
 use Rattle.vpg.proofs.Take.{name-mark, name-open, name-close}
 
@@ -188,12 +189,6 @@ record OpenFirst (g : Rules) (L : ℕ) (a : OpenName) (v : List Token) : Type 0 
   derives : Derives g inside within tree
   tokens : v ≡ within ++ (Token.Close close ∷ rest)
   derives′ : Derives g next rest tree′
-
-heads : {x y : Token} {v w : List Token} → x ∷ v ≡ y ∷ w → x ≡ y
-heads e = cc
-
-tails : {x y : Token} {v w : List Token} → x ∷ v ≡ y ∷ w → v ≡ w
-tails e = cc
 
 mark-first : (g : Rules) {L : ℕ} {w : List Token} {t : Tree} → Derives g L w t → (c : MarkName) (v : List Token) → w ≡ Token.Mark c ∷ v → MarkFirst g L c v
 mark-first g (by-empty i) c v e = absurd (let z : _≡_ {A = ℕ} 0 1 = cc in omega arith)

@@ -3,56 +3,32 @@ use Prim.Native.Nat.{ℕ, zero, suc, _+_, _^_, _<_}
 use native.Mathlib.Numerals.{add-one}
 use native.Mathlib.Omega.{arith}
 use mathlib.Core.Path.{_≡_, refl, sym, _∙_, ap, ap₂}
-use mathlib.Core.Bool.{Bool, true, false, not, _&&_, _||_, false≢true}
+use mathlib.Core.Bool.{Bool, true, false, cond, not, _&&_, _||_, false≢true}
 use mathlib.Core.List.{List, [], _∷_, _++_}
 use borrow.Author.Tests.{eqb-true, eq-eqb, ne-eqb}
 use lib.Dec.{eqb}
 use lib.Pow.{pow-pos}
+use Rattle.laws.proofs.Bools.{or-comm, same-test, eqb-comm}
 use Rattle.bits.specs.Bit.{bit, addBit}
 use Rattle.bits.proofs.Bits.{bit-zero, bit-add, add-below, no-member}
 use Rattle.vpg.specs.declared.Rule.{Rule}
 use Rattle.laws.specs.Any.{any, anyBelow}
-use Rattle.laws.proofs.Any.{below-some, some-below}
+use Rattle.laws.proofs.Any.{below-some, some-below, any-snoc}
 use Rattle.tables.specs.Table.{ruleIn, rulesIn}
 use Rattle.pair_words.specs.declared.Pattern.{Pattern}
-use Rattle.pair_words.specs.Row.{pick, gather, passes, followsBy, rowAfter}
+use Rattle.pair_words.specs.Row.{gather, passes, followsBy, rowAfter}
 
 -- ── tests ──
-
-pub or-comm : (a b : Bool) → (a || b) ≡ (b || a)
-or-comm true true = refl
-or-comm true false = refl
-or-comm false true = refl
-or-comm false false = refl
-
--- two tests that pass together are one
-pub same-test : (a b : Bool) → (a ≡ true → b ≡ true) → (b ≡ true → a ≡ true) → a ≡ b
-same-test true true f h = refl
-same-test true false f h = sym (f refl)
-same-test false true f h = h refl
-same-test false false f h = refl
-
-pub eqb-comm : (a b : ℕ) → eqb a b ≡ eqb b a
-eqb-comm a b = same-test (eqb a b) (eqb b a) (λ p. eq-eqb b a (sym (eqb-true a b p))) (λ p. eq-eqb a b (sym (eqb-true b a p)))
 
 pub below-cong : (n : ℕ) (p q : ℕ → Bool) → ((r : ℕ) → r < n → p r ≡ q r) → anyBelow n p ≡ anyBelow n q
 below-cong zero p q h = refl
 below-cong (suc n) p q h = ap₂ _||_ (h n (omega arith)) (below-cong n p q (λ r l. h r (omega arith)))
 
-any-snoc : (p : Rule → Bool) (l : List Rule) (R : Rule) → any p (l ++ (R ∷ [])) ≡ (p R || any p l)
-any-snoc p [] R = refl
-any-snoc p (x ∷ l) R = rw (any-snoc p l R) (exchange (p x) (p R) (any p l))
-  where
-    exchange : (a b c : Bool) → (a || (b || c)) ≡ (b || (a || c))
-    exchange true true c = refl
-    exchange true false c = refl
-    exchange false b c = refl
-
 -- over the rules of a table by their numbers
 pub any-rules : (p : Rule → Bool) (t : List ℕ) (n : ℕ) → any p (rulesIn t n) ≡ anyBelow n (λ r. p (ruleIn t r))
 unfolding rulesIn
 any-rules p t zero = refl
-any-rules p t (suc n) = any-snoc p (rulesIn t n) (ruleIn t n) ∙ ap (λ (b : Bool). p (ruleIn t n) || b) (any-rules p t n)
+any-rules p t (suc n) = any-snoc p (rulesIn t n) (ruleIn t n) ∙ or-comm (any p (rulesIn t n)) (p (ruleIn t n)) ∙ ap (λ (b : Bool). p (ruleIn t n) || b) (any-rules p t n)
 
 -- ── the members of a gathered set ──
 
@@ -62,7 +38,7 @@ bit-gather p f zero K = bit-zero K
 bit-gather p f (suc n) K = go (p n) (bit-gather p f n K)
   where
     go : (b : Bool) → bit (gather p f n) K ≡ anyBelow n (λ r. p r && eqb (f r) K) →
-        bit (pick b (addBit (gather p f n) (f n)) (gather p f n)) K ≡ ((b && eqb (f n) K) || anyBelow n (λ r. p r && eqb (f r) K))
+        bit (cond b (addBit (gather p f n) (f n)) (gather p f n)) K ≡ ((b && eqb (f n) K) || anyBelow n (λ r. p r && eqb (f r) K))
     go true h = bit-add (gather p f n) (f n) K ∙ or-comm (bit (gather p f n) K) (eqb K (f n)) ∙ ap₂ _||_ (eqb-comm K (f n)) h
     go false h = h
 
@@ -71,7 +47,7 @@ unfolding gather
 gather-below k p f zero h = pow-pos k
 gather-below k p f (suc n) h = go (p n) (gather-below k p f n (λ r l. h r (omega arith)))
   where
-    go : (b : Bool) → gather p f n < 2 ^ k → pick b (addBit (gather p f n) (f n)) (gather p f n) < 2 ^ k
+    go : (b : Bool) → gather p f n < 2 ^ k → cond b (addBit (gather p f n) (f n)) (gather p f n) < 2 ^ k
     go true l = add-below k (gather p f n) (f n) l (h n (omega arith))
     go false l = l
 
@@ -97,7 +73,7 @@ some-member k m h = go (anyBelow k (bit m)) refl
 
 -- ── turns of loops ──
 
-pub gather-turn : (p : ℕ → Bool) (f : ℕ → ℕ) (r m : ℕ) → m ≡ gather p f r → pick (p r) (addBit m (f r)) m ≡ gather p f (r + 1)
+pub gather-turn : (p : ℕ → Bool) (f : ℕ → ℕ) (r m : ℕ) → m ≡ gather p f r → cond (p r) (addBit m (f r)) m ≡ gather p f (r + 1)
 unfolding gather
 gather-turn p f r m e = rw (add-one, e)
 

@@ -1,6 +1,6 @@
 -- Which rules a token allows, and the set of the nonterminals that follow, as a word.
 use Prim.Native.Nat.{ℕ, zero, suc}
-use mathlib.Core.Bool.{Bool, true, false, _&&_}
+use mathlib.Core.Bool.{Bool, true, false, cond, _&&_}
 use mathlib.Core.List.{List}
 use lib.Dec.{eqb}
 use Rattle.bits.specs.Bit.{bit, addBit}
@@ -52,17 +52,13 @@ followsBy p (Rule.Step L a L₁ b L₂) = stepFollows p L₁ L₂
 abbrev pub passes : Pattern → ℕ → ℕ → Rule → Bool
 passes p row done R = bit row (left R) && matchesBy p done R
 
-abbrev pub pick : Bool → ℕ → ℕ → ℕ
-pick true x y = x
-pick false x y = y
-
 abbrev pub gained : Pattern → ℕ → ℕ → ℕ → Rule → ℕ
-gained p row done m R = pick (passes p row done R) (addBit m (followsBy p R)) m
+gained p row done m R = cond (passes p row done R) (addBit m (followsBy p R)) m
 
 -- the set of the numbers f r, for each r below n that passes a test
 unfoldable pub gather : (ℕ → Bool) → (ℕ → ℕ) → ℕ → ℕ
 gather p f zero = 0
-gather p f (suc r) = pick (p r) (addBit (gather p f r) (f r)) (gather p f r)
+gather p f (suc r) = cond (p r) (addBit (gather p f r) (f r)) (gather p f r)
 
 -- the nonterminals that follow those of one row, by the first n rules of a table
 abbrev pub rowAfter : Pattern → ℕ → ℕ → List ℕ → ℕ → ℕ

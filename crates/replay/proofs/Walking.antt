@@ -9,12 +9,13 @@ use borrow.Author.Tests.{eqb-true, ltb-true, lt-ltb}
 use lib.Dec.{eqb, ltb}
 use lib.ListN.{length, take, drop, getD, set, replicate, length-set, drop-of-length-le}
 use lib.Seq.{drop-cons, getD-take, getD-set-other, length-take-le}
+use Rattle.laws.proofs.Lists.{heads}
 use Rattle.vpg.specs.declared.Rule.{Rule}
 use Rattle.vpg.specs.declared.Token.{Token}
 use Rattle.vpg.specs.believed.Grammar.{Rules}
 use Rattle.vpg.specs.Runs.{Stack, State}
 use Rattle.vpg.specs.Steps.{left}
-use Rattle.laws.proofs.Basics.{and-left, and-right}
+use Rattle.laws.proofs.Bools.{and-left, and-right}
 use Rattle.vpg.proofs.Take.{taken, ended}
 use Rattle.level_theory.specs.Masks.{finishes, masks, Fits}
 use Rattle.level_theory.specs.Pending.{pendingAt, closeOf, dueAt}
@@ -24,8 +25,8 @@ use Rattle.level_theory.proofs.Alive.{Passes, ends-empty}
 use Rattle.level_theory.proofs.Search.{live}
 use Rattle.level_theory.proofs.Walk.{passes-end}
 use Rattle.level_theory.proofs.Local.{Turn, turn, run-at, leads-next, fits-next}
-use Rattle.contexts.specs.declared.Place.{Place}
-use Rattle.contexts.specs.Place.{appliesTo}
+use Rattle.contexts.specs.declared.Context.{Context}
+use Rattle.contexts.specs.Context.{appliesTo}
 use Rattle.tables.specs.Table.{ruleIn, rulesIn}
 use Rattle.tables.proofs.Tables.{rules-at}
 use Rattle.history_file.specs.believed.HistoryFile.{tokenOf, tokensOf}
@@ -43,16 +44,10 @@ run-passes g [] L s r x e q h =
     let k = ended g L s e h in
     let z : r ≡ k .number = heads (sym q ∙ k .shape) in
     rw z (record { rule = Rule.Empty L; is = k .is; from = refl; passes = refl })
-  where
-    heads : {a b : ℕ} {x y : List ℕ} → a ∷ x ≡ b ∷ y → a ≡ b
-    heads p = cc
 run-passes g (t ∷ v) L s r x e q h =
     let k = taken g L s t v e h in
     let z : r ≡ k .number = heads (sym q ∙ k .shape) in
     rw z (live k)
-  where
-    heads : {a b : ℕ} {x y : List ℕ} → a ∷ x ≡ b ∷ y → a ≡ b
-    heads p = cc
 
 -- the walk has come to position p
 pub record Walking (t : List ℕ) (n : ℕ) (ts : List ℕ) (start : ℕ) (e at f : List ℕ) (p : ℕ) : Type 0 where
@@ -96,19 +91,19 @@ module _ {t : List ℕ} {n : ℕ} {ts m mask : List ℕ} (set-up : Setting t n t
   numbers : length E ≡ suc (length ts)
   numbers = length-take-le (suc (length ts)) buf long
 
-  module _ {at f : List ℕ} {p : ℕ} (k : Walks at f p) (place : Place) (stands : Stands W mask p place) where
+  module _ {at f : List ℕ} {p : ℕ} (k : Walks at f p) (context : Context) (stands : Stands W mask p context) where
     after : Leveled G W mask (suc p)
     after q h l = set-up .leveled q (omega arith) l
 
     abbrev Stood : Bool
-    Stood = ltb (getD buf p 0) n && ruleFits (ruleIn t (getD buf p 0)) (getD at p 0) place
+    Stood = ltb (getD buf p 0) n && ruleFits (ruleIn t (getD buf p 0)) (getD at p 0) context
 
     -- a number that does not stand here: the buffer holds no reading
     pub walking-refused : Stood ≡ false → Run G (start, []) W E → ⊥
     walking-refused q r =
         let x = run-at G W at f E p (omega (arith, numbers, k .most)) (k .leads) (from-start (stateAt W at f 0) starts r) in
         let y = run-passes G (drop p W) (getD at p 0) (dueAt f (pendingAt W p)) (getD E p 0) (drop (suc p) E) (drop p E) (drop-cons E p 0 (omega (arith, numbers, k .most))) x in
-        none t n W mask p (getD at p 0) place stands after (λ s. s ≡ getD buf p 0) fails (getD buf p 0) refl (rw (number p (k .most)) at y)
+        none t n W mask p (getD at p 0) context stands after (λ s. s ≡ getD buf p 0) fails (getD buf p 0) refl (rw (number p (k .most)) at y)
       where
         starts : stateAt W at f 0 ≡ (start, [])
         starts = rw (k .begins, matched)
@@ -116,24 +111,24 @@ module _ {t : List ℕ} {n : ℕ} {ts m mask : List ℕ} (set-up : Setting t n t
         from-start : (s : State) → s ≡ (start, []) → Run G (start, []) W E → Run G s W E
         from-start s e h = rw e h
 
-        fails : (r : ℕ) → r < n → r ≡ getD buf p 0 → ruleFits (ruleIn t r) (getD at p 0) place ≡ false
+        fails : (r : ℕ) → r < n → r ≡ getD buf p 0 → ruleFits (ruleIn t r) (getD at p 0) context ≡ false
         fails r l e = rw e (rest (getD buf p 0) (rw e at l) q)
           where
-            rest : (r : ℕ) → r < n → (ltb r n && ruleFits (ruleIn t r) (getD at p 0) place) ≡ false → ruleFits (ruleIn t r) (getD at p 0) place ≡ false
+            rest : (r : ℕ) → r < n → (ltb r n && ruleFits (ruleIn t r) (getD at p 0) context) ≡ false → ruleFits (ruleIn t r) (getD at p 0) context ≡ false
             rest r l z = rw (lt-ltb r n l) at z
 
     module _ (stood : Stood ≡ true) where
       pub rule-below : getD buf p 0 < n
       rule-below = ltb-true _ _ (and-left _ _ stood)
 
-      fitting : ruleFits (ruleIn t (getD buf p 0)) (getD at p 0) place ≡ true
+      fitting : ruleFits (ruleIn t (getD buf p 0)) (getD at p 0) context ≡ true
       fitting = and-right (ltb (getD buf p 0) n) _ stood
 
       pub walking-end : p ≡ length ts → Reads G W start E at f
       walking-end e = record {
         begins = k .begins;
         leads = rw (e ∙ sym (tokens-length ts)) at (k .leads);
-        ends = rw (← (e ∙ sym (tokens-length ts)), number p (k .most)) (ends-empty G (getD at p 0) (getD buf p 0) (finished (drop p W) (drop-of-length-le W {i = p} (omega (arith, tokens-length ts))) (passes t n W mask p (getD at p 0) place stands after (getD buf p 0) rule-below fitting)));
+        ends = rw (← (e ∙ sym (tokens-length ts)), number p (k .most)) (ends-empty G (getD at p 0) (getD buf p 0) (finished (drop p W) (drop-of-length-le W {i = p} (omega (arith, tokens-length ts))) (passes t n W mask p (getD at p 0) context stands after (getD buf p 0) rule-below fitting)));
         room-at = k .room-at;
         room-behind = k .room-behind;
       }
@@ -152,7 +147,7 @@ module _ {t : List ℕ} {n : ℕ} {ts m mask : List ℕ} (set-up : Setting t n t
         here-turn =
             rw (number p (k .most))
             (turn G W (length W) f p (tokenOf (getD ts p 0)) here (getD at p 0) (getD buf p 0) (ruleIn t (getD buf p 0)) inside (k .fits) (rules-at t n (getD buf p 0) rule-below) (eqb-true _ _ (and-left _ _ fitting))
-            (sym (stands G after (ruleIn t (getD buf p 0))) ∙ and-right (eqb (left (ruleIn t (getD buf p 0))) (getD at p 0)) (appliesTo (ruleIn t (getD buf p 0)) place) fitting))
+            (sym (stands G after (ruleIn t (getD buf p 0))) ∙ and-right (eqb (left (ruleIn t (getD buf p 0))) (getD at p 0)) (appliesTo (ruleIn t (getD buf p 0)) context) fitting))
 
         pub walking-next : Walks (set at (p + 1) (inner (ruleIn t (getD buf p 0)) (getD f p 0))) (set f (getD m p 0) (later (ruleIn t (getD buf p 0)) (getD f (getD m p 0) 0))) (p + 1)
         walking-next =

@@ -1,5 +1,5 @@
 // Walks over a buffer as a reading: the nonterminals by position and behind closes, or that the buffer holds no reading.
-use contexts::Place;
+use contexts::Context;
 ghost use mathlib.Core.Path.{_≡_};
 ghost use mathlib.Core.Bool.{_&&_};
 ghost use mathlib.Core.List.{[]};
@@ -23,12 +23,12 @@ pub struct Walked {
 }
 
 // Whether r is a rule for the nonterminal that can stand here.
-fn stands(table: &[u16; 768], count: usize, r: usize, l: u16, place: Place) -> bool
+fn stands(table: &[u16; 768], count: usize, r: usize, l: u16, context: Context) -> bool
     requires { ⌜ Ready (now table) count ⌝ }
-    ensures { λ b. ⌜ b ≡ (ltb r count && ruleFits (ruleIn (now (table .entry)) r) l place) ⌝ }
+    ensures { λ b. ⌜ b ≡ (ltb r count && ruleFits (ruleIn (now (table .entry)) r) l context) ⌝ }
 {
     if r < count {
-        first_run::fits(table, r, l, place)
+        first_run::fits(table, r, l, context)
     } else {
         false
     }
@@ -54,8 +54,8 @@ pub fn walk(
     let mut p: usize = 0;
     while p < w.len() {
         let r = buf[p] as usize;
-        let place = levels::place_at(w, m, mask, p);
-        if stands(table, count, r, at[p], place) {
+        let context = levels::context_at(w, m, mask, p);
+        if stands(table, count, r, at[p], context) {
             let rule = tables::six_in(table, r);
             let j = m[p];
             at[p + 1] = first_run::inner_of(rule, behind[p]);
@@ -69,7 +69,7 @@ pub fn walk(
             };
         }
     }
-    let last = levels::place_at(w, m, mask, p);
+    let last = levels::context_at(w, m, mask, p);
     let ok = stands(table, count, buf[p] as usize, at[p], last);
     Walked { ok, at, behind }
 }

@@ -5,6 +5,8 @@ use mathlib.Core.Path.{_≡_, refl, sym, _∙_, ap}
 use mathlib.Core.Bool.{Bool, true, false, cond, _&&_, _||_, or-false}
 use mathlib.Core.List.{List}
 use lib.ListN.{length, getD, length-set}
+use Rattle.laws.proofs.Any.{any-snoc}
+use Rattle.laws.proofs.Bools.{eqb-comm}
 use Rattle.bits.specs.Bit.{bit}
 use Rattle.bits.proofs.Bits.{bit-zero, bit-add}
 use Rattle.vpg.specs.declared.Rule.{Rule}
@@ -12,8 +14,7 @@ use Rattle.sets_theory.specs.believed.Sets.{count}
 use Rattle.level_theory.specs.Masks.{any}
 use Rattle.level_theory.specs.Kept.{goesTo, returnsTo, going, returning}
 use Rattle.tables.specs.Table.{ruleIn, rulesIn}
-use Rattle.contexts.specs.declared.Place.{Place}
-use Rattle.contexts.proofs.Places.{eqb-comm, any-snoc}
+use Rattle.contexts.specs.declared.Context.{Context}
 use Rattle.rule_set.specs.Words.{Held, addIn}
 use Rattle.rule_set.specs.declared.Ways.{Ways}
 use Rattle.rule_set.specs.Rows.{keepsAt, nextWith, behindWith, waysWith, waysIn, wordsIn}
@@ -33,17 +34,17 @@ behind-bit x K (Rule.Step M a M₁ b M₂) = bit-add x M₂ K ∙ ap (λ (b : Bo
 
 -- ── all rules ──
 
-module _ (t : List ℕ) (here : ℕ) (place : Place) where
+module _ (t : List ℕ) (here : ℕ) (context : Context) where
   abbrev pub Keeps : ℕ → Bool
-  Keeps r = keepsAt here place (ruleIn t r)
+  Keeps r = keepsAt here context (ruleIn t r)
 
   abbrev Ways-of : ℕ → Ways
-  Ways-of n = waysIn t here place n
+  Ways-of n = waysIn t here context n
 
   abbrev Words-of : ℕ → List ℕ
-  Words-of n = wordsIn t here place n
+  Words-of n = wordsIn t here context n
 
-  pub held-most : (n : ℕ) → waysIn t here place n .held ≤ n
+  pub held-most : (n : ℕ) → waysIn t here context n .held ≤ n
   unfolding waysIn
   held-most zero = omega arith
   held-most (suc n) = go (Keeps n) (held-most n)
@@ -53,7 +54,7 @@ module _ (t : List ℕ) (here : ℕ) (place : Place) where
       go false h = omega arith
 
   -- how many rules are kept
-  pub held-count : (n : ℕ) → waysIn t here place n .held ≡ count n Keeps
+  pub held-count : (n : ℕ) → waysIn t here context n .held ≡ count n Keeps
   unfolding waysIn count
   held-count zero = refl
   held-count (suc n) = go (Keeps n) refl (held-count n)
@@ -63,7 +64,7 @@ module _ (t : List ℕ) (here : ℕ) (place : Place) where
       go false q h = rw q (omega arith)
 
   -- which rules are kept
-  pub words-held : (n : ℕ) → n ≤ 128 → (length (wordsIn t here place n) ≡ 4) × Held 32 n Keeps (wordsIn t here place n)
+  pub words-held : (n : ℕ) → n ≤ 128 → (length (wordsIn t here context n) ≡ 4) × Held 32 n Keeps (wordsIn t here context n)
   unfolding wordsIn
   words-held zero h = (refl, held-none 32 Keeps (Words-of 0) zeros)
     where
@@ -81,21 +82,21 @@ module _ (t : List ℕ) (here : ℕ) (place : Place) where
       go false q (l, k) = (l, held-without 32 n Keeps (Words-of n) q k)
 
   -- one rule more, where a set of nonterminals grows by what the kept rules say
-  grows : (f : Ways → ℕ) (k : Rule → Bool) (K n : ℕ) (b : Bool) → keepsAt here place (ruleIn t n) ≡ b → bit (f (waysWith (Ways-of n) (ruleIn t n))) K ≡ (bit (f (Ways-of n)) K || k (ruleIn t n)) →
-      bit (f (Ways-of n)) K ≡ any (λ R. keepsAt here place R && k R) (rulesIn t n) →
-      bit (f (cond b (waysWith (Ways-of n) (ruleIn t n)) (Ways-of n))) K ≡ any (λ R. keepsAt here place R && k R) (rulesIn t (suc n))
+  grows : (f : Ways → ℕ) (k : Rule → Bool) (K n : ℕ) (b : Bool) → keepsAt here context (ruleIn t n) ≡ b → bit (f (waysWith (Ways-of n) (ruleIn t n))) K ≡ (bit (f (Ways-of n)) K || k (ruleIn t n)) →
+      bit (f (Ways-of n)) K ≡ any (λ R. keepsAt here context R && k R) (rulesIn t n) →
+      bit (f (cond b (waysWith (Ways-of n) (ruleIn t n)) (Ways-of n))) K ≡ any (λ R. keepsAt here context R && k R) (rulesIn t (suc n))
   unfolding rulesIn
   grows f k K n true q e h = rw any-snoc (e ∙ rw (h, q))
   grows f k K n false q e h = rw any-snoc (h ∙ rw q (sym (or-false _)))
 
   -- the nonterminals at the next position
-  pub next-going : (K n : ℕ) → bit (waysIn t here place n .next) K ≡ going (keepsAt here place) (rulesIn t n) K
+  pub next-going : (K n : ℕ) → bit (waysIn t here context n .next) K ≡ going (keepsAt here context) (rulesIn t n) K
   unfolding waysIn rulesIn
   next-going K zero = bit-zero K
   next-going K (suc n) = grows (λ x. x .next) (λ R. goesTo R K) K n _ refl (next-bit (Ways-of n .next) K (ruleIn t n)) (next-going K n)
 
   -- and those behind the close
-  pub behind-returning : (K n : ℕ) → bit (waysIn t here place n .behind) K ≡ returning (keepsAt here place) (rulesIn t n) K
+  pub behind-returning : (K n : ℕ) → bit (waysIn t here context n .behind) K ≡ returning (keepsAt here context) (rulesIn t n) K
   unfolding waysIn rulesIn
   behind-returning K zero = bit-zero K
   behind-returning K (suc n) = grows (λ x. x .behind) (λ R. returnsTo R K) K n _ refl (behind-bit (Ways-of n .behind) K (ruleIn t n)) (behind-returning K n)

@@ -1,5 +1,5 @@
 // The rules kept at a position: their set in words, how many they are, and the nonterminals with which they go on.
-use contexts::Place;
+use contexts::Context;
 use vpg::Rule;
 ghost use mathlib.Core.Path.{_≡_};
 ghost use Prim.Native.Nat.{_<_};
@@ -17,11 +17,11 @@ pub struct Ways {
 }
 
 // Whether the nonterminal of rule r can stand here, and the rule too. Few rules can, whatever their nonterminal: that is asked first.
-fn keeps(here: u32, table: &[u16; 768], r: usize, place: Place) -> bool
+fn keeps(here: u32, table: &[u16; 768], r: usize, context: Context) -> bool
     requires { ⌜ (r < 128) × Below 32 (ruleIn (now table) r) ⌝ }
-    ensures { λ x. ⌜ x ≡ keepsAt here place (ruleIn (now (table .entry)) r) ⌝ }
+    ensures { λ x. ⌜ x ≡ keepsAt here context (ruleIn (now (table .entry)) r) ⌝ }
 {
-    if contexts::applies(table, r, place) {
+    if contexts::applies(table, r, context) {
         bits::has(here, tables::left_in(table, r) as usize)
     } else {
         false
@@ -97,10 +97,16 @@ fn clear(words: &mut [u32])
 }
 
 // The rules kept at a place, where the nonterminals `here` can stand: their set is written, rule 32k + b as digit b of word k.
-pub fn row_at(table: &[u16; 768], count: usize, here: u32, place: Place, words: &mut [u32]) -> Ways
+pub fn row_at(
+    table: &[u16; 768],
+    count: usize,
+    here: u32,
+    context: Context,
+    words: &mut [u32],
+) -> Ways
     requires { ⌜ Ready (now table) count ⌝ }
     requires { ⌜ length (now words) ≡ 4 ⌝ }
-    ensures { λ x. ⌜ (x ≡ waysIn (now (table .entry)) here place count) × (now (words .exit) ≡ wordsIn (now (table .entry)) here place count) ⌝ }
+    ensures { λ x. ⌜ (x ≡ waysIn (now (table .entry)) here context count) × (now (words .exit) ≡ wordsIn (now (table .entry)) here context count) ⌝ }
 {
     clear(words);
     let mut ways = no_ways();
@@ -108,7 +114,7 @@ pub fn row_at(table: &[u16; 768], count: usize, here: u32, place: Place, words: 
     while r < count {
         let k = r;
         r += 1;
-        if keeps(here, table, k, place) {
+        if keeps(here, table, k, context) {
             add(words, k);
             ways = ways_with(ways, tables::rule_of(table, k));
         }
@@ -117,11 +123,11 @@ pub fn row_at(table: &[u16; 768], count: usize, here: u32, place: Place, words: 
 }
 
 // The ways on, with those of rule r where it is kept.
-fn ways_turn(ways: Ways, here: u32, table: &[u16; 768], r: usize, place: Place) -> Ways
+fn ways_turn(ways: Ways, here: u32, table: &[u16; 768], r: usize, context: Context) -> Ways
     requires { ⌜ (ways .held < 128) × (r < 128) × Below 32 (ruleIn (now table) r) ⌝ }
-    ensures { λ x. ⌜ x ≡ waysTurn ways here place (ruleIn (now (table .entry)) r) ⌝ }
+    ensures { λ x. ⌜ x ≡ waysTurn ways here context (ruleIn (now (table .entry)) r) ⌝ }
 {
-    if keeps(here, table, r, place) {
+    if keeps(here, table, r, context) {
         ways_with(ways, tables::rule_of(table, r))
     } else {
         ways
@@ -129,14 +135,14 @@ fn ways_turn(ways: Ways, here: u32, table: &[u16; 768], r: usize, place: Place) 
 }
 
 // The ways on alone, where nobody asks for the set.
-pub fn ways_at(table: &[u16; 768], count: usize, here: u32, place: Place) -> Ways
+pub fn ways_at(table: &[u16; 768], count: usize, here: u32, context: Context) -> Ways
     requires { ⌜ Ready (now table) count ⌝ }
-    ensures { λ x. ⌜ x ≡ waysIn (now (table .entry)) here place count ⌝ }
+    ensures { λ x. ⌜ x ≡ waysIn (now (table .entry)) here context count ⌝ }
 {
     let mut ways = no_ways();
     let mut r: usize = 0;
     while r < count {
-        ways = ways_turn(ways, here, table, r, place);
+        ways = ways_turn(ways, here, table, r, context);
         r += 1;
     }
     ways

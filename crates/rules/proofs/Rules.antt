@@ -2,7 +2,7 @@
 use Prim.Native.Nat.{ℕ, _<_}
 use mathlib.Core.Path.{_≡_, refl}
 use mathlib.Core.Logic.{_↔_}
-use mathlib.Core.Bool.{Bool, true, false}
+use mathlib.Core.Bool.{Bool, true, false, cond}
 use mathlib.Core.List.{List, _∷_}
 use native.Mathlib.Omega.{arith}
 use lib.Dec.{eqb, lit<}
@@ -11,7 +11,6 @@ use Rattle.numbers.specs.declared.NumberRead.{NumberRead}
 use Rattle.numbers.specs.declared.NumberRead.the-variants.{Number}
 use Rattle.numbers.specs.declared.FieldRead.{FieldRead}
 use Rattle.numbers.specs.declared.FieldRead.the-variants.{Field, Refused as FieldRefused}
-use Rattle.numbers.specs.believed.Number.{pick}
 use Rattle.numbers.specs.believed.Field.{fieldAt}
 use Rattle.numbers.specs.Written.{NumbersAt, none, one}
 use Rattle.numbers.proofs.Fields.{field-read, field-reads}
@@ -94,7 +93,7 @@ module _ (number : ℕ → NumberRead) (nonterminals : ℕ) where
           rw (← e′, ← e) (stand (rw is at i) (stand j (stand k none)), (i .two-below, j .one-below, j .two-below, k .one-below, k .two-below))
 
       go : (name to q : ℕ) → PairIs p names name to q → (t : Bool) → eqb form 1 ≡ t
-          → pick t (Read (Rule.Mark from (record { 0 = name }) to) q) (stepAt number q nonterminals from name to) ≡ Read r next → RuleIs at r next
+          → cond t (Read (Rule.Mark from (record { 0 = name }) to) q) (stepAt number q nonterminals from name to) ≡ Read r next → RuleIs at r next
       go name to q j true t s = mark name to q j (eqb-true form 1 t) s
       go name to q j false t s =
           let f = after-read (pairAt number q names 7 nonterminals) _ s in
@@ -108,7 +107,7 @@ module _ (number : ℕ → NumberRead) (nonterminals : ℕ) where
       go (f .0) (f .1) (f .2) (pair-read at forms 5 (f .0) (f .1) (f .2) (f .3)) (eqb (f .0) 0) refl (f .4)
     where
       go : (form from p : ℕ) → PairIs at forms form from p → (t : Bool) → eqb form 0 ≡ t
-          → pick t (Read (Rule.Empty from) p) (bodyAt number p nonterminals form from) ≡ Read r next → RuleIs at r next
+          → cond t (Read (Rule.Empty from) p) (bodyAt number p nonterminals form from) ≡ Read r next → RuleIs at r next
       go form from p i true t s =
           let e : Rule.Empty from ≡ r = cc in
           let e′ : p ≡ next = cc in

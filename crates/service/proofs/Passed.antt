@@ -2,7 +2,7 @@
 use Prim.Native.Nat.{ℕ, zero, suc, _+_, _-_, _/_, _<_, _≤_}
 use native.Mathlib.Omega.{arith}
 use mathlib.Core.Path.{_≡_, refl, sym, _∙_, ap}
-use mathlib.Core.Bool.{Bool, true, false}
+use mathlib.Core.Bool.{Bool, true, false, cond}
 use mathlib.Core.List.{List, [], _∷_, List·Memᴰ, List·Memᴰ·head, List·Memᴰ·tail}
 use borrow.Author.Tests.{eqb-true, eqb-false}
 use lib.Dec.{eqb}
@@ -14,7 +14,6 @@ use Rattle.vpg.specs.declared.CloseName.{CloseName}
 use Rattle.vpg.specs.declared.Token.{Token}
 use Rattle.vpg.specs.believed.Grammar.{Grammar}
 use Rattle.level_theory.specs.Pending.{Closes, rest, pendingOver, pending, pendingAt}
-use Rattle.numbers.specs.believed.Number.{pick}
 use Rattle.grammar_file.specs.believed.GrammarFile.{grammarOf, GrammarFile}
 use Rattle.grammar_file.specs.believed.GrammarFile as grammar-file
 use Rattle.grammar_file.proofs.Accepted.{grammar-wellformed}
@@ -48,7 +47,7 @@ unfolding tokenOf tokenWith
 shape t h = go (eqb (kind t) 0) refl (eqb (kind t) 1) refl
   where
     go : (x : Bool) → eqb (kind t) 0 ≡ x → (y : Bool) → eqb (kind t) 1 ≡ y →
-        Shape t (pick x (Token.Mark (record { 0 = t / 4 })) (pick y (Token.Open (record { 0 = t / 4 })) (Token.Close (record { 0 = t / 4 }))))
+        Shape t (cond x (Token.Mark (record { 0 = t / 4 })) (cond y (Token.Open (record { 0 = t / 4 })) (Token.Close (record { 0 = t / 4 }))))
     go true p y q = is-mark (eqb-true _ _ p)
     go false p true q = is-open (eqb-true _ _ q)
     go false p false q = let a = eqb-false (kind t) 0 p in let b = eqb-false (kind t) 1 q in is-close (omega arith)

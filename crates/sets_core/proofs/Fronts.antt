@@ -25,7 +25,7 @@ use Rattle.level_theory.proofs.Kept.{front-kept, front-start, front-next}
 use Rattle.tables.specs.Table.{ruleIn, rulesIn}
 use Rattle.tables.specs.Ready.{grammarIn}
 use Rattle.tables.proofs.Tables.{length-rules, rules-at, rules-below}
-use Rattle.contexts.specs.declared.Place.{Place}
+use Rattle.contexts.specs.declared.Context.{Context}
 use Rattle.history_file.specs.believed.HistoryFile.{tokenOf, tokensOf}
 use Rattle.levels.specs.Levels.{Stands, Setting}
 use Rattle.levels.proofs.Levels.{tokens-at}
@@ -81,24 +81,24 @@ module _ {t : List ℕ} {n : ℕ} {ts m mask : List ℕ} (x : Setting t n ts m m
 
   -- ── the row of a position ──
 
-  keeps-same : (here p : ℕ) (place : Place) → Stands W mask p place → keepsAt here place ≡ keepsHere t n W here p
-  keeps-same here p place s = fun-ext (λ R. ap (λ (b : Bool). bit here (left R) && b) (s G (λ k a b. x .leveled k (omega arith) b) R))
+  keeps-same : (here p : ℕ) (context : Context) → Stands W mask p context → keepsAt here context ≡ keepsHere t n W here p
+  keeps-same here p context s = fun-ext (λ R. ap (λ (b : Bool). bit here (left R) && b) (s G (λ k a b. x .leveled k (omega arith) b) R))
 
-  pub ways-of : (here p : ℕ) (place : Place) (r : Ways) → Stands W mask p place → r ≡ waysIn t here place n → WaysOf t n W here p r
-  ways-of here p place r s e =
-      let same = keeps-same here p place s in
+  pub ways-of : (here p : ℕ) (context : Context) (r : Ways) → Stands W mask p context → r ≡ waysIn t here context n → WaysOf t n W here p r
+  ways-of here p context r s e =
+      let same = keeps-same here p context s in
       rw e (record {
-        held = held-count t here place n ∙ ap (λ (k : Rule → Bool). count n (λ q. k (ruleIn t q))) same;
-        next = λ K. next-going t here place K n ∙ ap (λ (k : Rule → Bool). going k G K) same;
-        behind = λ K. behind-returning t here place K n ∙ ap (λ (k : Rule → Bool). returning k G K) same;
+        held = held-count t here context n ∙ ap (λ (k : Rule → Bool). count n (λ q. k (ruleIn t q))) same;
+        next = λ K. next-going t here context K n ∙ ap (λ (k : Rule → Bool). going k G K) same;
+        behind = λ K. behind-returning t here context K n ∙ ap (λ (k : Rule → Bool). returning k G K) same;
       })
 
-  pub words-of : (here p : ℕ) (place : Place) (ws : List ℕ) → Stands W mask p place → ws ≡ wordsIn t here place n → WordsOf t n W here p ws
-  words-of here p place ws s e =
-      let same = keeps-same here p place s in
+  pub words-of : (here p : ℕ) (context : Context) (ws : List ℕ) → Stands W mask p context → ws ≡ wordsIn t here context n → WordsOf t n W here p ws
+  words-of here p context ws s e =
+      let same = keeps-same here p context s in
       rw e (record {
-        long = words-held t here place n (x .ready .few) .0;
-        words = subst (λ (k : Rule → Bool). Held 32 n (λ q. k (ruleIn t q)) (wordsIn t here place n)) same (words-held t here place n (x .ready .few) .1);
+        long = words-held t here context n (x .ready .few) .0;
+        words = subst (λ (k : Rule → Bool). Held 32 n (λ q. k (ruleIn t q)) (wordsIn t here context n)) same (words-held t here context n (x .ready .few) .1);
       })
 
   -- ── the nonterminals that can stand ──

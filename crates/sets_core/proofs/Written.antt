@@ -47,11 +47,11 @@ module _ (g : Grammar) (w : List Token) (old : List ℕ) where
       let i : take (4 * p) words ≡ a = ap (take (4 * p)) e ∙ take-at a (drop (4 * p) old) (4 * p) la in
       let k : drop (4 * p + 4) words ≡ drop (4 * p + 4) old = sym (drop-drop 4 (4 * p) words) ∙ ap (drop 4) (ap (drop (4 * p)) e ∙ drop-at a (drop (4 * p) old) (4 * p) la) ∙ drop-drop 4 (4 * p) old in
       let l : 4 * (p + 1) ≡ 4 * p + 4 = omega arith in
-      let s : listed 4 (λ i. wordAt (4 * p + i)) ≡ b = listed-same 4 (λ i. wordAt (4 * p + i)) (setWord g w p) place in
+      let s : listed 4 (λ i. wordAt (4 * p + i)) ≡ b = listed-same 4 (λ i. wordAt (4 * p + i)) (setWord g w p) context in
       rw (post-is (4 * p) (4 * p + 4) words (omega arith), i, q, k, l, listed-add (4 * p) 4 wordAt, s) (sym (append-assoc a b (drop (4 * p + 4) old)))
     where
-      place : (i : ℕ) → i < 4 → wordAt (4 * p + i) ≡ setWord g w p i
-      place i h =
+      context : (i : ℕ) → i < 4 → wordAt (4 * p + i) ≡ setWord g w p i
+      context i h =
           let d : (4 * p + i) / 4 ≡ p = omega arith in
           let r : (4 * p + i) % 4 ≡ i = omega arith in
           rw (d, r)

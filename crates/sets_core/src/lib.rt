@@ -40,8 +40,8 @@ fn row_of(
     requires { ⌜ (p ≤ length (now w)) × (length (now words) ≡ 4) ⌝ }
     ensures { λ r. ⌜ WaysOf (now (table .entry)) count (tokensOf (now (w .entry))) here p r × WordsOf (now (table .entry)) count (tokensOf (now (w .entry))) here p (now (words .exit)) ⌝ }
 {
-    let place = levels::place_at(w, m, mask, p);
-    rule_set::row_at(table, count, here, place, words)
+    let context = levels::context_at(w, m, mask, p);
+    rule_set::row_at(table, count, here, context, words)
 }
 
 // The ways on from position p, where the nonterminals `here` can stand.
@@ -58,7 +58,7 @@ fn ways_of(
     requires { ⌜ p ≤ length (now w) ⌝ }
     ensures { λ r. ⌜ WaysOf (now (table .entry)) count (tokensOf (now (w .entry))) here p r ⌝ }
 {
-    rule_set::ways_at(table, count, here, levels::place_at(w, m, mask, p))
+    rule_set::ways_at(table, count, here, levels::context_at(w, m, mask, p))
 }
 
 // Stores the nonterminals that can stand behind the close at position j, and answers those that can stand at the next position.

@@ -9,12 +9,14 @@ use mathlib.Core.List.{List, [], _∷_, List·Memᴰ, List·Memᴰ·head, List·
 use mathlib.Core.Option.{some, Option·none-ne-some, Option·some-injective}
 use borrow.Author.Tests.{eqb-true, eq-eqb, ltb-true, lt-ltb}
 use lib.ListN.{length, take, getD, getElem?}
+use Rattle.laws.specs.Distinct.{Distinct}
 use Rattle.vpg.specs.declared.Token.{Token}
 use Rattle.vpg.specs.believed.Grammar.{Rules, Grammar, Tree, code, Derives, by-empty, by-mark, by-step, Reading}
-use Rattle.sets_theory.specs.Counted.{Distinct, Counted}
+use Rattle.sets_theory.specs.Counted.{Counted}
 use Rattle.vpg.specs.Runs.{entries}
 use Rattle.sets_theory.specs.believed.Sets.{Kept, standsAt, standsIn, kept, one, count, doubtful, doubtfulCount, marked, stopMark, listed, stopMarks}
-use Rattle.laws.proofs.Basics.{or-cases, at-cases, at-below}
+use Rattle.laws.proofs.Bools.{or-cases}
+use Rattle.laws.proofs.Lists.{at-cases, at-below}
 use Rattle.vpg.proofs.Entries.{reading-length}
 use Rattle.vpg.proofs.Sound.{entries-readings}
 

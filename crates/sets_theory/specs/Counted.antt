@@ -4,11 +4,7 @@ use mathlib.Core.Path.{_≡_}
 use mathlib.Core.Logic.{_↔_}
 use mathlib.Core.List.{List, [], _∷_, List·Memᴰ}
 use lib.ListN.{length}
-
--- no number stands twice
-abbrev pub Distinct : List ℕ → Type 0
-Distinct [] = Unit
-Distinct (n ∷ l) = (List·Memᴰ n l → ⊥) × Distinct l
+use Rattle.laws.specs.Distinct.{Distinct}
 
 -- there are k numbers with the property P: a list of them, each once
 pub record Counted (P : ℕ → Type 0) (k : ℕ) : Type 0 where

@@ -2,7 +2,7 @@
 use Prim.Native.Nat.{ℕ, zero, suc, _+_, _*_, _<_, _≤_}
 use mathlib.Core.Path.{_≡_, refl, sym, ap, _∙_}
 use mathlib.Core.Logic.{⊎-elim}
-use mathlib.Core.Bool.{Bool, true, false}
+use mathlib.Core.Bool.{Bool, true, false, cond}
 use mathlib.Core.List.{List, [], _∷_, _++_}
 use mathlib.Core.Option.{some}
 use native.Mathlib.Omega.{arith}
@@ -14,10 +14,10 @@ use lib.ListN.{length, getD, getElem?, set, replicate, length-set, length-append
 use lib.Seq.{getD-set-same, getD-set-other, ext-getD}
 use Rattle.vpg.specs.declared.Rule.{Rule}
 use Rattle.vpg.specs.Steps.{left}
-use Rattle.laws.proofs.Basics.{at-left, at-below}
+use Rattle.laws.proofs.Lists.{at-left, at-below}
 use Rattle.tables.specs.declared.Six.{Six}
 use Rattle.tables.specs.Ready.{Below}
-use Rattle.tables.specs.Table.{sixOf, sixIn, either, ruleFrom, ruleIn, rulesIn, putSix, fill, tableOf}
+use Rattle.tables.specs.Table.{sixOf, sixIn, ruleFrom, ruleIn, rulesIn, putSix, fill, tableOf}
 
 -- what stands before the place of a store, and what stands at it
 low : (l : List ℕ) (i j a : ℕ) → j < i → getD (set l i a) j 0 ≡ getD l j 0
@@ -77,7 +77,7 @@ from-of (Rule.Step l a l1 b l2) = refl
 left-from : (v : Six) → left (ruleFrom v) ≡ v .1
 left-from v = go (eqb (v .0) 0) (eqb (v .0) 1)
   where
-    go : (empty mark : Bool) → left (either empty (Rule.Empty (v .1)) (either mark (Rule.Mark (v .1) (record { 0 = v .2 }) (v .3)) (Rule.Step (v .1) (record { 0 = v .2 }) (v .3) (record { 0 = v .4 }) (v .5)))) ≡ v .1
+    go : (empty mark : Bool) → left (cond empty (Rule.Empty (v .1)) (cond mark (Rule.Mark (v .1) (record { 0 = v .2 }) (v .3)) (Rule.Step (v .1) (record { 0 = v .2 }) (v .3) (record { 0 = v .4 }) (v .5)))) ≡ v .1
     go true mark = refl
     go false true = refl
     go false false = refl

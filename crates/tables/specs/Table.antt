@@ -1,7 +1,7 @@
 -- A table of numbers, six to a rule: the form, the fields in file order, and zeros.
 use Prim.Native.Nat.{ℕ, zero, suc, _+_, _*_}
 use mathlib.Core.List.{List, [], _∷_, _++_}
-use mathlib.Core.Bool.{Bool, true, false, _&&_, _||_}
+use mathlib.Core.Bool.{Bool, true, false, cond, _&&_, _||_}
 use lib.ListN.{getD, set, replicate}
 use lib.Dec.{eqb}
 use Rattle.vpg.specs.declared.Rule.{Rule}
@@ -12,15 +12,11 @@ sixOf (Rule.Empty l) = record { 0 = 0; 1 = l; 2 = 0; 3 = 0; 4 = 0; 5 = 0 }
 sixOf (Rule.Mark l c l1) = record { 0 = 1; 1 = l; 2 = c .0; 3 = l1; 4 = 0; 5 = 0 }
 sixOf (Rule.Step l a l1 b l2) = record { 0 = 2; 1 = l; 2 = a .0; 3 = l1; 4 = b .0; 5 = l2 }
 
-abbrev pub either : Bool → Rule → Rule → Rule
-either true r x = r
-either false r x = x
-
 abbrev pub ruleFrom : Six → Rule
 ruleFrom v =
-    either (eqb (v .0) 0)
+    cond (eqb (v .0) 0)
     (Rule.Empty (v .1))
-    (either (eqb (v .0) 1)
+    (cond (eqb (v .0) 1)
     (Rule.Mark (v .1) (record { 0 = v .2 }) (v .3))
     (Rule.Step (v .1) (record { 0 = v .2 }) (v .3) (record { 0 = v .4 }) (v .5)))
 

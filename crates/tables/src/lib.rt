@@ -9,6 +9,16 @@ ghost use Prim.Native.Nat.{_*_, _≤_, _<_};
 ghost use Rattle.vpg.specs.Steps.{left};
 ghost use Rattle.tables.specs.Table.{sixOf, ruleFrom, sixIn, ruleIn, rulesIn, putSix, sameRule, earlier};
 
+// The rules of a grammar, six numbers to each; at most 128.
+pub type Table = [u16; 768];
+
+// What a grammar file says before its rules: how many nonterminals there are, the start, and how many rules.
+pub struct Head {
+    pub nonterminals: u16,
+    pub start: u16,
+    pub rules: usize,
+}
+
 // A rule as six numbers: the form, the fields in file order, and zeros.
 pub struct Six(pub u16, pub u16, pub u16, pub u16, pub u16, pub u16);
 
@@ -35,7 +45,7 @@ fn rule_from(v: Six) -> Rule
 }
 
 // The six numbers of rule k, for loops over the rules: most rules are passed over by a number or two.
-pub fn six_in(table: &[u16; 768], k: usize) -> Six
+pub fn six_in(table: &Table, k: usize) -> Six
     requires { ⌜ k < 128 ⌝ }
     ensures { λ r. ⌜ r ≡ sixIn (now (table .entry)) (k * 6) ⌝ }
 {
@@ -51,7 +61,7 @@ pub fn six_in(table: &[u16; 768], k: usize) -> Six
 }
 
 // The rule of number k.
-pub fn rule_of(table: &[u16; 768], k: usize) -> Rule
+pub fn rule_of(table: &Table, k: usize) -> Rule
     requires { ⌜ k < 128 ⌝ }
     ensures { λ r. ⌜ r ≡ ruleIn (now (table .entry)) k ⌝ }
 {
@@ -59,7 +69,7 @@ pub fn rule_of(table: &[u16; 768], k: usize) -> Rule
 }
 
 // The nonterminal that the rule of number k is for: it is known before the rule is taken apart.
-pub fn left_in(table: &[u16; 768], k: usize) -> u16
+pub fn left_in(table: &Table, k: usize) -> u16
     requires { ⌜ k < 128 ⌝ }
     ensures { λ r. ⌜ r ≡ left (ruleIn (now (table .entry)) k) ⌝ }
 {
@@ -67,7 +77,7 @@ pub fn left_in(table: &[u16; 768], k: usize) -> u16
 }
 
 // Writes the rule of number k.
-pub fn put(table: &mut [u16; 768], k: usize, v: Six)
+pub fn put(table: &mut Table, k: usize, v: Six)
     requires { ⌜ k < 128 ⌝ }
     ensures { λ _. ⌜ now (table .exit) ≡ putSix (now (table .entry)) k v ⌝ }
 {
@@ -103,7 +113,7 @@ fn same_rule(r: Rule, x: Rule) -> bool
 }
 
 // Whether the rule, which is for l, is that of number j: most rules differ in l already.
-fn same_at(table: &[u16; 768], j: usize, l: u16, rule: Rule) -> bool
+fn same_at(table: &Table, j: usize, l: u16, rule: Rule) -> bool
     requires { ⌜ (j < 128) × (l ≡ left rule) ⌝ }
     ensures { λ b. ⌜ b ≡ sameRule rule (ruleIn (now (table .entry)) j) ⌝ }
 {
@@ -114,7 +124,7 @@ fn same_at(table: &[u16; 768], j: usize, l: u16, rule: Rule) -> bool
 }
 
 // Whether the rule is one of the first n.
-pub fn seen(table: &[u16; 768], n: usize, rule: Rule) -> bool
+pub fn seen(table: &Table, n: usize, rule: Rule) -> bool
     requires { ⌜ n ≤ 128 ⌝ }
     ensures { λ r. ⌜ r ≡ earlier rule (rulesIn (now (table .entry)) n) ⌝ }
 {

@@ -1,8 +1,8 @@
 // Sets and doubtful count, compared with what the enumerator's list has at each position.
 use crate::entries::Entries;
-use test_enumerator::at;
 use sets::CountAnswer;
 use sets::SetsAnswer;
+use test_enumerator::at;
 ghost use Prim.Native.Nat.{_≤_, _<_};
 
 // What the words that are lent hold before a call.

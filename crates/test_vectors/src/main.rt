@@ -11,9 +11,9 @@ mod refused;
 mod shown;
 
 use entries::Entries;
+use shown::tell;
 use test_packed::part;
 use test_packed::two;
-use shown::tell;
 ghost use Prim.Native.Nat.{_≤_};
 ghost use lib.ListN.{length};
 

@@ -5,7 +5,7 @@ use mathlib.Core.Path.{_≡_, refl, sym, _∙_, ap₂}
 use mathlib.Core.Logic.{_⊎_, inl, inr, _↔_}
 use mathlib.Core.List.{List, [], _∷_, List·Memᴰ, List·Memᴰ·head, List·Memᴰ·tail, List·Memᴰ·not-nil, List·Memᴰ·cases-cons, Memᴰ·cast}
 use Rattle.vpg.specs.believed.Order.{Before, Ascending}
-use Rattle.laws.proofs.Basics.{trichotomy}
+use Rattle.laws.proofs.Lists.{trichotomy}
 
 pub before-irreflexive : (e : List ℕ) → Before e e → ⊥
 before-irreflexive [] h = h

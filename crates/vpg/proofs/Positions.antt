@@ -14,7 +14,7 @@ use Rattle.vpg.specs.declared.Rule.{Rule}
 use Rattle.vpg.specs.declared.Token.{Token}
 use Rattle.vpg.specs.believed.Grammar.{Rules, Tree, code, Derives, by-empty, by-mark, by-step}
 use Rattle.vpg.specs.Positions.{final, MarkAt, StepAt}
-use Rattle.laws.proofs.Basics.{at-left, at-right, at-cases, drop-left}
+use Rattle.laws.proofs.Lists.{at-left, at-right, at-cases, drop-left}
 use Rattle.vpg.proofs.Entries.{code-length}
 
 -- ── what stands at a position, moved into a longer list ──

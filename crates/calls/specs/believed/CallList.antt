@@ -1,10 +1,10 @@
 -- A list of calls as the listing model goes through it (document 01, "The plain listing").
 use Prim.Native.Nat.{ℕ}
+use mathlib.Core.Bool.{cond}
 use mathlib.Core.List.{List, [], _∷_, _++_, map}
 use lib.Dec.{eqb, ltb}
 use lib.ListN.{length, drop}
 use Rattle.listing_model.specs.believed.Listing.{Call, first, next, Answer, written, no-reading, no-further, refused, Subject, start, model, shows, trace}
-use Rattle.numbers.specs.believed.Number.{pick}
 use Rattle.calls.specs.declared.CallsAnswer.{CallsAnswer}
 
 -- an answer as a number; refusals are 1 to 16
@@ -15,7 +15,7 @@ codeOf no-further = 101
 codeOf (refused k) = k
 
 abbrev pub callOf : ℕ → Call
-callOf kind = pick (eqb kind 0) first next
+callOf kind = cond (eqb kind 0) first next
 
 abbrev pub callsOf : List ℕ → List Call
 callsOf kinds = map callOf kinds
@@ -48,5 +48,5 @@ callsSaid (CallsAnswer.Refused k) = refused-by k
 -- all calls made, by the model; or nothing done where the answers have no room (15)
 abbrev pub callsDue : Subject → List ℕ → List ℕ → List ℕ → Outcome × List ℕ × List ℕ
 callsDue x kinds answers buf =
-    pick (ltb (length answers) (length kinds)) (refused-by 15, answers, buf)
+    cond (ltb (length answers) (length kinds)) (refused-by 15, answers, buf)
     (made, modelAnswers x (callsOf kinds) buf ++ drop (length kinds) answers, modelBuffer x (callsOf kinds) buf)

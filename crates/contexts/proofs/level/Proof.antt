@@ -4,15 +4,15 @@ use Prim.Native.Nat.{_-_, _≤_}
 use mathlib.Core.Path.{_≡_, refl}
 use native.Mathlib.Numerals.{add-one}
 use native.Mathlib.Omega.{arith}
-use Rattle.contexts.specs.Place.{levelIn}
+use Rattle.contexts.specs.Context.{levelIn}
 use Rattle.contexts.proofs.level.Statement.{statement}
 use Rattle.contexts.proofs.level.Tie as tie
 
 abbrev Inv-loop : tie.InvT-loop
-Inv-loop table count place set₀ r₀ set r = (r ≤ count) × (set ≡ levelIn table place r)
+Inv-loop table context count set₀ r₀ set r = (r ≤ count) × (set ≡ levelIn table context r)
 
 abbrev μ-loop : tie.MeasureT-loop
-μ-loop table count place set₀ r₀ set r = count - r
+μ-loop table context count set₀ r₀ set r = count - r
 
 loop-holds : tie.Need-loop-holds Inv-loop μ-loop
 unfolding levelIn
@@ -36,7 +36,7 @@ loop-again c =
     (omega arith, rw (add-one, c .with-left .ensures, l .loop .inv .1))
 
 returns : tie.Need-returns Inv-loop μ-loop
-returns c = let e : c .before .loop .r ≡ c .before .before .args .count = omega arith in rw (c .before .loop .inv .1, e)
+returns c = let e : c .before .loop .r ≡ c .before .before .args .head .rules = omega arith in rw (c .before .loop .inv .1, e)
 
 pub level-spec : {M : Type 1} → statement M
 level-spec =

@@ -21,8 +21,8 @@ loop-holds c =
     let a = s .args in
     going-start (s .pre .0) (a .l0) (a .from) (a .behind) (a .out .now) (s .pre .1 .0 .1) (s .pre .1 .0 .0) (search needs) (s .pre .1 .1)
 
-place-at-requires : tie.Need-place-at-requires Inv-loop μ-loop
-place-at-requires c κs =
+context-at-requires : tie.Need-context-at-requires Inv-loop μ-loop
+context-at-requires c κs =
     let l = c .before in
     let s = l .before .before .before in
     (s .pre .0 .tokens, (omega arith, s .pre .0 .matched))
@@ -36,14 +36,14 @@ six-in-requires c κs =
     let l = c .before .before .before in
     let s = l .before .before .before in
     let a = s .args in
-    omega (arith, s .pre .0 .ready .few, found-rule (s .pre .0) (a .l0) (a .from) (a .behind) (a .out .now) (s .pre .1 .0 .1) (l .loop .inv) (c .before .place-at .result) (c .before .place-at .ensures) (c .smallest .result) (c .smallest .ensures))
+    omega (arith, s .pre .0 .ready .few, found-rule (s .pre .0) (a .l0) (a .from) (a .behind) (a .out .now) (s .pre .1 .0 .1) (l .loop .inv) (c .before .context-at .result) (c .before .context-at .ensures) (c .smallest .result) (c .smallest .ensures))
 
 cast-out : tie.Need-cast-out Inv-loop μ-loop
 cast-out c =
     let l = c .before .before .before .before in
     let s = l .before .before .before in
     let a = s .args in
-    omega (arith, s .pre .0 .ready .few, found-rule (s .pre .0) (a .l0) (a .from) (a .behind) (a .out .now) (s .pre .1 .0 .1) (l .loop .inv) (c .before .before .place-at .result) (c .before .before .place-at .ensures) (c .before .smallest .result) (c .before .smallest .ensures))
+    omega (arith, s .pre .0 .ready .few, found-rule (s .pre .0) (a .l0) (a .from) (a .behind) (a .out .now) (s .pre .1 .0 .1) (l .loop .inv) (c .before .before .context-at .result) (c .before .before .context-at .ensures) (c .before .smallest .result) (c .before .smallest .ensures))
 
 slice-write-out : tie.Need-slice-write-out Inv-loop μ-loop
 slice-write-out c = search needs
@@ -88,13 +88,13 @@ loop-again c =
     let s = l .before .before .before in
     let a = s .args in
     let k = l .loop .inv in
-    let place = c .before .before .before .before .before .before .place-at in
+    let context = c .before .before .before .before .before .before .context-at in
     let r = c .before .before .before .before .before .smallest in
     rw (c .store-later .ensures, c .before .before .inner-of .ensures, c .before .before .before .before .six-in .ensures)
-    (going-next (s .pre .0) (a .l0) (a .from) (a .behind) (a .out .now) (s .pre .1 .0 .1) k (place .result) (place .ensures) (r .result) (r .ensures) (c .before .before .before .before .before .before .before .loop-test .taken))
+    (going-next (s .pre .0) (a .l0) (a .from) (a .behind) (a .out .now) (s .pre .1 .0 .1) k (context .result) (context .ensures) (r .result) (r .ensures) (c .before .before .before .before .before .before .before .loop-test .taken))
 
-place-at-requires-2 : tie.Need-place-at-requires-2 Inv-loop μ-loop
-place-at-requires-2 c κs =
+context-at-requires-2 : tie.Need-context-at-requires-2 Inv-loop μ-loop
+context-at-requires-2 c κs =
     let l = c .before in
     let s = l .before .before .before in
     (s .pre .0 .tokens, (omega arith, s .pre .0 .matched))
@@ -108,7 +108,7 @@ cast-out-2 c =
     let l = c .before .before .before in
     let s = l .before .before .before in
     let a = s .args in
-    omega (arith, s .pre .0 .ready .few, found-rule (s .pre .0) (a .l0) (a .from) (a .behind) (a .out .now) (s .pre .1 .0 .1) (l .loop .inv) (c .before .place-at2 .result) (c .before .place-at2 .ensures) (c .smallest2 .result) (c .smallest2 .ensures))
+    omega (arith, s .pre .0 .ready .few, found-rule (s .pre .0) (a .l0) (a .from) (a .behind) (a .out .now) (s .pre .1 .0 .1) (l .loop .inv) (c .before .context-at2 .result) (c .before .context-at2 .ensures) (c .smallest2 .result) (c .smallest2 .ensures))
 
 slice-write-out-2 : tie.Need-slice-write-out-2 Inv-loop μ-loop
 slice-write-out-2 c = search needs
@@ -121,7 +121,7 @@ returns c =
     let l = c .before .before .before in
     let s = l .before .before .before in
     let a = s .args in
-    going-end (s .pre .0) (a .l0) (a .from) (a .behind) (a .out .now) (s .pre .1 .0 .1) (l .loop .inv) (c .before .place-at2 .result) (c .before .place-at2 .ensures) (c .smallest2 .result) (c .smallest2 .ensures) (omega arith)
+    going-end (s .pre .0) (a .l0) (a .from) (a .behind) (a .out .now) (s .pre .1 .0 .1) (l .loop .inv) (c .before .context-at2 .result) (c .before .context-at2 .ensures) (c .smallest2 .result) (c .smallest2 .ensures) (omega arith)
 
 pub fill-spec : {M : Type 1} → statement M
 fill-spec =
@@ -130,7 +130,7 @@ fill-spec =
     Inv-loop
     μ-loop
     loop-holds
-    place-at-requires
+    context-at-requires
     smallest-requires
     six-in-requires
     cast-out
@@ -144,7 +144,7 @@ fill-spec =
     add-p
     loop-less
     loop-again
-    place-at-requires-2
+    context-at-requires-2
     smallest-requires-2
     cast-out-2
     slice-write-out-2

@@ -1,18 +1,17 @@
 -- `first_run::inner_of`: the rules of forms 1 and 2 lead to the nonterminal that is their fourth number.
 use Prim.Native.Nat.{ℕ}
 use mathlib.Core.Path.{_≡_, refl, sym}
-use mathlib.Core.Bool.{Bool, true, false}
+use mathlib.Core.Bool.{Bool, true, false, cond}
 use borrow.Author.Tests.{eq-eqb, ne-eqb}
 use lib.Dec.{eqb}
 use Rattle.vpg.specs.declared.Rule.{Rule}
 use Rattle.level_theory.specs.Walk.{inner}
 use Rattle.tables.specs.declared.Six.{Six}
-use Rattle.tables.specs.Table.{either}
 use Rattle.first_run.proofs.inner_of.Statement.{statement}
 use Rattle.first_run.proofs.inner_of.Tie as tie
 
 inner-step : (mark : Bool) (v : Six) (d : ℕ)
-    → inner (either mark (Rule.Mark (v .1) (record { 0 = v .2 }) (v .3)) (Rule.Step (v .1) (record { 0 = v .2 }) (v .3) (record { 0 = v .4 }) (v .5))) d ≡ v .3
+    → inner (cond mark (Rule.Mark (v .1) (record { 0 = v .2 }) (v .3)) (Rule.Step (v .1) (record { 0 = v .2 }) (v .3) (record { 0 = v .4 }) (v .5))) d ≡ v .3
 inner-step true v d = refl
 inner-step false v d = refl
 

@@ -11,10 +11,10 @@ use Rattle.first_run.proofs.smallest.Statement.{statement}
 use Rattle.first_run.proofs.smallest.Tie as tie
 
 abbrev Inv-loop : tie.InvT-loop
-Inv-loop table count l place r₀ r = (r ≤ count) × ((q : ℕ) → q < r → ruleFits (ruleIn table q) l place ≡ false)
+Inv-loop table count l context r₀ r = (r ≤ count) × ((q : ℕ) → q < r → ruleFits (ruleIn table q) l context ≡ false)
 
 abbrev μ-loop : tie.MeasureT-loop
-μ-loop table count l place r₀ r = count - r
+μ-loop table count l context r₀ r = count - r
 
 loop-holds : tie.Need-loop-holds Inv-loop μ-loop
 loop-holds c = (omega arith, λ q h. absurd (omega arith))

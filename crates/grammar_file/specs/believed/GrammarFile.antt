@@ -1,9 +1,10 @@
 -- What a grammar file says, or the first fault met in file order (document 01, "The two files" and refusals 1 to 9).
 use Prim.Native.Nat.{ℕ, zero, suc}
+use mathlib.Core.Bool.{cond}
 use mathlib.Core.List.{List, [], _∷_, _++_}
 use Rattle.numbers.specs.declared.FieldRead.{FieldRead}
 use Rattle.numbers.specs.declared.FieldRead.the-variants.{Field, Refused as FieldRefused}
-use Rattle.numbers.specs.believed.Number.{pick, Source, bytes}
+use Rattle.numbers.specs.believed.Number.{Source, bytes}
 use Rattle.numbers.specs.believed.Field.{countAt}
 use Rattle.rules.specs.declared.RuleRead.{RuleRead}
 use Rattle.rules.specs.declared.RuleRead.the-variants.{Read, Refused as RuleRefused}
@@ -26,10 +27,10 @@ afterRule (RuleRefused e) rest = refused e
 -- "8 after a rule's last field"; 9: "bytes follow the last rule"
 unfoldable pub rulesFrom : Source → ℕ → ℕ → ℕ → ℕ → List Rule → GrammarFile
 rulesFrom x nonterminals start zero at rules =
-    pick (x .more at) (refused 9) (accepted (record { nonterminals = nonterminals; start = start; rules = rules }))
+    cond (x .more at) (refused 9) (accepted (record { nonterminals = nonterminals; start = start; rules = rules }))
 rulesFrom x nonterminals start (suc due) at rules =
     afterRule (ruleAt (x .number) at nonterminals) λ r next.
-    pick (earlier r rules) (refused 8) (rulesFrom x nonterminals start due next (rules ++ (r ∷ [])))
+    cond (earlier r rules) (refused 8) (rulesFrom x nonterminals start due next (rules ++ (r ∷ [])))
 
 abbrev pub afterCount : FieldRead → (ℕ → ℕ → GrammarFile) → GrammarFile
 afterCount (Field n next) rest = rest n next

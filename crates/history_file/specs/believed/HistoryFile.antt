@@ -1,13 +1,13 @@
 -- What a history file says, or the first fault met in file order (document 01, "The two files" and refusals 1, 2 and 9 to 14).
 use Prim.Native.Nat.{ℕ, zero, suc, _+_, _-_, _/_, _%_}
-use mathlib.Core.Bool.{_&&_, _||_}
+use mathlib.Core.Bool.{cond, _&&_, _||_}
 use mathlib.Core.List.{List, [], _∷_, _++_, map}
 use lib.Dec.{eqb, ltb, leb}
 use Rattle.numbers.specs.declared.NumberRead.{NumberRead}
 use Rattle.numbers.specs.declared.NumberRead.the-variants.{Number, Refused as NumberRefused}
 use Rattle.numbers.specs.declared.FieldRead.{FieldRead}
 use Rattle.numbers.specs.declared.FieldRead.the-variants.{Field, Refused as FieldRefused}
-use Rattle.numbers.specs.believed.Number.{pick, Source, bytes}
+use Rattle.numbers.specs.believed.Number.{Source, bytes}
 use Rattle.numbers.specs.believed.Field.{fieldAt}
 use Rattle.vpg.specs.declared.Token.{Token}
 use Rattle.history_file.specs.declared.TokenRead.{TokenRead}
@@ -20,8 +20,8 @@ kind t = t % 4
 -- the token of a kind and a name
 unfoldable pub tokenWith : ℕ → ℕ → Token
 tokenWith k name =
-    pick (eqb k 0) (Token.Mark (record { 0 = name }))
-    (pick (eqb k 1) (Token.Open (record { 0 = name })) (Token.Close (record { 0 = name })))
+    cond (eqb k 0) (Token.Mark (record { 0 = name }))
+    (cond (eqb k 1) (Token.Open (record { 0 = name })) (Token.Close (record { 0 = name })))
 
 -- the token of a number, and of each number of a list
 unfoldable pub tokenOf : ℕ → Token
@@ -34,9 +34,9 @@ tokensOf ts = map tokenOf ts
 -- 12: "a close with no step open"; 14: "an open while 128 steps are open"
 unfoldable pub tokenJudged : ℕ → ℕ → ℕ → TokenRead
 tokenJudged t next depth =
-    pick (leb 256 t || eqb (kind t) 3) (TokenRefused 11)
-    (pick (eqb (kind t) 2 && eqb depth 0) (TokenRefused 12)
-    (pick (eqb (kind t) 1 && leb 128 depth) (TokenRefused 14)
+    cond (leb 256 t || eqb (kind t) 3) (TokenRefused 11)
+    (cond (eqb (kind t) 2 && eqb depth 0) (TokenRefused 12)
+    (cond (eqb (kind t) 1 && leb 128 depth) (TokenRefused 14)
     (TokenIs t next)))
 
 -- 1 and 2, for the number itself, go before 11, 12 and 14
@@ -50,7 +50,7 @@ tokenAt number at depth = judged (number at) depth
 
 -- how many steps are open after a token
 unfoldable pub depthAfter : ℕ → ℕ → ℕ
-depthAfter t depth = pick (eqb (kind t) 1) (depth + 1) (pick (eqb (kind t) 2) (depth - 1) depth)
+depthAfter t depth = cond (eqb (kind t) 1) (depth + 1) (cond (eqb (kind t) 2) (depth - 1) depth)
 
 -- the token numbers, or the number of the refusal
 pub data HistoryFile : Type 0 where
@@ -65,7 +65,7 @@ afterToken (TokenRefused e) rest = refused e
 -- the tokens still due, from a place to the end, after those read so far. 13: "a step still open after the last token";
 -- 9: "bytes follow the last .. token"; "13 before 9"
 unfoldable pub tokensFrom : Source → ℕ → ℕ → ℕ → List ℕ → HistoryFile
-tokensFrom x zero at depth ts = pick (ltb 0 depth) (refused 13) (pick (x .more at) (refused 9) (accepted ts))
+tokensFrom x zero at depth ts = cond (ltb 0 depth) (refused 13) (cond (x .more at) (refused 9) (accepted ts))
 tokensFrom x (suc due) at depth ts =
     afterToken (tokenAt (x .number) at depth) λ t next. tokensFrom x due next (depthAfter t depth) (ts ++ (t ∷ []))
 

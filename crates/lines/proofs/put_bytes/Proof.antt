@@ -15,10 +15,10 @@ abbrev one : ℕ → List ℕ
 one b = b ∷ []
 
 abbrev Inv-loop : tie.InvT-loop
-Inv-loop out₀ bytes place₀ i₀ out place i = Laying all out₀ place₀ bytes out place i
+Inv-loop out₀ bytes cursor₀ i₀ out cursor i = Laying all out₀ cursor₀ bytes out cursor i
 
 abbrev μ-loop : tie.MeasureT-loop
-μ-loop out₀ bytes place₀ i₀ out place i = length bytes - i
+μ-loop out₀ bytes cursor₀ i₀ out cursor i = length bytes - i
 
 loop-holds : tie.Need-loop-holds Inv-loop μ-loop
 loop-holds c =

@@ -21,10 +21,10 @@ unfolding readingText
 cons r e = refl
 
 abbrev Inv-loop : tie.InvT-loop
-Inv-loop out₀ reading place₀ i₀ out place i = Laying readingText out₀ place₀ reading out place i
+Inv-loop out₀ reading cursor₀ i₀ out cursor i = Laying readingText out₀ cursor₀ reading out cursor i
 
 abbrev μ-loop : tie.MeasureT-loop
-μ-loop out₀ reading place₀ i₀ out place i = length reading - i
+μ-loop out₀ reading cursor₀ i₀ out cursor i = length reading - i
 
 loop-holds : tie.Need-loop-holds Inv-loop μ-loop
 loop-holds c =

@@ -4,14 +4,14 @@ use mathlib.Core.Bool.{Bool, true, false}
 use mathlib.Core.List.{List, [], _∷_, _++_}
 use lib.Dec.{ltb}
 use lib.ListN.{length, set, take, drop}
-use Rattle.lines.specs.declared.Place.{Place}
+use Rattle.lines.specs.declared.Cursor.{Cursor}
 
 -- a place, and the buffer
 abbrev pub Laid : Type 0
-Laid = Place × List ℕ
+Laid = Cursor × List ℕ
 
 -- one byte: passed over, written, or left out
-abbrev pub putIf : Bool → Bool → Place → List ℕ → ℕ → Laid
+abbrev pub putIf : Bool → Bool → Cursor → List ℕ → ℕ → Laid
 putIf true y p out b = (record { skip = p .skip - 1; at = p .at }, out)
 putIf false true p out b = (record { skip = p .skip; at = p .at + 1 }, set out (p .at) b)
 putIf false false p out b = (p, out)

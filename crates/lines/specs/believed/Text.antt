@@ -1,17 +1,13 @@
 -- The lines of a listing as lists of bytes (document 01, "The listing program").
 use Prim.Native.Nat.{ℕ, zero, suc, _+_, _/_, _%_}
-use mathlib.Core.Bool.{Bool, true, false}
+use mathlib.Core.Bool.{Bool, true, false, cond}
 use mathlib.Core.List.{List, [], _∷_, _++_}
 use lib.Dec.{ltb}
-
-abbrev pub orNothing : Bool → List ℕ → List ℕ
-orNothing true l = []
-orNothing false l = l
 
 -- the decimal digits of a number that has at most k
 abbrev pub decimalBy : ℕ → ℕ → List ℕ
 decimalBy zero n = []
-decimalBy (suc k) n = orNothing (ltb n 10) (decimalBy k (n / 10)) ++ ((48 + n % 10) ∷ [])
+decimalBy (suc k) n = cond (ltb n 10) [] (decimalBy k (n / 10)) ++ ((48 + n % 10) ∷ [])
 
 -- the decimal digits of a number of 64 bits, as ASCII, with no zero in front
 unfoldable pub decimal : ℕ → List ℕ

@@ -9,10 +9,10 @@ use Rattle.listing_text.proofs.list_readings.Statement.{statement}
 use Rattle.listing_text.proofs.list_readings.Tie as tie
 
 abbrev Inv-loop : tie.InvT-loop
-Inv-loop grammar history n reading₀ text₀ place₀ k₀ reading text place k = Turns (entriesOf grammar history) n reading₀ text₀ place₀ reading text place k
+Inv-loop grammar history n reading₀ text₀ cursor₀ k₀ reading text cursor k = Turns (entriesOf grammar history) n reading₀ text₀ cursor₀ reading text cursor k
 
 abbrev μ-loop : tie.MeasureT-loop
-μ-loop grammar history n reading₀ text₀ place₀ k₀ reading text place k = 1000 - k
+μ-loop grammar history n reading₀ text₀ cursor₀ k₀ reading text cursor k = 1000 - k
 
 loop-holds : tie.Need-loop-holds Inv-loop μ-loop
 loop-holds c =

@@ -23,8 +23,8 @@ walk-requires c κs =
     let a = s .args in
     (s .pre .0, ((s .pre .1 .1, s .pre .1 .2), start-fits (grammarIn (a .table .now) (a .count) (a .start)) (tokensOf (a .w .now)) (a .mask .now) (s .pre .0 .leveled) (s .pre .1 .2) (sym (c .before .before .has .ensures) ∙ c .before .if1 .taken)))
 
-last-place-requires : tie.Need-last-place-requires
-last-place-requires c κs =
+last-position-requires : tie.Need-last-position-requires
+last-position-requires c κs =
     let s = c .before .before .before .before .before .before .before .before .before .before .before in
     (s .pre .0, s .pre .1 .1)
 
@@ -40,7 +40,7 @@ returns c =
     let a = s .args in
     let w = c .before .before .before .before .before .before .before in
     let k = rw (c .before .before .before .before .before .before .if2 .taken) at (w .walk .ensures) in
-    no-further-is (s .pre .0) (a .start) (a .buf .now) (s .pre .1 .1) (s .pre .1 .2) k (rw (c .enum-told .given .1) at (c .before .before .last-place .ensures))
+    no-further-is (s .pre .0) (a .start) (a .buf .now) (s .pre .1 .1) (s .pre .1 .2) k (rw (c .enum-told .given .1) at (c .before .before .last-position .ensures))
 
 enum-known-found : tie.Need-enum-known-found
 enum-known-found c = search needs
@@ -51,8 +51,8 @@ rewrite-requires c κs =
     let a = s .args in
     let w = c .before .before .before .before .before .before .before .before .before .before in
     let k = rw (c .before .before .before .before .before .before .before .before .before .if2 .taken) at (w .walk .ensures) in
-    let h = rw (c .before .before .before .found .given .1) at (c .before .before .before .before .before .last-place .ensures) in
-    (s .pre .0, ((omega (arith, h .place, tokens-length (a .w .now)), s .pre .1 .1, h .rule), λ l. rewrite-fits (s .pre .0) (a .start) (a .buf .now) (s .pre .1 .1) (s .pre .1 .2) k _ _ h l))
+    let h = rw (c .before .before .before .found .given .1) at (c .before .before .before .before .before .last-position .ensures) in
+    (s .pre .0, ((omega (arith, h .position, tokens-length (a .w .now)), s .pre .1 .1, h .rule), λ l. rewrite-fits (s .pre .0) (a .start) (a .buf .now) (s .pre .1 .1) (s .pre .1 .2) k _ _ h l))
 
 same-length-2 : tie.Need-same-length-2
 same-length-2 c = search needs
@@ -63,7 +63,7 @@ returns-2 c =
     let a = s .args in
     let w = c .before .before .before .before .before .before .before .before .before .before .before .before .before in
     let k = rw (c .before .before .before .before .before .before .before .before .before .before .before .before .if2 .taken) at (w .walk .ensures) in
-    let h = rw (c .before .before .before .before .before .before .found .given .1) at (c .before .before .before .before .before .before .before .before .last-place .ensures) in
+    let h = rw (c .before .before .before .before .before .before .found .given .1) at (c .before .before .before .before .before .before .before .before .last-position .ensures) in
     written-is (s .pre .0) (a .start) (a .buf .now) (s .pre .1 .1) (s .pre .1 .2) k _ _ h _ (c .before .before .rewrite .ensures)
 
 same-length-3 : tie.Need-same-length-3
@@ -88,7 +88,7 @@ next-spec =
     element-copy-out-has
     has-requires
     walk-requires
-    last-place-requires
+    last-position-requires
     enum-told
     same-length
     returns

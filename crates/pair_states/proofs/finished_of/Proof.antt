@@ -1,12 +1,12 @@
 -- `finished_of`. The invariant: m has those of the first k contexts that pass.
 use Prim.Native.Nat.{_-_, _≤_}
 use native.Mathlib.Omega.{arith}
-use mathlib.Core.Bool.{Bool}
+use mathlib.Core.Bool.{Bool, cond}
 use mathlib.Core.Path.{_≡_, _∙_, ap}
 use borrow.Author.Needs.{needs}
 use lib.ListN.{getD}
 use Rattle.pair_words.proofs.Gathers.{gather-turn}
-use Rattle.pair_words.specs.Row.{pick, gather}
+use Rattle.pair_words.specs.Row.{gather}
 use Rattle.pair_states.specs.Words.{meets}
 use Rattle.bits.specs.Bit.{addBit}
 use Rattle.pair_states.proofs.finished_of.Statement.{statement}
@@ -46,7 +46,7 @@ loop-again c =
     let a = c .before .before .before .before .args in (
       omega arith,
       c .add-if .ensures
-          ∙ ap (λ (b : Bool). pick b (addBit (l .m) (l .k)) (l .m)) (c .before .meet .ensures)
+          ∙ ap (λ (b : Bool). cond b (addBit (l .m) (l .k)) (l .m)) (c .before .meet .ensures)
           ∙ gather-turn (λ i. meets (getD (a .t1) i 0) (a .empties)) (λ i. i) (l .k) (l .m) (l .inv .1),
     )
 

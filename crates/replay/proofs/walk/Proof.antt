@@ -31,8 +31,8 @@ shared-slice-read-r c = search needs
 cast-r : tie.Need-cast-r Inv-loop μ-loop
 cast-r c = omega (arith, c .shared-slice-known3 .given (c .before .before .loop .p))
 
-place-at-requires : tie.Need-place-at-requires Inv-loop μ-loop
-place-at-requires c κs =
+context-at-requires : tie.Need-context-at-requires Inv-loop μ-loop
+context-at-requires c κs =
     let l = c .before .before in
     let s = l .before .before .before in
     (s .pre .0 .tokens, (omega arith, s .pre .0 .matched))
@@ -60,7 +60,7 @@ six-in-requires c κs =
     let l = c .before .before .before .before .before in
     let s = l .before .before .before in
     let a = s .args in
-    omega (arith, s .pre .0 .ready .few, rule-below (s .pre .0) (a .start) (a .buf .now) (s .pre .1 .0 .0) (s .pre .1 .0 .1) (l .loop .inv) (c .before .before .place-at .result) (c .before .before .place-at .ensures) (sym (c .before .stands .ensures) ∙ c .if1 .taken))
+    omega (arith, s .pre .0 .ready .few, rule-below (s .pre .0) (a .start) (a .buf .now) (s .pre .1 .0 .0) (s .pre .1 .0 .1) (l .loop .inv) (c .before .before .context-at .result) (c .before .before .context-at .ensures) (sym (c .before .stands .ensures) ∙ c .if1 .taken))
 
 mul-j : tie.Need-mul-j Inv-loop μ-loop
 mul-j c = search needs
@@ -118,19 +118,19 @@ loop-again c =
     let l = c .before .before .before .before .before .before .before .before .before .before in
     let s = l .before .before .before in
     let a = s .args in
-    let place = c .before .before .before .before .before .before .before .place-at in
+    let context = c .before .before .before .before .before .before .before .context-at in
     rw (c .store-later .ensures, c .before .before .inner-of .ensures, c .before .before .before .before .six-in .ensures)
-    (walking-next (s .pre .0) (a .start) (a .buf .now) (s .pre .1 .0 .0) (s .pre .1 .0 .1) (l .loop .inv) (place .result) (place .ensures) (sym (c .before .before .before .before .before .before .stands .ensures) ∙ c .before .before .before .before .before .if1 .taken) (c .before .before .before .before .before .before .before .before .before .loop-test .taken))
+    (walking-next (s .pre .0) (a .start) (a .buf .now) (s .pre .1 .0 .0) (s .pre .1 .0 .1) (l .loop .inv) (context .result) (context .ensures) (sym (c .before .before .before .before .before .before .stands .ensures) ∙ c .before .before .before .before .before .if1 .taken) (c .before .before .before .before .before .before .before .before .before .loop-test .taken))
 
 returns : tie.Need-returns Inv-loop μ-loop
 returns c =
     let l = c .before .before .before .before .before in
     let s = l .before .before .before in
     let a = s .args in
-    walking-refused (s .pre .0) (a .start) (a .buf .now) (s .pre .1 .0 .0) (s .pre .1 .0 .1) (l .loop .inv) (c .before .before .place-at .result) (c .before .before .place-at .ensures) (sym (c .before .stands .ensures) ∙ c .if1 .left)
+    walking-refused (s .pre .0) (a .start) (a .buf .now) (s .pre .1 .0 .0) (s .pre .1 .0 .1) (l .loop .inv) (c .before .before .context-at .result) (c .before .before .context-at .ensures) (sym (c .before .stands .ensures) ∙ c .if1 .left)
 
-place-at-requires-2 : tie.Need-place-at-requires-2 Inv-loop μ-loop
-place-at-requires-2 c κs =
+context-at-requires-2 : tie.Need-context-at-requires-2 Inv-loop μ-loop
+context-at-requires-2 c κs =
     let l = c .before in
     let s = l .before .before .before in
     (s .pre .0 .tokens, (omega arith, s .pre .0 .matched))
@@ -164,7 +164,7 @@ returns-2 c =
     let l = c .before .before .before .before in
     let s = l .before .before .before in
     let a = s .args in
-    walking-last (s .pre .0) (a .start) (a .buf .now) (s .pre .1 .0 .0) (s .pre .1 .0 .1) (l .loop .inv) (c .before .before .place-at2 .result) (c .before .before .place-at2 .ensures) (c .stands2 .result) (c .stands2 .ensures) (omega arith)
+    walking-last (s .pre .0) (a .start) (a .buf .now) (s .pre .1 .0 .0) (s .pre .1 .0 .1) (l .loop .inv) (c .before .before .context-at2 .result) (c .before .before .context-at2 .ensures) (c .stands2 .result) (c .stands2 .ensures) (omega arith)
 
 pub walk-spec : {M : Type 1} → statement M
 walk-spec =
@@ -176,7 +176,7 @@ walk-spec =
     loop-holds
     shared-slice-read-r
     cast-r
-    place-at-requires
+    context-at-requires
     mul-stands
     array-read-stands
     stands-requires
@@ -194,7 +194,7 @@ walk-spec =
     loop-less
     loop-again
     returns
-    place-at-requires-2
+    context-at-requires-2
     shared-slice-read-stands
     cast-stands
     mul-stands-2

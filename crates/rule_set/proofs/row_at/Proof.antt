@@ -13,10 +13,10 @@ use Rattle.rule_set.proofs.row_at.Statement.{statement}
 use Rattle.rule_set.proofs.row_at.Tie as tie
 
 abbrev Inv-loop : tie.InvT-loop
-Inv-loop table count here place words₀ ways₀ r₀ words ways r = (r ≤ count) × (length words ≡ 4) × (ways ≡ waysIn table here place r) × (words ≡ wordsIn table here place r)
+Inv-loop table count here context words₀ ways₀ r₀ words ways r = (r ≤ count) × (length words ≡ 4) × (ways ≡ waysIn table here context r) × (words ≡ wordsIn table here context r)
 
 abbrev μ-loop : tie.MeasureT-loop
-μ-loop table count here place words₀ ways₀ r₀ words ways r = count - r
+μ-loop table count here context words₀ ways₀ r₀ words ways r = count - r
 
 clear-requires : tie.Need-clear-requires Inv-loop μ-loop
 clear-requires c κs = search needs
@@ -50,8 +50,8 @@ ways-with-requires : tie.Need-ways-with-requires Inv-loop μ-loop
 ways-with-requires c κs =
     let l = c .before .before .before .before .before .before .before .before in
     let s = l .before .before .before .before .before .before .before in
-    let held : l .loop .ways .held ≡ waysIn (s .args .table .now) (s .args .here) (s .args .place) (l .loop .r) .held = ap (λ (x : Ways). x .held) (l .loop .inv .2) in
-    let most = held-most (s .args .table .now) (s .args .here) (s .args .place) (l .loop .r) in
+    let held : l .loop .ways .held ≡ waysIn (s .args .table .now) (s .args .here) (s .args .context) (l .loop .r) .held = ap (λ (x : Ways). x .held) (l .loop .inv .2) in
+    let most = held-most (s .args .table .now) (s .args .here) (s .args .context) (l .loop .r) in
     (omega (arith, s .pre .0 .few, held, most), rw (c .rule-of .ensures) (s .pre .0 .small _ (c .before .before .before .before .before .before .before .loop-test .taken)))
 
 loop-less : tie.Need-loop-less Inv-loop μ-loop

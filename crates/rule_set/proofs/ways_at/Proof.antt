@@ -11,10 +11,10 @@ use Rattle.rule_set.proofs.ways_at.Statement.{statement}
 use Rattle.rule_set.proofs.ways_at.Tie as tie
 
 abbrev Inv-loop : tie.InvT-loop
-Inv-loop table count here place ways₀ r₀ ways r = (r ≤ count) × (ways ≡ waysIn table here place r)
+Inv-loop table count here context ways₀ r₀ ways r = (r ≤ count) × (ways ≡ waysIn table here context r)
 
 abbrev μ-loop : tie.MeasureT-loop
-μ-loop table count here place ways₀ r₀ ways r = count - r
+μ-loop table count here context ways₀ r₀ ways r = count - r
 
 no-ways-requires : tie.Need-no-ways-requires Inv-loop μ-loop
 no-ways-requires c κs = search needs
@@ -27,8 +27,8 @@ ways-turn-requires : tie.Need-ways-turn-requires Inv-loop μ-loop
 ways-turn-requires c κs =
     let l = c .before .loop in
     let s = c .before .before .before in
-    let held : l .ways .held ≡ waysIn (s .args .table .now) (s .args .here) (s .args .place) (l .r) .held = ap (λ (x : Ways). x .held) (l .inv .1) in
-    let most = held-most (s .args .table .now) (s .args .here) (s .args .place) (l .r) in
+    let held : l .ways .held ≡ waysIn (s .args .table .now) (s .args .here) (s .args .context) (l .r) .held = ap (λ (x : Ways). x .held) (l .inv .1) in
+    let most = held-most (s .args .table .now) (s .args .here) (s .args .context) (l .r) in
     (omega (arith, s .pre .few, held, most), omega (arith, s .pre .few), s .pre .small _ (c .loop-test .taken))
 
 add-r : tie.Need-add-r Inv-loop μ-loop

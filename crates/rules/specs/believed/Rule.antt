@@ -1,11 +1,11 @@
 -- What reading a rule at a place finds, over any way to read the number at a place (document 01, "The two files": "each rule: its form,
 -- then L; or L c L1; or L a L1 b L2", and refusals 5, 6 and 7).
 use Prim.Native.Nat.{ℕ}
+use mathlib.Core.Bool.{cond}
 use lib.Dec.{eqb}
 use Rattle.numbers.specs.declared.NumberRead.{NumberRead}
 use Rattle.numbers.specs.declared.FieldRead.{FieldRead}
 use Rattle.numbers.specs.declared.FieldRead.the-variants.{Field, Refused as FieldRefused}
-use Rattle.numbers.specs.believed.Number.{pick}
 use Rattle.numbers.specs.believed.Field.{fieldAt}
 use Rattle.vpg.specs.declared.Rule.{Rule}
 use Rattle.rules.specs.declared.PairRead.{PairRead}
@@ -49,10 +49,10 @@ stepAt number at nonterminals from name to =
 unfoldable pub bodyAt : (ℕ → NumberRead) → ℕ → ℕ → ℕ → ℕ → RuleRead
 bodyAt number at nonterminals form from =
     after (pairAt number at names 7 nonterminals) λ name to next.
-    pick (eqb form 1) (Read (Rule.Mark from (record { 0 = name }) to) next) (stepAt number next nonterminals from name to)
+    cond (eqb form 1) (Read (Rule.Mark from (record { 0 = name }) to) next) (stepAt number next nonterminals from name to)
 
 -- "its form, then L; or L c L1; or L a L1 b L2": the form and L, then what the form asks for
 unfoldable pub ruleAt : (ℕ → NumberRead) → ℕ → ℕ → RuleRead
 ruleAt number at nonterminals =
     after (pairAt number at forms 5 nonterminals) λ form from next.
-    pick (eqb form 0) (Read (Rule.Empty from) next) (bodyAt number next nonterminals form from)
+    cond (eqb form 0) (Read (Rule.Empty from) next) (bodyAt number next nonterminals form from)

@@ -6,14 +6,14 @@ use lib.ListN.{length}
 use Rattle.history_file.specs.believed.HistoryFile.{tokensOf}
 use Rattle.levels.proofs.Levels.{tokens-length, stands-end, stands-closed, stands-open}
 use borrow.Author.Needs.{needs}
-use Rattle.levels.proofs.place_at.Statement.{statement}
-use Rattle.levels.proofs.place_at.Tie as tie
+use Rattle.levels.proofs.context_at.Statement.{statement}
+use Rattle.levels.proofs.context_at.Tie as tie
 
-end-place-requires : tie.Need-end-place-requires
-end-place-requires c κs = search needs
+end-context-requires : tie.Need-end-context-requires
+end-context-requires c κs = search needs
 
 returns : tie.Need-returns
-returns c = rw (c .end-place .ensures) (stands-end (tokensOf (c .before .before .before .args .w .now)) (c .before .before .before .args .mask .now) (c .before .before .before .args .p) (omega (arith, tokens-length (c .before .before .before .args .w .now))))
+returns c = rw (c .end-context .ensures) (stands-end (tokensOf (c .before .before .before .args .tokens .now)) (c .before .before .before .args .masks .now) (c .before .before .before .args .p) (omega (arith, tokens-length (c .before .before .before .args .tokens .now))))
 
 mul-t : tie.Need-mul-t
 mul-t c = search needs
@@ -65,9 +65,9 @@ returns-2 c =
     let s = k .before .before in
     let a = s .args in
     let j = s .pre .1 .1 (a .p) (omega arith) (rw tokens-length (s .pre .1 .0)) in
-    let here : a .p < length (a .w .now) = omega (arith, k .if1 .left) in
+    let here : a .p < length (a .tokens .now) = omega (arith, k .if1 .left) in
     rw (add-one (a .p), j, add-one)
-    (stands-closed (a .w .now) (a .mask .now) (a .p) here (c .before .close-name .result) (rw j at (c .before .before .before .if2 .taken)) (rw j at (c .before .close-name .ensures)))
+    (stands-closed (a .tokens .now) (a .masks .now) (a .p) here (c .before .close-name .result) (rw j at (c .before .before .before .if2 .taken)) (rw j at (c .before .close-name .ensures)))
 
 returns-3 : tie.Need-returns-3
 returns-3 c =
@@ -75,14 +75,14 @@ returns-3 c =
     let s = k .before .before in
     let a = s .args in
     let j = s .pre .1 .1 (a .p) (omega arith) (rw tokens-length (s .pre .1 .0)) in
-    let here : a .p < length (a .w .now) = omega (arith, k .if1 .left) in
-    rw (add-one (a .p)) (stands-open (a .w .now) (a .mask .now) (a .p) here (record { 0 = 0 }) (rw j at (c .if2 .left)))
+    let here : a .p < length (a .tokens .now) = omega (arith, k .if1 .left) in
+    rw (add-one (a .p)) (stands-open (a .tokens .now) (a .masks .now) (a .p) here (record { 0 = 0 }) (rw j at (c .if2 .left)))
 
-pub place-at-spec : {M : Type 1} → statement M
-place-at-spec =
+pub context-at-spec : {M : Type 1} → statement M
+context-at-spec =
     tie.close
     (tie.spec
-    end-place-requires
+    end-context-requires
     returns
     mul-t
     shared-slice-read-t

@@ -7,15 +7,15 @@ use lib.ListN.{length, getD}
 use Rattle.history_file.specs.believed.HistoryFile.{tokensOf}
 use Rattle.levels.proofs.Levels.{tokens-length}
 use Rattle.next_run.specs.Next.{NoneFrom}
-use Rattle.next_run.proofs.Places.{NoneBetween, between-more, none-end, none-next, found-at}
-use Rattle.next_run.proofs.last_place.Statement.{statement}
-use Rattle.next_run.proofs.last_place.Tie as tie
+use Rattle.next_run.proofs.Positions.{NoneBetween, between-more, none-end, none-next, found-at}
+use Rattle.next_run.proofs.last_position.Statement.{statement}
+use Rattle.next_run.proofs.last_position.Tie as tie
 
 abbrev Inv-loop : tie.InvT-loop
-Inv-loop table count w m mask at buf p place l r₀ r = (getD buf p 0 < r) × NoneBetween table (getD buf p 0) l place r
+Inv-loop table count w m mask at buf p context l r₀ r = (getD buf p 0 < r) × NoneBetween table (getD buf p 0) l context r
 
 abbrev μ-loop : tie.MeasureT-loop
-μ-loop table count w m mask at buf p place l r₀ r = count - r
+μ-loop table count w m mask at buf p context l r₀ r = count - r
 
 abbrev Inv-search : tie.InvT-search
 Inv-search table count w m mask at buf p₀ p = (p ≤ length w + 1) × NoneFrom table count (tokensOf w) at buf p
@@ -36,8 +36,8 @@ search-holds c =
 sub-p : tie.Need-sub-p Inv-loop μ-loop Inv-search μ-search
 sub-p c = search needs
 
-place-at-requires : tie.Need-place-at-requires Inv-loop μ-loop Inv-search μ-search
-place-at-requires c κs =
+context-at-requires : tie.Need-context-at-requires Inv-loop μ-loop Inv-search μ-search
+context-at-requires c κs =
     let l = c .before in
     let s = l .before .before .before in
     (s .pre .0 .tokens, (omega arith, s .pre .0 .matched))
@@ -81,7 +81,7 @@ search-again c =
     let q = c .before .before .before .before in
     let p = l .search .p - 1 in
     let e : suc p ≡ l .search .p = omega arith in
-    (omega arith, none-next (a .table .now) (a .count) (tokensOf (a .w .now)) (a .mask .now) (a .at .now) (a .buf .now) (s .pre .0 .leveled) p (q .place-at .result) (q .place-at .ensures) (i .loop .r) (c .loop-test .left) (i .loop .inv .1) (rw e (l .search .inv .1)))
+    (omega arith, none-next (a .table .now) (a .count) (tokensOf (a .w .now)) (a .mask .now) (a .at .now) (a .buf .now) (s .pre .0 .leveled) p (q .context-at .result) (q .context-at .ensures) (i .loop .r) (c .loop-test .left) (i .loop .inv .1) (rw e (l .search .inv .1)))
 
 fits-requires : tie.Need-fits-requires Inv-loop μ-loop Inv-search μ-search
 fits-requires c κs =
@@ -119,11 +119,11 @@ returns-2 c =
     let p = l .search .p - 1 in
     let e : suc p ≡ l .search .p = omega arith in
     let yes = sym (c .before .fits2 .ensures) ∙ c .if2 .taken in
-    found-at (a .table .now) (a .count) (tokensOf (a .w .now)) (a .mask .now) (a .at .now) (a .buf .now) (s .pre .0 .leveled) p (q .place-at .result) (q .place-at .ensures) (i .loop .r) (omega (arith, tokens-length (a .w .now))) (i .loop .inv .0) (c .before .before .loop-test .taken)
+    found-at (a .table .now) (a .count) (tokensOf (a .w .now)) (a .mask .now) (a .at .now) (a .buf .now) (s .pre .0 .leveled) p (q .context-at .result) (q .context-at .ensures) (i .loop .r) (omega (arith, tokens-length (a .w .now))) (i .loop .inv .0) (c .before .before .loop-test .taken)
     yes (i .loop .inv .1) (rw e (l .search .inv .1))
 
-pub last-place-spec : {M : Type 1} → statement M
-last-place-spec =
+pub last-position-spec : {M : Type 1} → statement M
+last-position-spec =
     tie.close
     (tie.spec
     Inv-loop
@@ -133,7 +133,7 @@ last-place-spec =
     add-p
     search-holds
     sub-p
-    place-at-requires
+    context-at-requires
     mul-l
     element-copy-out-l
     shared-slice-read-r

@@ -1,27 +1,15 @@
--- Plain facts about tests, numbers and the elements of lists.
+-- Laws of lists: their first element and the rest, the element at a position; and of two numbers one is smaller.
 use Prim.Native.Nat.{ℕ, zero, suc, _+_, _<_}
 use native.Mathlib.Nat.{zero-add, suc-add}
 use native.Mathlib.Omega.{arith}
 use mathlib.Core.Path.{_≡_, refl}
 use mathlib.Core.Logic.{_⊎_, inl, inr, ⊎-elim}
-use mathlib.Core.Bool.{Bool, true, false, _&&_, _||_, false≢true}
+use mathlib.Core.Bool.{Bool, true, false}
 use mathlib.Core.List.{List, [], _∷_, _++_}
 use mathlib.Core.Option.{some, Option·none-ne-some}
 use borrow.Author.Tests.{ltb-true, ltb-false}
 use lib.Dec.{ltb}
 use lib.ListN.{length, drop, getElem?}
-
-pub and-left : (a b : Bool) → (a && b) ≡ true → a ≡ true
-and-left true b p = refl
-and-left false b p = p
-
-pub and-right : (a b : Bool) → (a && b) ≡ true → b ≡ true
-and-right true b p = p
-and-right false b p = absurd (false≢true p)
-
-pub or-cases : (a b : Bool) → (a || b) ≡ true → (a ≡ true) ⊎ (b ≡ true)
-or-cases true b p = inl refl
-or-cases false b p = inr p
 
 pub trichotomy : (x y : ℕ) → (x ≡ y) ⊎ ((x < y) ⊎ (y < x))
 trichotomy x y = go (ltb x y) refl (ltb y x) refl
@@ -32,6 +20,12 @@ trichotomy x y = go (ltb x y) refl (ltb y x) refl
     go false p false q = inl (omega (arith, ltb-false))
 
 module _ {A : Type 0} where
+  pub heads : {a b : A} {s t : List A} → a ∷ s ≡ b ∷ t → a ≡ b
+  heads q = cc
+
+  pub tails : {a b : A} {s t : List A} → a ∷ s ≡ b ∷ t → s ≡ t
+  tails q = cc
+
   pub at-left : {x : A} (s t : List A) (p : ℕ) → getElem? s p ≡ some x → getElem? (s ++ t) p ≡ some x
   at-left {x} [] t p h = absurd (Option·none-ne-some x h)
   at-left (y ∷ s) t zero h = h

@@ -1,37 +1,28 @@
--- Places and words: the rules that can stand at a place are those that can stand before the tokens there.
+-- Contexts and words: the rules that can stand at a place are those that can stand before the tokens there.
 use Prim.Native.Nat.{ℕ, zero, suc}
 use mathlib.Core.Path.{_≡_, refl, sym, _∙_}
 use mathlib.Core.Bool.{Bool, true, false, cond, _&&_, _||_, or-false, or-assoc, and-true, and-false}
 use mathlib.Core.List.{List, [], _∷_, _++_}
 use borrow.Author.Tests.{eqb-true, eqb-false, eq-eqb, ne-eqb}
 use lib.Dec.{eqb}
+use Rattle.laws.proofs.Bools.{eqb-comm}
+use Rattle.laws.proofs.Any.{any-snoc}
 use Rattle.bits.specs.Bit.{bit, addBit}
 use Rattle.bits.proofs.Bits.{bit-zero, bit-add}
 use Rattle.vpg.specs.declared.Rule.{Rule}
 use Rattle.vpg.specs.believed.Grammar.{Rules}
 use Rattle.vpg.specs.Steps.{left}
-use Rattle.level_theory.specs.Masks.{any, lefts}
+use Rattle.level_theory.specs.Masks.{lefts}
 use Rattle.tables.specs.Table.{ruleIn, rulesIn}
-use Rattle.contexts.specs.declared.Place.{Place}
-use Rattle.contexts.specs.Place.{appliesTo, levelIn}
-
-pub eqb-comm : (x y : ℕ) → eqb x y ≡ eqb y x
-eqb-comm x y = go (eqb y x) refl
-  where
-    go : (b : Bool) → eqb y x ≡ b → eqb x y ≡ b
-    go true e = eq-eqb x y (sym (eqb-true y x e))
-    go false e = ne-eqb x y (λ q. eqb-false y x e (sym q))
-
-pub any-snoc : (p : Rule → Bool) (g : Rules) (R : Rule) → any p (g ++ (R ∷ [])) ≡ (any p g || p R)
-any-snoc p [] R = or-false (p R)
-any-snoc p (x ∷ g) R = rw (any-snoc p g R) (sym (or-assoc (p x) (any p g) (p R)))
+use Rattle.contexts.specs.declared.Context.{Context}
+use Rattle.contexts.specs.Context.{appliesTo, levelIn}
 
 with-bit : (q : Bool) (m l L : ℕ) (s : Bool) → bit m L ≡ s → bit (cond q (addBit m l) m) L ≡ (s || (eqb l L && q))
 with-bit true m l L s e = bit-add m l L ∙ rw (e, eqb-comm L l, and-true (eqb l L))
 with-bit false m l L s e = e ∙ sym (rw (and-false (eqb l L)) (or-false s))
 
 -- a nonterminal is in the level exactly when one of its rules can stand here
-pub level-bit : (t : List ℕ) (p : Place) (n L : ℕ) → bit (levelIn t p n) L ≡ lefts (λ R. appliesTo R p) (rulesIn t n) L
+pub level-bit : (t : List ℕ) (p : Context) (n L : ℕ) → bit (levelIn t p n) L ≡ lefts (λ R. appliesTo R p) (rulesIn t n) L
 unfolding levelIn rulesIn
 level-bit t p zero L = bit-zero L
 level-bit t p (suc n) L =

@@ -10,18 +10,18 @@ use lib.Dec.{eqb}
 use lib.ListN.{length, getD}
 use Rattle.vpg.specs.declared.Token.{Token}
 use Rattle.vpg.specs.Steps.{left}
-use Rattle.contexts.specs.declared.Place.{Place}
+use Rattle.contexts.specs.declared.Context.{Context}
 use Rattle.tables.specs.Table.{ruleIn, rulesIn}
 use Rattle.levels.specs.Levels.{Leveled, Stands}
 use Rattle.first_run.specs.Fill.{ruleFits}
 use Rattle.next_run.specs.Next.{fitsAt, NoneFrom, LastAt}
 
 -- no rule between the one in the buffer and r fits
-abbrev pub NoneBetween : List ℕ → ℕ → ℕ → Place → ℕ → Type 0
-NoneBetween t b L place r = (s : ℕ) → b < s → s < r → ruleFits (ruleIn t s) L place ≡ false
+abbrev pub NoneBetween : List ℕ → ℕ → ℕ → Context → ℕ → Type 0
+NoneBetween t b L context r = (s : ℕ) → b < s → s < r → ruleFits (ruleIn t s) L context ≡ false
 
-pub between-more : (t : List ℕ) (b L : ℕ) (place : Place) (r : ℕ) → NoneBetween t b L place r → ruleFits (ruleIn t r) L place ≡ false → NoneBetween t b L place (r + 1)
-between-more t b L place r h q s l k = ⊎-elim (λ e. rw e q) (λ z. h s l z) (eq-or-lt-of-le (step k))
+pub between-more : (t : List ℕ) (b L : ℕ) (context : Context) (r : ℕ) → NoneBetween t b L context r → ruleFits (ruleIn t r) L context ≡ false → NoneBetween t b L context (r + 1)
+between-more t b L context r h q s l k = ⊎-elim (λ e. rw e q) (λ z. h s l z) (eq-or-lt-of-le (step k))
   where
     step : s < r + 1 → s ≤ r
     step z = omega arith
@@ -30,16 +30,16 @@ module _ (t : List ℕ) (n : ℕ) (w : List Token) (mask at e : List ℕ) (level
   pub none-end : (p : ℕ) → length w < p → NoneFrom t n w at e p
   none-end p h q l k = absurd (omega arith)
 
-  module _ (p : ℕ) (place : Place) (stands : Stands w mask p place) where
-    fits-same : (r : ℕ) → fitsAt t n w at p r ≡ ruleFits (ruleIn t r) (getD at p 0) place
+  module _ (p : ℕ) (context : Context) (stands : Stands w mask p context) where
+    fits-same : (r : ℕ) → fitsAt t n w at p r ≡ ruleFits (ruleIn t r) (getD at p 0) context
     fits-same r = ap (λ b. eqb (left (ruleIn t r)) (getD at p 0) && b) (sym (stands (rulesIn t n) (λ q h l. leveled q (omega arith) l) (ruleIn t r)))
 
-    pub none-next : (r : ℕ) → n ≤ r → NoneBetween t (getD e p 0) (getD at p 0) place r → NoneFrom t n w at e (suc p) → NoneFrom t n w at e p
+    pub none-next : (r : ℕ) → n ≤ r → NoneBetween t (getD e p 0) (getD at p 0) context r → NoneFrom t n w at e (suc p) → NoneFrom t n w at e p
     none-next r h k x q l z s a b = ⊎-elim (λ i. here q i s a b) (λ i. x q i z s a b) (eq-or-lt-of-le l)
       where
         here : (q : ℕ) → p ≡ q → (s : ℕ) → getD e q 0 < s → s < n → fitsAt t n w at q s ≡ false
         here q i s a b = rw (← i) (fits-same s ∙ k s (rw (← i) at a) (omega arith))
 
-    pub found-at : (r : ℕ) → p ≤ length w → getD e p 0 < r → r < n → ruleFits (ruleIn t r) (getD at p 0) place ≡ true → NoneBetween t (getD e p 0) (getD at p 0) place r →
+    pub found-at : (r : ℕ) → p ≤ length w → getD e p 0 < r → r < n → ruleFits (ruleIn t r) (getD at p 0) context ≡ true → NoneBetween t (getD e p 0) (getD at p 0) context r →
         NoneFrom t n w at e (suc p) → LastAt t n w at e p r
-    found-at r h l b q k x = record { place = h; larger = l; rule = b; fits = fits-same r ∙ q; least = λ s a z. fits-same s ∙ k s a z; last = x }
+    found-at r h l b q k x = record { position = h; larger = l; rule = b; fits = fits-same r ∙ q; least = λ s a z. fits-same s ∙ k s a z; last = x }
