@@ -1,8 +1,8 @@
 /* Lists the readings of a history: list GRAMMAR HISTORY
  *
  * Build, in the repository's root:
- *     rt staticlib capi
- *     cc -O2 -Iinclude -o list examples/list.c target/staticlib/libcapi.a
+ *     rt staticlib gaffmedlar
+ *     cc -O2 -Iinclude -o target/list_c examples/list.c target/staticlib/libgaffmedlar.a
  */
 #include "gaffmedlar.h"
 
