@@ -1,5 +1,5 @@
 #!/usr/bin/env python3
-"""Writes crates/checks/data/cases.bin and crates/checks/stdout: files for both checks, and the answer due for each.
+"""Writes crates/test_checks/data/cases.bin and crates/test_checks/stdout: files for both checks, and the answer due for each.
 
 Run from the repository's root. Every answer here is written out by hand from document 01; no part of the library is run.
 A case: what it is, the file's bytes, the answer.
@@ -312,7 +312,7 @@ def main():
     labels = [label for _, label, _, _ in CASES]
     assert len(labels) == len(set(labels)), "a label stands twice"
     assert all(len(label) < 256 and len(file) <= 4096 for _, label, file, _ in CASES)
-    here = os.path.join("crates", "checks")
+    here = os.path.join("crates", "test_checks")
     os.makedirs(os.path.join(here, "data"), exist_ok=True)
     with open(os.path.join(here, "data", "cases.bin"), "wb") as packed:
         for kind, label, file, _ in CASES:

@@ -1,5 +1,5 @@
 #!/usr/bin/env python3
-"""Writes crates/listings/data/cases.bin and crates/listings/stdout: pairs of files, and the listing due for each.
+"""Writes crates/test_listings/data/cases.bin and crates/test_listings/stdout: pairs of files, and the listing due for each.
 
 Run from the repository's root, when the cases change. A case in cases.bin is four bytes (the grammar's length and the
 history's, low byte first), then both files. random.bin beside it has 1,500 more in the same form, drawn once; this tool
@@ -154,7 +154,7 @@ def many_readings():
 
 
 def written(name):
-    data, at = open("crates/listings/data/" + name, "rb").read(), 0
+    data, at = open("crates/test_listings/data/" + name, "rb").read(), 0
     while at < len(data):
         g, h = data[at] + 256 * data[at + 1], data[at + 2] + 256 * data[at + 3]
         yield data[at + 4:at + 4 + g], data[at + 4 + g:at + 4 + g + h]
@@ -166,9 +166,9 @@ if __name__ == "__main__":
     of_document_01()
     refusals()
     many_readings()
-    with open("crates/listings/data/cases.bin", "wb") as f:
+    with open("crates/test_listings/data/cases.bin", "wb") as f:
         for g, h in CASES:
             f.write(bytes([len(g) % 256, len(g) // 256, len(h) % 256, len(h) // 256]) + g + h)
-    with open("crates/listings/stdout", "w") as f:
+    with open("crates/test_listings/stdout", "w") as f:
         for g, h in itertools.chain(written("cases.bin"), written("random.bin")):
             f.write(listing(g, h))

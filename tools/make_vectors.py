@@ -1,5 +1,5 @@
 #!/usr/bin/env python3
-"""Writes crates/vectors/data/cases.bin and crates/vectors/stdout: cases for the services, and the line due for each.
+"""Writes crates/test_vectors/data/cases.bin and crates/test_vectors/stdout: cases for the services, and the line due for each.
 
 Run from the repository's root, when the cases change. The readings of document 01's examples are written out by hand; those of
 the others are found by the search of make_listings.py. No part of the library is run.
@@ -211,7 +211,7 @@ if __name__ == "__main__":
     wrong_turns()
     many_readings()
     drawn(1000)
-    with open("crates/vectors/data/cases.bin", "wb") as f:
+    with open("crates/test_vectors/data/cases.bin", "wb") as f:
         f.write(b"".join(CASES))
-    with open("crates/vectors/stdout", "w") as f:
+    with open("crates/test_vectors/stdout", "w") as f:
         f.write("".join(line + "\n" for line in DUE))
