@@ -7,7 +7,8 @@ use Rattle.tables.specs.Table.{sameRule, earlier}
 use Rattle.grammar_file.specs.believed.GrammarFile.{rulesFrom, grammarFrom}
 use Rattle.history_file.specs.believed.HistoryFile.{tokenWith, tokenOf, tokenJudged, tokenAt, depthAfter, tokensFrom, historyFrom}
 use Rattle.vpg.specs.Runs.{runs}
-use Rattle.sets_theory.specs.believed.Sets.{kept, count, doubtful, doubtfulCount, stopMark, stopMarks}
+use Rattle.sets_theory.specs.KeptTest.{kept}
+use Rattle.sets_theory.specs.believed.Sets.{count, doubtful, doubtfulCount, stopMark, stopMarks}
 use Rattle.examples.specs.Examples.{Examples}
 
 pub examples : Examples

@@ -17,7 +17,7 @@ use Rattle.vpg.specs.declared.Rule.{Rule}
 use Rattle.vpg.specs.declared.Token.{Token}
 use Rattle.vpg.specs.believed.Grammar.{Rules, Grammar}
 use Rattle.vpg.specs.Runs.{Stack, runs, entries}
-use Rattle.sets_theory.specs.believed.Sets.{kept}
+use Rattle.sets_theory.specs.KeptTest.{kept}
 use Rattle.vpg.specs.Steps.{left}
 use Rattle.laws.proofs.Bools.{and-left, and-right, or-cases, both, same-test}
 use Rattle.sets_theory.proofs.Sets.{kept-entry}

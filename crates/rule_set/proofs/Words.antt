@@ -5,14 +5,14 @@ use native.Mathlib.Omega.{arith}
 use mathlib.Core.Path.{_≡_, refl, sym, _∙_, ap}
 use mathlib.Core.Logic.{_⊎_, inl, inr, _≢_, ⊎-elim}
 use mathlib.Core.Bool.{Bool, true, false, _&&_, _||_, or-true, or-false}
-use mathlib.Core.List.{List, [], _∷_}
+use mathlib.Core.List.{List, append-nil}
 use borrow.Author.Tests.{eqb-true, eqb-false, eq-eqb, ne-eqb, lt-ltb, le-ltb, ltb-true, ltb-false}
 use lib.Arith.{digits-div, digits-mod}
 use lib.Bits.{or-shifted-r}
 use lib.Dec.{eqb, ltb}
-use lib.ListN.{length, getD, set, replicate, length-set}
+use lib.ListN.{length, getD, replicate, length-set, drop-of-length-le}
 use lib.Pow.{pow-pos}
-use lib.Seq.{getD-set-same, getD-set-other}
+use lib.Seq.{getD-set-same, getD-set-other, sets, sets-eq}
 use Rattle.bits.specs.Bit.{bit, addBit}
 use Rattle.bits.proofs.Bits.{bit-zero, bit-above, bit-add, add-below, same}
 use Rattle.sets_theory.specs.believed.Sets.{wordOf}
@@ -27,13 +27,16 @@ or-no a x e = rw e (or-false a)
 pub add-length : (W : ℕ) (ws : List ℕ) (r : ℕ) → length (addIn W ws r) ≡ length ws
 add-length W ws r = length-set ws (r / W) (addBit (getD ws (r / W) 0) (r % W))
 
-pub cleared : (ws : List ℕ) → length ws ≡ 4 → set (set (set (set ws 0 0) 1 0) 2 0) 3 0 ≡ replicate 4 0
-cleared [] h = absurd (omega arith)
-cleared (a ∷ []) h = absurd (omega arith)
-cleared (a ∷ (b ∷ [])) h = absurd (omega arith)
-cleared (a ∷ (b ∷ (c ∷ []))) h = absurd (omega arith)
-cleared (a ∷ (b ∷ (c ∷ (d ∷ [])))) h = refl
-cleared (a ∷ (b ∷ (c ∷ (d ∷ (e ∷ ws))))) h = absurd (omega arith)
+-- ── all words at once ──
+
+pub zeros : (k i : ℕ) → _≡_ {A = ℕ} (getD (replicate k 0) i 0) 0
+zeros zero i = refl
+zeros (suc k) zero = refl
+zeros (suc k) (suc i) = zeros k i
+
+-- every word stored anew, from the first on
+pub stored : (vs ws : List ℕ) → length ws ≡ length vs → sets ws 0 vs ≡ vs
+stored vs ws e = sets-eq vs ws 0 (omega arith) ∙ rw (drop-of-length-le ws {i = 0 + length vs} (omega arith)) (append-nil vs)
 
 -- ── one word ──
 
@@ -93,8 +96,8 @@ module _ (W : ℕ) where
           let d : k / W ≢ r / W = eqb-false _ _ q in
           rw (getD-set-other ws (r / W) (k / W) (addBit m (r % W)) 0 d, ne-eqb k r (λ e. d (ap (λ (x : ℕ). x / W) e))) (sym (or-false _))
 
-  pub held-none : (f : ℕ → Bool) (ws : List ℕ) → ((k : ℕ) → getD ws k 0 ≡ 0) → Held W 0 f ws
-  held-none f ws z = record { small = λ k. rw (z k) (pow-pos W); digits = λ r. rw (z (r / W), le-ltb r 0 (omega arith)) (bit-zero (r % W)) }
+  pub held-none : (f : ℕ → Bool) (k : ℕ) → Held W 0 f (replicate k 0)
+  held-none f k = record { small = λ i. rw (zeros k i) (pow-pos W); digits = λ r. rw (zeros k (r / W), le-ltb r 0 (omega arith)) (bit-zero (r % W)) }
 
   pub held-with : (n : ℕ) (f : ℕ → Bool) (ws : List ℕ) → 0 < W → n / W < length ws → f n ≡ true → Held W n f ws → Held W (suc n) f (addIn W ws n)
   held-with n f ws pos room q h = record { small = small; digits = λ r. bit-in-add ws n r room ∙ rw (h .digits r) (digit r (eqb r n) refl) }

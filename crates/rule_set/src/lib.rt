@@ -1,5 +1,7 @@
-// The rules kept at a position: their set in words, how many they are, and the nonterminals with which they go on.
+// The set of rules at a position: in words, how many rules it holds, and the nonterminals with which they go on.
 use contexts::Context;
+use tables::Head;
+use tables::Table;
 use vpg::Rule;
 ghost use mathlib.Core.Path.{_≡_};
 ghost use Prim.Native.Nat.{_<_};
@@ -7,9 +9,9 @@ ghost use lib.ListN.{length, replicate};
 ghost use Rattle.tables.specs.Table.{ruleIn};
 ghost use Rattle.tables.specs.Ready.{Below, Ready};
 ghost use Rattle.rule_set.specs.Words.{addIn};
-ghost use Rattle.rule_set.specs.Rows.{keepsAt, nextWith, behindWith, waysWith, waysTurn, noWays, waysIn, wordsIn};
+ghost use Rattle.rule_set.specs.RuleSet.{keepsAt, nextWith, behindWith, waysWith, waysTurn, noWays, waysIn, wordsIn};
 
-// How many rules are kept at a position, the nonterminals at the next position and those behind the close.
+// How many rules the set at a position holds, the nonterminals at the next position and those behind the close.
 pub struct Ways {
     pub held: u32,
     pub next: u32,
@@ -17,7 +19,7 @@ pub struct Ways {
 }
 
 // Whether the nonterminal of rule r can stand here, and the rule too. Few rules can, whatever their nonterminal: that is asked first.
-fn keeps(here: u32, table: &[u16; 768], r: usize, context: Context) -> bool
+fn keeps(here: u32, table: &Table, r: usize, context: Context) -> bool
     requires { ⌜ (r < 128) × Below 32 (ruleIn (now table) r) ⌝ }
     ensures { λ x. ⌜ x ≡ keepsAt here context (ruleIn (now (table .entry)) r) ⌝ }
 {
@@ -60,7 +62,7 @@ fn add(words: &mut [u32], r: usize)
     words[r / 32] = bits::with(words[r / 32], r % 32);
 }
 
-// The ways on, with those of a rule that is kept.
+// The ways on, with those of a rule of the set.
 fn ways_with(ways: Ways, rule: Rule) -> Ways
     requires { ⌜ (ways .held < 128) × Below 32 rule ⌝ }
     ensures { λ x. ⌜ x ≡ waysWith ways rule ⌝ }
@@ -96,18 +98,13 @@ fn clear(words: &mut [u32])
     words[3] = 0;
 }
 
-// The rules kept at a place, where the nonterminals `here` can stand: their set is written, rule 32k + b as digit b of word k.
-pub fn row_at(
-    table: &[u16; 768],
-    count: usize,
-    here: u32,
-    context: Context,
-    words: &mut [u32],
-) -> Ways
-    requires { ⌜ Ready (now table) count ⌝ }
+// The set of rules at a position where the nonterminals `here` can stand: it is written, rule 32k + b as digit b of word k.
+pub fn set_at(table: &Table, head: Head, here: u32, context: Context, words: &mut [u32]) -> Ways
+    requires { ⌜ Ready (now table) head ⌝ }
     requires { ⌜ length (now words) ≡ 4 ⌝ }
-    ensures { λ x. ⌜ (x ≡ waysIn (now (table .entry)) here context count) × (now (words .exit) ≡ wordsIn (now (table .entry)) here context count) ⌝ }
+    ensures { λ x. ⌜ (x ≡ waysIn (now (table .entry)) here context (head .rules)) × (now (words .exit) ≡ wordsIn (now (table .entry)) here context (head .rules)) ⌝ }
 {
+    let count = head.rules;
     clear(words);
     let mut ways = no_ways();
     let mut r: usize = 0;
@@ -122,8 +119,8 @@ pub fn row_at(
     ways
 }
 
-// The ways on, with those of rule r where it is kept.
-fn ways_turn(ways: Ways, here: u32, table: &[u16; 768], r: usize, context: Context) -> Ways
+// The ways on, with those of rule r where it is in the set.
+fn ways_turn(ways: Ways, here: u32, table: &Table, r: usize, context: Context) -> Ways
     requires { ⌜ (ways .held < 128) × (r < 128) × Below 32 (ruleIn (now table) r) ⌝ }
     ensures { λ x. ⌜ x ≡ waysTurn ways here context (ruleIn (now (table .entry)) r) ⌝ }
 {
@@ -135,10 +132,11 @@ fn ways_turn(ways: Ways, here: u32, table: &[u16; 768], r: usize, context: Conte
 }
 
 // The ways on alone, where nobody asks for the set.
-pub fn ways_at(table: &[u16; 768], count: usize, here: u32, context: Context) -> Ways
-    requires { ⌜ Ready (now table) count ⌝ }
-    ensures { λ x. ⌜ x ≡ waysIn (now (table .entry)) here context count ⌝ }
+pub fn ways_at(table: &Table, head: Head, here: u32, context: Context) -> Ways
+    requires { ⌜ Ready (now table) head ⌝ }
+    ensures { λ x. ⌜ x ≡ waysIn (now (table .entry)) here context (head .rules) ⌝ }
 {
+    let count = head.rules;
     let mut ways = no_ways();
     let mut r: usize = 0;
     while r < count {

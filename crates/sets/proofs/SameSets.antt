@@ -5,7 +5,8 @@ use mathlib.Core.List.{List, _++_}
 use lib.ListN.{length, take, drop, length-map}
 use Rattle.vpg.specs.declared.Token.{Token}
 use Rattle.vpg.specs.believed.Grammar.{Grammar}
-use Rattle.sets_theory.specs.believed.Sets.{kept, doubtful, doubtfulCount, setWord, setWords}
+use Rattle.sets_theory.specs.KeptTest.{kept}
+use Rattle.sets_theory.specs.believed.Sets.{doubtful, doubtfulCount, setWord, setWords}
 use Rattle.tables.specs.Ready.{grammarIn}
 use Rattle.history_file.specs.believed.HistoryFile.{tokenOf, tokensOf}
 use Rattle.files.specs.declared.FilesRead.{FilesRead}

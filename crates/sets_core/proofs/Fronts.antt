@@ -17,7 +17,8 @@ use Rattle.vpg.specs.declared.Rule.{Rule}
 use Rattle.vpg.specs.declared.Token.{Token}
 use Rattle.vpg.specs.believed.Grammar.{Rules, Grammar}
 use Rattle.vpg.specs.Steps.{left}
-use Rattle.sets_theory.specs.believed.Sets.{kept, count, doubtful, listed, wordOf, setWord}
+use Rattle.sets_theory.specs.KeptTest.{kept}
+use Rattle.sets_theory.specs.believed.Sets.{count, doubtful, listed, wordOf, setWord}
 use Rattle.sets_theory.proofs.Sets.{length-listed, getD-listed}
 use Rattle.level_theory.specs.Pending.{pendingAt, closeOf}
 use Rattle.level_theory.specs.Kept.{going, returning, passed, Front}

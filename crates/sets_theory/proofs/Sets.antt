@@ -1,4 +1,4 @@
--- The tests of specs/Sets.antt say what they are to say: sets, doubtful positions and stop marks, of readings and of entries.
+-- The tests say what they are to say: sets, doubtful positions and stop marks, of readings and of entries.
 use Prim.Native.Nat.{ℕ, zero, suc, _+_, _≤_, _<_}
 use native.Mathlib.Nat.{le-of-suc-le-suc, eq-or-lt-of-le}
 use native.Mathlib.Omega.{arith}
@@ -14,7 +14,8 @@ use Rattle.vpg.specs.declared.Token.{Token}
 use Rattle.vpg.specs.believed.Grammar.{Rules, Grammar, Tree, code, Derives, by-empty, by-mark, by-step, Reading}
 use Rattle.sets_theory.specs.Counted.{Counted}
 use Rattle.vpg.specs.Runs.{entries}
-use Rattle.sets_theory.specs.believed.Sets.{Kept, standsAt, standsIn, kept, one, count, doubtful, doubtfulCount, marked, stopMark, listed, stopMarks}
+use Rattle.sets_theory.specs.KeptTest.{standsAt, standsIn, kept}
+use Rattle.sets_theory.specs.believed.Sets.{Kept, one, count, doubtful, doubtfulCount, marked, stopMark, listed, stopMarks}
 use Rattle.laws.proofs.Bools.{or-cases}
 use Rattle.laws.proofs.Lists.{at-cases, at-below}
 use Rattle.vpg.proofs.Entries.{reading-length}

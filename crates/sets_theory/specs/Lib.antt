@@ -1,2 +1,3 @@
 pub mod believed
 pub mod Counted
+pub mod KeptTest

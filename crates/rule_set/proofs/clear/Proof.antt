@@ -1,6 +1,7 @@
--- `clear`: a list of four words, each of which is set to 0.
+-- `clear`: every word of the list is stored anew.
 use borrow.Author.Needs.{needs}
-use Rattle.rule_set.proofs.Words.{cleared}
+use lib.ListN.{replicate}
+use Rattle.rule_set.proofs.Words.{stored}
 use Rattle.rule_set.proofs.clear.Statement.{statement}
 use Rattle.rule_set.proofs.clear.Tie as tie
 
@@ -20,7 +21,7 @@ same-length : tie.Need-same-length
 same-length c = search needs
 
 returns : tie.Need-returns
-returns c = cleared (c .args .words .now) (c .pre)
+returns c = stored (replicate 4 0) (c .args .words .now) (c .pre)
 
 pub clear-spec : {M : Type 1} → statement M
 clear-spec =

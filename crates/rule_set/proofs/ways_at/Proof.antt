@@ -5,16 +5,16 @@ use mathlib.Core.Path.{_≡_, ap}
 use native.Mathlib.Numerals.{add-one}
 use native.Mathlib.Omega.{arith}
 use Rattle.rule_set.specs.declared.Ways.{Ways}
-use Rattle.rule_set.specs.Rows.{waysIn}
-use Rattle.rule_set.proofs.Rows.{held-most}
+use Rattle.rule_set.specs.RuleSet.{waysIn}
+use Rattle.rule_set.proofs.RuleSet.{held-most}
 use Rattle.rule_set.proofs.ways_at.Statement.{statement}
 use Rattle.rule_set.proofs.ways_at.Tie as tie
 
 abbrev Inv-loop : tie.InvT-loop
-Inv-loop table count here context ways₀ r₀ ways r = (r ≤ count) × (ways ≡ waysIn table here context r)
+Inv-loop table here context count ways₀ r₀ ways r = (r ≤ count) × (ways ≡ waysIn table here context r)
 
 abbrev μ-loop : tie.MeasureT-loop
-μ-loop table count here context ways₀ r₀ ways r = count - r
+μ-loop table here context count ways₀ r₀ ways r = count - r
 
 no-ways-requires : tie.Need-no-ways-requires Inv-loop μ-loop
 no-ways-requires c κs = search needs
@@ -42,7 +42,7 @@ unfolding waysIn
 loop-again c = (omega arith, rw (add-one, ← (c .before .before .loop .inv .1)) (c .ways-turn .ensures))
 
 returns : tie.Need-returns Inv-loop μ-loop
-returns c = let e : c .before .loop .r ≡ c .before .before .before .args .count = omega arith in rw (← e) (c .before .loop .inv .1)
+returns c = let e : c .before .loop .r ≡ c .before .before .before .args .head .rules = omega arith in rw (← e) (c .before .loop .inv .1)
 
 pub ways-at-spec : {M : Type 1} → statement M
 ways-at-spec = tie.close (tie.spec Inv-loop μ-loop no-ways-requires loop-holds ways-turn-requires add-r loop-less loop-again returns)

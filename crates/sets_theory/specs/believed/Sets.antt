@@ -1,33 +1,19 @@
 -- The set at a position, doubtful positions and stop marks (document 01, "Readings").
 use Prim.Native.Nat.{ℕ, zero, suc, _+_, _*_, _/_, _%_, _^_}
 use mathlib.Core.Path.{_≡_}
-use mathlib.Core.Bool.{Bool, true, false, _||_}
+use mathlib.Core.Bool.{Bool, true, false}
 use mathlib.Core.List.{List, [], _∷_}
 use mathlib.Core.Option.{some}
-use lib.Dec.{eqb, ltb}
+use lib.Dec.{ltb}
 use lib.ListN.{getElem?, length, take}
 use Rattle.vpg.specs.declared.Token.{Token}
 use Rattle.vpg.specs.believed.Grammar.{Grammar, Reading}
 use Rattle.vpg.specs.Runs.{entries}
+use Rattle.sets_theory.specs.KeptTest.{kept}
 
 -- "the rules that stand there in at least one reading": rule number r is in the set at position p
 abbrev pub Kept : Grammar → List Token → ℕ → ℕ → Type 0
 Kept g w p r = (e : List ℕ) × Reading g w e × (getElem? e p ≡ some r)
-
--- the same as a test over the entries (`kept-is`): r stands at p of e
-abbrev pub standsAt : List ℕ → ℕ → ℕ → Bool
-standsAt [] p r = false
-standsAt (x ∷ e) zero r = eqb x r
-standsAt (x ∷ e) (suc p) r = standsAt e p r
-
--- of some entry
-abbrev pub standsIn : List (List ℕ) → ℕ → ℕ → Bool
-standsIn [] p r = false
-standsIn (e ∷ l) p r = standsAt e p r || standsIn l p r
-
--- of some reading
-unfoldable pub kept : Grammar → List Token → ℕ → ℕ → Bool
-kept g w p r = standsIn (entries g w) p r
 
 -- 1 where a test passes, else 0
 abbrev pub one : Bool → ℕ

@@ -1,23 +1,23 @@
--- A row has the kept rules of the table, and the nonterminals with which they go on.
+-- What is written has the rules of the set, and the nonterminals with which they go on.
 use Prim.Native.Nat.{ℕ, zero, suc, _≤_}
 use native.Mathlib.Omega.{arith}
 use mathlib.Core.Path.{_≡_, refl, sym, _∙_, ap}
 use mathlib.Core.Bool.{Bool, true, false, cond, _&&_, _||_, or-false}
 use mathlib.Core.List.{List}
-use lib.ListN.{length, getD, length-set}
+use lib.ListN.{length, length-set}
+use Rattle.laws.specs.Any.{any}
 use Rattle.laws.proofs.Any.{any-snoc}
 use Rattle.laws.proofs.Bools.{eqb-comm}
 use Rattle.bits.specs.Bit.{bit}
 use Rattle.bits.proofs.Bits.{bit-zero, bit-add}
 use Rattle.vpg.specs.declared.Rule.{Rule}
 use Rattle.sets_theory.specs.believed.Sets.{count}
-use Rattle.level_theory.specs.Masks.{any}
 use Rattle.level_theory.specs.Kept.{goesTo, returnsTo, going, returning}
 use Rattle.tables.specs.Table.{ruleIn, rulesIn}
 use Rattle.contexts.specs.declared.Context.{Context}
 use Rattle.rule_set.specs.Words.{Held, addIn}
 use Rattle.rule_set.specs.declared.Ways.{Ways}
-use Rattle.rule_set.specs.Rows.{keepsAt, nextWith, behindWith, waysWith, waysIn, wordsIn}
+use Rattle.rule_set.specs.RuleSet.{keepsAt, nextWith, behindWith, waysWith, waysIn, wordsIn}
 use Rattle.rule_set.proofs.Words.{held-none, held-with, held-without}
 
 -- ── one rule ──
@@ -53,7 +53,7 @@ module _ (t : List ℕ) (here : ℕ) (context : Context) where
       go true h = omega arith
       go false h = omega arith
 
-  -- how many rules are kept
+  -- how many rules there are
   pub held-count : (n : ℕ) → waysIn t here context n .held ≡ count n Keeps
   unfolding waysIn count
   held-count zero = refl
@@ -63,17 +63,10 @@ module _ (t : List ℕ) (here : ℕ) (context : Context) where
       go true q h = rw q (omega arith)
       go false q h = rw q (omega arith)
 
-  -- which rules are kept
+  -- which they are
   pub words-held : (n : ℕ) → n ≤ 128 → (length (wordsIn t here context n) ≡ 4) × Held 32 n Keeps (wordsIn t here context n)
   unfolding wordsIn
-  words-held zero h = (refl, held-none 32 Keeps (Words-of 0) zeros)
-    where
-      zeros : (k : ℕ) → getD (Words-of 0) k 0 ≡ 0
-      zeros zero = refl
-      zeros (suc zero) = refl
-      zeros (suc (suc zero)) = refl
-      zeros (suc (suc (suc zero))) = refl
-      zeros (suc (suc (suc (suc k)))) = refl
+  words-held zero h = (refl, held-none 32 Keeps 4)
   words-held (suc n) h = go (Keeps n) refl (words-held n (omega arith))
     where
       go : (b : Bool) → Keeps n ≡ b → (length (Words-of n) ≡ 4) × Held 32 n Keeps (Words-of n) →
@@ -81,7 +74,7 @@ module _ (t : List ℕ) (here : ℕ) (context : Context) where
       go true q (l, k) = (length-set (Words-of n) _ _ ∙ l, held-with 32 n Keeps (Words-of n) (omega arith) (omega arith) q k)
       go false q (l, k) = (l, held-without 32 n Keeps (Words-of n) q k)
 
-  -- one rule more, where a set of nonterminals grows by what the kept rules say
+  -- one rule more, where a set of nonterminals grows by what the rules of the set say
   grows : (f : Ways → ℕ) (k : Rule → Bool) (K n : ℕ) (b : Bool) → keepsAt here context (ruleIn t n) ≡ b → bit (f (waysWith (Ways-of n) (ruleIn t n))) K ≡ (bit (f (Ways-of n)) K || k (ruleIn t n)) →
       bit (f (Ways-of n)) K ≡ any (λ R. keepsAt here context R && k R) (rulesIn t n) →
       bit (f (cond b (waysWith (Ways-of n) (ruleIn t n)) (Ways-of n))) K ≡ any (λ R. keepsAt here context R && k R) (rulesIn t (suc n))

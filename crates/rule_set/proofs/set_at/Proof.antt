@@ -1,4 +1,4 @@
--- `row_at`: after r rules the ways and the words are those of the first r rules.
+-- `set_at`: after r rules the ways and the words are those of the first r rules.
 use borrow.Author.Needs.{needs}
 use Prim.Native.Nat.{_-_, _≤_}
 use mathlib.Core.Path.{_≡_, sym, ap, _∙_}
@@ -6,17 +6,17 @@ use native.Mathlib.Numerals.{add-one}
 use native.Mathlib.Omega.{arith}
 use lib.ListN.{length}
 use Rattle.rule_set.specs.declared.Ways.{Ways}
-use Rattle.rule_set.specs.Rows.{waysIn, wordsIn}
+use Rattle.rule_set.specs.RuleSet.{waysIn, wordsIn}
 use Rattle.rule_set.proofs.Words.{add-length}
-use Rattle.rule_set.proofs.Rows.{held-most}
-use Rattle.rule_set.proofs.row_at.Statement.{statement}
-use Rattle.rule_set.proofs.row_at.Tie as tie
+use Rattle.rule_set.proofs.RuleSet.{held-most}
+use Rattle.rule_set.proofs.set_at.Statement.{statement}
+use Rattle.rule_set.proofs.set_at.Tie as tie
 
 abbrev Inv-loop : tie.InvT-loop
-Inv-loop table count here context words₀ ways₀ r₀ words ways r = (r ≤ count) × (length words ≡ 4) × (ways ≡ waysIn table here context r) × (words ≡ wordsIn table here context r)
+Inv-loop table here context words₀ count ways₀ r₀ words ways r = (r ≤ count) × (length words ≡ 4) × (ways ≡ waysIn table here context r) × (words ≡ wordsIn table here context r)
 
 abbrev μ-loop : tie.MeasureT-loop
-μ-loop table count here context words₀ ways₀ r₀ words ways r = count - r
+μ-loop table here context words₀ count ways₀ r₀ words ways r = count - r
 
 clear-requires : tie.Need-clear-requires Inv-loop μ-loop
 clear-requires c κs = search needs
@@ -83,10 +83,10 @@ same-length : tie.Need-same-length Inv-loop μ-loop
 same-length c = c .before .loop .inv .1 ∙ sym (c .before .before .before .before .before .before .before .before .pre .1)
 
 returns : tie.Need-returns Inv-loop μ-loop
-returns c = let e : c .before .loop .r ≡ c .before .before .before .before .before .before .before .before .args .count = omega arith in (rw (← e) (c .before .loop .inv .2), rw (← e) (c .before .loop .inv .3))
+returns c = let e : c .before .loop .r ≡ c .before .before .before .before .before .before .before .before .args .head .rules = omega arith in (rw (← e) (c .before .loop .inv .2), rw (← e) (c .before .loop .inv .3))
 
-pub row-at-spec : {M : Type 1} → statement M
-row-at-spec =
+pub set-at-spec : {M : Type 1} → statement M
+set-at-spec =
     tie.close
     (tie.spec
     Inv-loop

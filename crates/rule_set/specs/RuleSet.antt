@@ -1,4 +1,4 @@
--- The rules kept at a place, rule by rule.
+-- The set of rules at a position, rule by rule.
 use Prim.Native.Nat.{ℕ, zero, suc, _+_}
 use mathlib.Core.Bool.{Bool, cond, _&&_}
 use mathlib.Core.List.{List}
@@ -12,9 +12,9 @@ use Rattle.contexts.specs.Context.{appliesTo}
 use Rattle.rule_set.specs.declared.Ways.{Ways}
 use Rattle.rule_set.specs.Words.{addIn}
 
--- is the rule kept, where the nonterminals `here` can stand
+-- is the rule in the set, where the nonterminals `here` can stand
 abbrev pub keepsAt : ℕ → Context → Rule → Bool
-keepsAt here p R = bit here (left R) && appliesTo R p
+keepsAt here context R = bit here (left R) && appliesTo R context
 
 abbrev pub nextWith : ℕ → Rule → ℕ
 nextWith x (Rule.Empty M) = x
@@ -30,17 +30,17 @@ abbrev pub waysWith : Ways → Rule → Ways
 waysWith x R = record { held = x .held + 1; next = nextWith (x .next) R; behind = behindWith (x .behind) R }
 
 abbrev pub waysTurn : Ways → ℕ → Context → Rule → Ways
-waysTurn x here p R = cond (keepsAt here p R) (waysWith x R) x
+waysTurn x here context R = cond (keepsAt here context R) (waysWith x R) x
 
 abbrev pub noWays : Ways
 noWays = record { held = 0; next = 0; behind = 0 }
 
--- the ways on of the kept ones of the first n rules of a table
+-- the ways on of those of the first n rules of a table that are in the set
 unfoldable pub waysIn : List ℕ → ℕ → Context → ℕ → Ways
-waysIn t here p zero = noWays
-waysIn t here p (suc n) = waysTurn (waysIn t here p n) here p (ruleIn t n)
+waysIn t here context zero = noWays
+waysIn t here context (suc n) = waysTurn (waysIn t here context n) here context (ruleIn t n)
 
--- and their set in words
+-- and the set of them in words
 unfoldable pub wordsIn : List ℕ → ℕ → Context → ℕ → List ℕ
-wordsIn t here p zero = replicate 4 0
-wordsIn t here p (suc n) = cond (keepsAt here p (ruleIn t n)) (addIn 32 (wordsIn t here p n) n) (wordsIn t here p n)
+wordsIn t here context zero = replicate 4 0
+wordsIn t here context (suc n) = cond (keepsAt here context (ruleIn t n)) (addIn 32 (wordsIn t here context n) n) (wordsIn t here context n)
