@@ -2,8 +2,8 @@
 // well, 100 for "none", 101 for "no further", else document 01's number of the refusal.
 use files::GrammarCheck;
 use files::HistoryCheck;
-use sets::CountAnswer;
 use service::Outcome;
+use sets::CountAnswer;
 ghost use mathlib.Core.Path.{_≡_};
 ghost use lib.ListN.{length};
 ghost use Rattle.listing_model.specs.believed.Listing.{first, next};

@@ -1,2 +1,2 @@
 pub mod Matched
-pub mod Open
+pub mod Opens

@@ -1,5 +1,6 @@
 -- What the opening finds, from what the two readers found.
-use Prim.Native.Nat.{ℕ, _+_, _*_, _<_, _≤_}
+use Prim.Native.Nat.{ℕ, _+_, _*_, _^_, _<_, _≤_}
+use native.Mathlib.Nat.{mul-le-mul}
 use native.Mathlib.Omega.{arith}
 use mathlib.Core.Path.{_≡_}
 use mathlib.Core.List.{List}
@@ -18,6 +19,10 @@ use Rattle.service.specs.declared.Opened.{Opened}
 use Rattle.service.specs.believed.Opened.{filesIn, opened}
 use Rattle.service.specs.Opening.{Numbers, HistoryOpened, Open, OpenedIs}
 use Rattle.service.proofs.Matched.{well-matched}
+
+-- the room for a few elements at each position of a history
+pub room-small : (each n : ℕ) → each ≤ 255 → n + 1 ≤ 1025 → each * (n + 1) < 2 ^ 64
+room-small each n few most = omega (arith, mul-le-mul {n₁ = each} {m₁ = n + 1} {n₂ = 255} {m₂ = 1025} few most)
 
 module _ (each size : ℕ) (history : List ℕ) where
   pub history-refuses : (e : ℕ) → historyOf history ≡ history-file.refused e → (g : Grammar) → opened each size (filesOf (grammar-file.accepted g) (historyOf history)) ≡ refused e
