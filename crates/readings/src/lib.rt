@@ -61,7 +61,7 @@ pub fn first_reading(grammar: &[u8], history: &[u8], reading: &mut [u8]) -> Answ
 {
     let mut table = [0u16; 768];
     let mut tokens = [0u32; 1024];
-    let opened = service::open(grammar, history, 1, reading.len(), &mut table, &mut tokens);
+    let opened = service::open_files(grammar, history, 1, reading.len(), &mut table, &mut tokens);
     let Opened::Files(head, n) = opened else {
         return Answer::Refused(service::refusal_of(opened));
     };
@@ -74,7 +74,7 @@ pub fn next_reading(grammar: &[u8], history: &[u8], reading: &mut [u8]) -> Answe
 {
     let mut table = [0u16; 768];
     let mut tokens = [0u32; 1024];
-    let opened = service::open(grammar, history, 1, reading.len(), &mut table, &mut tokens);
+    let opened = service::open_files(grammar, history, 1, reading.len(), &mut table, &mut tokens);
     let Opened::Files(head, n) = opened else {
         return Answer::Refused(service::refusal_of(opened));
     };

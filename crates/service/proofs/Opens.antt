@@ -2,7 +2,7 @@
 use Prim.Native.Nat.{ℕ, _+_, _*_, _^_, _<_, _≤_}
 use native.Mathlib.Nat.{mul-le-mul}
 use native.Mathlib.Omega.{arith}
-use mathlib.Core.Path.{_≡_}
+use mathlib.Core.Path.{_≡_, sym}
 use mathlib.Core.List.{List}
 use borrow.Author.Tests.{lt-ltb, le-ltb}
 use lib.ListN.{length, take}
@@ -36,23 +36,40 @@ module _ (each size : ℕ) (history : List ℕ) where
   history-fits numbers n k room =
       record { is = k .is; count = k .count; long = k .room; room = room; tokens = k .tokens; wellformed = k .wellformed }
 
-  module _ (grammar table : List ℕ) (head : Head) (k : GrammarIs grammar table head) where
-    -- what the history gives, with this grammar
-    pub both-opened : (r : Opened) (numbers : List ℕ) → HistoryOpened each size history head r numbers → OpenedIs each size (filesIn grammar history) r table numbers
-    both-opened (Opened.Refused e) numbers h = rw (k .is) (h _)
-    both-opened (Opened.Files head′ n) numbers h =
-        let x = h .1 in
-        rw (h .0)
-        (record {
-          is = rw (k .is, x .is, x .count, le-ltb size (each * (n + 1)) (x .room));
-          ready = k .ready;
-          count = x .count;
-          long = x .long;
-          room = x .room;
-          tokens = x .tokens;
-          balanced = well-matched (take n numbers) (x .wellformed);
-          wellformed = x .wellformed;
-        })
+-- the two answers of the opening are apart
+apart : {A : Type 0} {head : Head} {n e : ℕ} → Opened.Files head n ≡ Opened.Refused e → A
+apart q = absurd (let z : _≡_ {A = ℕ} 0 1 = cc in omega arith)
+
+same-number : {d e : ℕ} → Opened.Refused d ≡ Opened.Refused e → d ≡ e
+same-number q = cc
+
+pub is-refused : (each size : ℕ) (files : Files) (table numbers : List ℕ) (e : ℕ) → opened each size files ≡ refused e → OpenedIs each size files (Opened.Refused e) table numbers
+is-refused each size files table numbers e h = record { passes = λ head n q. apart (sym q); refuses = λ d q. rw (← same-number q) h }
+
+is-open : (each size : ℕ) (files : Files) (table numbers : List ℕ) (head : Head) (n : ℕ) → Open each size files head n table numbers → OpenedIs each size files (Opened.Files head n) table numbers
+is-open each size files table numbers head n k = record { passes = λ h m q. same h m q; refuses = λ e q. apart q }
+  where
+    same : (h : Head) (m : ℕ) → Opened.Files head n ≡ Opened.Files h m → Open each size files h m table numbers
+    same h m q = let a : head ≡ h = cc in let b : n ≡ m = cc in rw (← a, ← b) k
+
+module _ (each size : ℕ) (grammar history table : List ℕ) (head : Head) (k : GrammarIs grammar table head) where
+  -- what the history gives, with this grammar
+  pub both-opened : (r : Opened) (numbers : List ℕ) → HistoryOpened each size history head r numbers → OpenedIs each size (filesIn grammar history) r table numbers
+  both-opened (Opened.Refused e) numbers h = is-refused each size (filesIn grammar history) table numbers e (rw (k .is) (h _))
+  both-opened (Opened.Files head′ n) numbers h =
+      let x = h .1 in
+      rw (h .0)
+      (is-open each size (filesIn grammar history) table numbers head n
+      (record {
+        is = rw (k .is, x .is, x .count, le-ltb size (each * (n + 1)) (x .room));
+        ready = k .ready;
+        count = x .count;
+        long = x .long;
+        room = x .room;
+        tokens = x .tokens;
+        balanced = well-matched (take n numbers) (x .wellformed);
+        wellformed = x .wellformed;
+      }))
 
 pub grammar-refuses : (each size : ℕ) (grammar history : List ℕ) (e : ℕ) → grammarOf grammar ≡ grammar-file.refused e → opened each size (filesIn grammar history) ≡ refused e
 grammar-refuses each size grammar history e h = rw h

@@ -46,6 +46,7 @@ pub record Open (each size : ℕ) (files : Files) (head : Head) (n : ℕ) (table
   pub balanced : WellMatched (tokensOf (take n numbers))
   pub wellformed : Wellformed (take n numbers)
 
-abbrev pub OpenedIs : ℕ → ℕ → Files → Opened → List ℕ → List ℕ → Type 0
-OpenedIs each size files (Opened.Files head n) table numbers = Open each size files head n table numbers
-OpenedIs each size files (Opened.Refused e) table numbers = opened each size files ≡ refused e
+-- what the opening answers: these, or the number that is due
+pub record OpenedIs (each size : ℕ) (files : Files) (r : Opened) (table numbers : List ℕ) : Type 0 where
+  pub passes : (head : Head) (n : ℕ) → r ≡ Opened.Files head n → Open each size files head n table numbers
+  pub refuses : (e : ℕ) → r ≡ Opened.Refused e → opened each size files ≡ refused e

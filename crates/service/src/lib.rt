@@ -57,7 +57,7 @@ fn open_history(
 }
 
 // Opens a service that writes or reads `each` elements for each position, in a buffer of `size` elements; table and tokens hold zeros.
-pub fn open(
+pub fn open_files(
     grammar: &[u8],
     history: &[u8],
     each: usize,

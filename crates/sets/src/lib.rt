@@ -48,7 +48,7 @@ pub fn sets(grammar: &[u8], history: &[u8], words: &mut [u32]) -> Outcome
 {
     let mut table = [0u16; 768];
     let mut tokens = [0u32; 1024];
-    let opened = service::open(grammar, history, 4, words.len(), &mut table, &mut tokens);
+    let opened = service::open_files(grammar, history, 4, words.len(), &mut table, &mut tokens);
     let Opened::Files(head, n) = opened else {
         return Outcome::Refused(service::refusal_of(opened));
     };
@@ -62,7 +62,7 @@ pub fn doubtful_count(grammar: &[u8], history: &[u8]) -> CountAnswer
 {
     let mut table = [0u16; 768];
     let mut tokens = [0u32; 1024];
-    let opened = service::open(grammar, history, 0, 0, &mut table, &mut tokens);
+    let opened = service::open_files(grammar, history, 0, 0, &mut table, &mut tokens);
     let Opened::Files(head, n) = opened else {
         return CountAnswer::Refused(service::refusal_of(opened));
     };

@@ -11,7 +11,7 @@ pub fn stop_marks(grammar: &[u8], history: &[u8], marks: &mut [u8]) -> Outcome
 {
     let mut table = [0u16; 768];
     let mut tokens = [0u32; 1024];
-    let opened = service::open(grammar, history, 1, marks.len(), &mut table, &mut tokens);
+    let opened = service::open_files(grammar, history, 1, marks.len(), &mut table, &mut tokens);
     let Opened::Files(head, n) = opened else {
         return Outcome::Refused(service::refusal_of(opened));
     };

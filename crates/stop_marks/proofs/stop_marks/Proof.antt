@@ -1,25 +1,18 @@
 -- `stop_marks::stop_marks` meets its contract.
-use Prim.Native.Nat.{ℕ, _+_}
-use mathlib.Core.Path.{sym, _∙_, ap}
-use mathlib.Core.List.{List, _++_}
+use mathlib.Core.Path.{sym, ap}
+use lib.ListN.{take, length-map}
 use native.Mathlib.Omega.{arith}
-use lib.ListN.{length, drop}
-use Rattle.sets_theory.specs.believed.Sets.{stopMarks}
-use Rattle.service.specs.believed.Frame.{filesIn}
-use Rattle.service.proofs.Passed.{files-refused, files-passed}
-use Rattle.service.proofs.Served.{served-refused, served-short, served-on}
+use Rattle.history_file.specs.believed.HistoryFile.{tokenOf}
 use Rattle.stop_marks_core.proofs.Depths.{wellformed-shallow}
-use Rattle.stop_marks.specs.believed.Stops.{Given, written, refused, marksFor}
-use Rattle.stop_marks.proofs.SameMarks.{same-marks}
 use borrow.Author.Needs.{needs}
 use Rattle.stop_marks.proofs.stop_marks.Statement.{statement}
 use Rattle.stop_marks.proofs.stop_marks.Tie as tie
 
-read-files-requires : tie.Need-read-files-requires
-read-files-requires c κs = search needs
+open-files-requires : tie.Need-open-files-requires
+open-files-requires c κs = search needs
 
-enum-known-answer : tie.Need-enum-known-answer
-enum-known-answer c = search needs
+enum-known-opened : tie.Need-enum-known-opened
+enum-known-opened c = search needs
 
 enum-told : tie.Need-enum-told
 enum-told c = search needs
@@ -29,68 +22,46 @@ refusal-of-requires c κs = search needs
 
 returns : tie.Need-returns
 returns c =
-    let s = c .before .before .before .before .before .before .before in
-    let a = s .args in
-    rw (c .refusal-of .ensures, c .before .enum-told .given .1, served-refused {A = Given × List ℕ} (λ e. (refused e, a .marks .now)) (λ g w. (written, stopMarks g w ++ drop (marksFor (length w)) (a .marks .now))) marksFor (length (a .marks .now)) (filesIn (a .grammar .now) (a .history .now)) _ (files-refused (a .grammar .now) (a .history .now) (c .before .before .before .read-files .ensures) _ (c .before .enum-told .given .1)))
-
-cast-n : tie.Need-cast-n
-cast-n c = search needs
-
-returns-2 : tie.Need-returns-2
-returns-2 c =
-    let s = c .before .before .before .before .before .before .before .before in
-    let a = s .args in
-    let k = files-passed (a .grammar .now) (a .history .now) (c .before .before .before .before .read-files .ensures) _ _ _ _ (c .before .before .answer .given .1) in
-    rw (served-short {A = Given × List ℕ} (λ e. (refused e, a .marks .now)) (λ g w. (written, stopMarks g w ++ drop (marksFor (length w)) (a .marks .now))) marksFor (length (a .marks .now)) (filesIn (a .grammar .now) (a .history .now)) (k .g) (k .ts) (k .is) (omega (arith, k .count-is)))
-
-cast-marks : tie.Need-cast-marks
-cast-marks c = search needs
+    let o = c .before .before .before .open-files .ensures in
+    let q = c .before .enum-told .given .1 in
+    rw (c .refusal-of .ensures, q, o .refuses _ q)
 
 array-share-prefix-tokens : tie.Need-array-share-prefix-tokens
 array-share-prefix-tokens c =
-    let s = c .before .before .before .before .before .before .before .before .before .before .before in
-    let a = s .args in
-    let k = files-passed (a .grammar .now) (a .history .now) (c .before .before .before .before .before .before .before .read-files .ensures) _ _ _ _ (c .before .before .before .before .before .answer .given .1) in
-    k .room
+    let o = c .before .before .before .before .open-files .ensures in
+    o .passes _ _ (c .before .before .opened .given .1) .long
 
 slice-aggregate-marks : tie.Need-slice-aggregate-marks
 slice-aggregate-marks c =
-    let s = c .before .before .before .before .before .before .before .before .before .before .before .before in
-    let a = s .args in
-    let k = files-passed (a .grammar .now) (a .history .now) (c .before .before .before .before .before .before .before .before .read-files .ensures) _ _ _ _ (c .before .before .before .before .before .before .answer .given .1) in
-    sym (ap length (k .numbers-are) ∙ k .count-is)
+    let o = c .before .before .before .before .before .open-files .ensures in
+    sym (o .passes _ _ (c .before .before .before .opened .given .1) .count)
 
 marks-requires : tie.Need-marks-requires
 marks-requires c κs =
-    let s = c .before .before .before .before .before .before .before .before .before .before .before .before .before in
-    let a = s .args in
-    let k = files-passed (a .grammar .now) (a .history .now) (c .before .before .before .before .before .before .before .before .before .read-files .ensures) _ _ _ _ (c .before .before .before .before .before .before .before .answer .given .1) in
-    (k .ready, (k .start-small, (rw (k .numbers-are) (k .tokens), (rw (k .numbers-are) (wellformed-shallow (k .ts) (k .wellformed)), rw (k .numbers-are) (omega (arith, k .count-is))))))
+    let o = c .before .before .before .before .before .before .open-files .ensures in
+    let k = o .passes _ _ (c .before .before .before .before .opened .given .1) in
+    (k .ready, (k .tokens, (wellformed-shallow _ (k .wellformed), omega (arith, k .room, k .count))))
 
 same-length : tie.Need-same-length
 same-length c = search needs
 
-returns-3 : tie.Need-returns-3
-returns-3 c =
-    let s = c .before .before .before .before .before .before .before .before .before .before .before .before .before .before .before .before in
-    let a = s .args in
-    let k = files-passed (a .grammar .now) (a .history .now) (c .before .before .before .before .before .before .before .before .before .before .before .before .read-files .ensures) _ _ _ _ (c .before .before .before .before .before .before .before .before .before .before .answer .given .1) in
-    ap (λ (x : List ℕ). (written, x)) (c .before .before .marks .ensures ∙ same-marks (a .grammar .now) (a .history .now) _ _ _ _ k (a .marks .now)) ∙ sym (served-on {A = Given × List ℕ} (λ e. (refused e, a .marks .now)) (λ g w. (written, stopMarks g w ++ drop (marksFor (length w)) (a .marks .now))) marksFor (length (a .marks .now)) (filesIn (a .grammar .now) (a .history .now)) (k .g) (k .ts) (k .is) (omega (arith, k .count-is)))
+returns-2 : tie.Need-returns-2
+returns-2 c =
+    let o = c .before .before .before .before .before .before .before .before .before .open-files .ensures in
+    let k = o .passes _ _ (c .before .before .before .before .before .before .before .opened .given .1) in
+    rw (k .is, length-map (take _ _) tokenOf, c .before .before .marks .ensures)
 
 pub stop-marks-spec : {M : Type 1} → statement M
 stop-marks-spec =
     tie.close
     (tie.spec
-    read-files-requires
-    enum-known-answer
+    open-files-requires
+    enum-known-opened
     enum-told
     refusal-of-requires
     returns
-    cast-n
-    returns-2
-    cast-marks
     array-share-prefix-tokens
     slice-aggregate-marks
     marks-requires
     same-length
-    returns-3)
+    returns-2)

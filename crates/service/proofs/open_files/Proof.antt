@@ -1,9 +1,9 @@
--- `service::open` meets its contract.
+-- `service::open_files` meets its contract.
 use Rattle.grammar_file.proofs.Answers.{grammar-accepted, grammar-refused}
-use Rattle.service.proofs.Opens.{both-opened, grammar-refuses}
+use Rattle.service.proofs.Opens.{is-refused, both-opened, grammar-refuses}
 use borrow.Author.Needs.{needs}
-use Rattle.service.proofs.open.Statement.{statement}
-use Rattle.service.proofs.open.Tie as tie
+use Rattle.service.proofs.open_files.Statement.{statement}
+use Rattle.service.proofs.open_files.Tie as tie
 
 read-grammar-requires : tie.Need-read-grammar-requires
 read-grammar-requires c κs = search needs
@@ -21,17 +21,17 @@ returns : tie.Need-returns
 returns c =
     let r = c .before .before .before in
     let a = r .before .before .before .before .args in
-    grammar-refuses (a .each) (a .size) (a .grammar .now) (a .history .now) _ (grammar-refused _ (r .read-grammar .ensures) _ (c .before .read .given .1))
+    is-refused _ _ _ _ _ _ (grammar-refuses (a .each) (a .size) (a .grammar .now) (a .history .now) _ (grammar-refused _ (r .read-grammar .ensures) _ (c .before .read .given .1)))
 
 returns-2 : tie.Need-returns-2
 returns-2 c =
     let r = c .before .before .before .before .before in
     let a = r .before .before .before .before .args in
     let k = grammar-accepted _ (r .read-grammar .ensures) _ (c .before .before .before .read2 .given .1) in
-    both-opened (a .each) (a .size) (a .history .now) (a .grammar .now) _ _ k (c .open-history .result) (c .open-history .last .1 .1 .1 .1 .0) (c .open-history .ensures)
+    both-opened (a .each) (a .size) (a .grammar .now) (a .history .now) _ _ k (c .open-history .result) (c .open-history .last .1 .1 .1 .1 .0) (c .open-history .ensures)
 
-pub open-spec : {M : Type 1} → statement M
-open-spec =
+pub open-files-spec : {M : Type 1} → statement M
+open-files-spec =
     tie.close
     (tie.spec
     read-grammar-requires
