@@ -57,14 +57,14 @@ count-same zero f f′ h = refl
 count-same (suc n) f f′ h = rw (h n (omega arith), count-same n f f′ (λ r l. h r (omega arith)))
 
 -- `here` are the nonterminals that can stand at position p, and `behind` has those that can stand behind each close
-abbrev Fronted : List ℕ → Head → List ℕ → ℕ → ℕ → List ℕ → Type 0
+abbrev pub Fronted : List ℕ → Head → List ℕ → ℕ → ℕ → List ℕ → Type 0
 Fronted t head ts p here behind = Front (grammarIn t head) (tokensOf ts) p (bit here) (λ j. bit (getD behind j 0))
 
 -- the state of the pass before position p
 pub record Going (t : List ℕ) (head : Head) (ts : List ℕ) (p here : ℕ) (behind : List ℕ) : Type 0 where
   pub within : p ≤ length ts + 1
   pub long : length behind ≡ 1025
-  pub front : p ≤ length ts → Front (grammarIn t head) (tokensOf ts) p (bit here) (λ j. bit (getD behind j 0))
+  pub front : p ≤ length ts → Fronted t head ts p here behind
 
 module _ {t : List ℕ} {head : Head} {ts m mask : List ℕ} (x : Setting t head ts m mask) where
   abbrev W : List Token
