@@ -1,8 +1,8 @@
-/* Lists the readings of a history: list GRAMMAR HISTORY
+/* Lists the readings of a history: list_c GRAMMAR HISTORY
  *
  * Build, in the repository's root:
- *     rt staticlib capi
- *     cc -O2 -Iinclude -o list examples/list.c target/staticlib/libcapi.a
+ *     rt staticlib gaffmedlar
+ *     cc -O2 -Iinclude -o target/list_c examples/list.c target/staticlib/libgaffmedlar.a
  */
 #include "gaffmedlar.h"
 
@@ -26,7 +26,7 @@ int main(int count, char **words)
 {
     static uint8_t grammar[FILE_BYTES], history[FILE_BYTES], reading[GAFFMEDLAR_POSITIONS];
     if (count != 3) {
-        fprintf(stderr, "usage: list GRAMMAR HISTORY\n");
+        fprintf(stderr, "usage: list_c GRAMMAR HISTORY\n");
         return 2;
     }
     size_t grammar_len = read_file(words[1], grammar);

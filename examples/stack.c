@@ -2,8 +2,8 @@
  * every limit, and the deepest byte that changed is looked for. Fails where more is used than gaffmedlar.h states.
  *
  * Build, in the repository's root:
- *     rt staticlib capi
- *     cc -O2 -Iinclude -o stack examples/stack.c target/staticlib/libcapi.a
+ *     rt staticlib gaffmedlar
+ *     cc -O2 -Iinclude -o target/stack_c examples/stack.c target/staticlib/libgaffmedlar.a
  */
 #define _XOPEN_SOURCE 700
 #include "gaffmedlar.h"

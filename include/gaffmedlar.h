@@ -1,6 +1,6 @@
 /* Gaffmedlar: reads edit histories by a visibly pushdown grammar.
  *
- * Link target/staticlib/libcapi.a, which `rt staticlib capi` writes (x86-64 Linux). Every function here is proved to
+ * Link target/staticlib/libgaffmedlar.a, which `rt staticlib gaffmedlar` writes (x86-64 Linux). Every function here is proved to
  * give what document 01 says, for files and buffers of any length and content. README.md says what the files hold.
  *
  * Numbers that functions answer:

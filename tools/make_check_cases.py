@@ -1,10 +1,12 @@
 #!/usr/bin/env python3
-"""Writes crates/checks/data/cases.bin and crates/checks/stdout: files for both checks, and the answer due for each.
+"""Writes crates/test_checks/data/cases.bin and crates/test_checks/stdout: files for both checks, and the answer due for each.
 
 Run from the repository's root. Every answer here is written out by hand from document 01; no part of the library is run.
 A case: what it is, the file's bytes, the answer.
 """
 import os
+
+from frames import CLOSE, G, OPEN
 
 GRAMMAR, HISTORY = 0, 1
 CASES = []
@@ -18,11 +20,7 @@ def history(label, file, answer):
     CASES.append((HISTORY, "history, " + label, bytes(file), answer))
 
 
-# Shorthands for long files. A number below 128 is its own byte; from 128 on two bytes, low group first.
-def number(n):
-    return [n] if n < 128 else [n % 128 + 128, n // 128]
-
-
+# Shorthands for long files.
 def marks(n):
     """n form 1 rules, no two equal: names 0 to 63 with L 0, then with L 1, then with L 2."""
     return [byte for k in range(n) for byte in (1, k // 64, k % 64, 0)]
@@ -32,9 +30,6 @@ def steps(n):
     """n form 2 rules that differ in the close name, then in the open name."""
     return [byte for k in range(n) for byte in (2, 0, k // 64, 0, k % 64, 0)]
 
-
-G = [3, 7, 0, 0, 2, 0, 0, 1, 0, 0, 2, 0, 0, 2, 0, 0, 1, 1, 0, 1, 0, 1, 1, 2, 0, 2, 0, 2]
-OPEN, CLOSE = [1], [2]
 
 # ---- document 01's own examples
 grammar("G", G, "accepted 3 7")
@@ -82,7 +77,7 @@ grammar("form 2 ends inside b", [1, 1, 2, 0, 0, 0, 128], "refused 1")
 grammar("form 2 ends before L2", [1, 1, 2, 0, 0, 0, 0], "refused 1")
 grammar("form 2 ends inside L2", [1, 1, 2, 0, 0, 0, 0, 128], "refused 1")
 grammar("ends before the second rule", [1, 2, 0, 0], "refused 1")
-grammar("ends before the last of 128 rules", [2] + number(128) + marks(127), "refused 1")
+grammar("ends before the last of 128 rules", [2, 128, 1] + marks(127), "refused 1")
 
 # ---- grammar, 2: a second byte that is 0 or has its top bit set
 grammar("stage count 128 0", [128, 0], "refused 2")
@@ -186,7 +181,7 @@ grammar("three forms, all fields 0", [1, 3, 0, 0, 1, 0, 0, 0, 2, 0, 0, 0, 0, 0],
 grammar("a byte after the last rule", [1, 1, 0, 0, 0], "refused 9")
 grammar("a rule too many", [1, 1, 0, 0, 1, 0, 0, 0], "refused 9")
 grammar("128 after the last rule", [1, 1, 0, 0, 128], "refused 9")
-grammar("G and a byte", G + [0], "refused 9")
+grammar("G and a byte", G + bytes([0]), "refused 9")
 grammar("128 rules and a byte", [2, 128, 1] + marks(128) + [255], "refused 9")
 
 # ---- grammar, the order: 1 or 2 before the range, the fields one after another, 8 after the last field, 8 before 9
@@ -317,7 +312,7 @@ def main():
     labels = [label for _, label, _, _ in CASES]
     assert len(labels) == len(set(labels)), "a label stands twice"
     assert all(len(label) < 256 and len(file) <= 4096 for _, label, file, _ in CASES)
-    here = os.path.join("crates", "checks")
+    here = os.path.join("crates", "test_checks")
     os.makedirs(os.path.join(here, "data"), exist_ok=True)
     with open(os.path.join(here, "data", "cases.bin"), "wb") as packed:
         for kind, label, file, _ in CASES:

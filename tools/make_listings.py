@@ -1,87 +1,16 @@
 #!/usr/bin/env python3
-"""Writes crates/listings/data/cases.bin and crates/listings/stdout: pairs of files, and the listing due for each.
+"""Writes crates/test_listings/data/cases.bin and crates/test_listings/stdout: pairs of files, and the listing due for each.
 
 Run from the repository's root, when the cases change. A case in cases.bin is four bytes (the grammar's length and the
 history's, low byte first), then both files. random.bin beside it has 1,500 more in the same form, drawn once; this tool
-only lists them. No part of the library is run: the checks and the search below are written from document 01 alone, and
-the search tries every rule at every token, with no table of what can follow.
+only lists them. No part of the library is run: the checks (frames.py) and the search below are written from document 01
+alone, and the search tries every rule at every token, with no table of what can follow.
 """
 import itertools
 import os
 import sys
 
-
-# ---- document 01's checks
-class Refused(Exception):
-    pass
-
-
-def number(data, at):
-    if at >= len(data):
-        raise Refused(1)
-    if data[at] < 128:
-        return data[at], at + 1
-    if at + 1 >= len(data):
-        raise Refused(1)
-    if data[at + 1] == 0 or data[at + 1] >= 128:
-        raise Refused(2)
-    return data[at] - 128 + 128 * data[at + 1], at + 2
-
-
-def field(data, at, limit, refusal):
-    n, at = number(data, at)
-    if n >= limit:
-        raise Refused(refusal)
-    return n, at
-
-
-def count(data, at, most, refusal):
-    n, at = number(data, at)
-    if not 1 <= n <= most:
-        raise Refused(refusal)
-    return n, at
-
-
-def read_grammar(data):
-    stages, at = count(data, 0, 32, 3)
-    due, at = count(data, at, 128, 4)
-    rules = []
-    for _ in range(due):
-        form, at = field(data, at, 3, 5)
-        rule = [form]
-        # stage numbers are refused by 6, names by 7
-        for limit, refusal in [[(stages, 6)], [(stages, 6), (64, 7), (stages, 6)], [(stages, 6), (64, 7), (stages, 6), (64, 7), (stages, 6)]][form]:
-            n, at = field(data, at, limit, refusal)
-            rule.append(n)
-        if rule in rules:
-            raise Refused(8)
-        rules.append(rule)
-    if at < len(data):
-        raise Refused(9)
-    return rules
-
-
-def read_history(data):
-    due, at = field(data, 0, 1025, 10)
-    tokens, depth = [], 0
-    for _ in range(due):
-        t, at = field(data, at, 256, 11)
-        if t % 4 == 3:
-            raise Refused(11)
-        if t % 4 == 1:
-            if depth == 128:
-                raise Refused(14)
-            depth += 1
-        if t % 4 == 2:
-            if depth == 0:
-                raise Refused(12)
-            depth -= 1
-        tokens.append(t)
-    if depth > 0:
-        raise Refused(13)
-    if at < len(data):
-        raise Refused(9)
-    return tokens
+from frames import CLOSE, G, MARK, OPEN, Refused, grammar_bytes, history_bytes, read_grammar, read_history
 
 
 # ---- readings: from a stage at a position, what is still due being a chain of (close name, stage after it)
@@ -156,20 +85,6 @@ def listing(grammar, history):
 
 
 # ---- the cases
-def enc(n):
-    return [n] if n < 128 else [n % 128 + 128, n // 128]
-
-
-def grammar(stages, rules):
-    return bytes(b for n in [stages, len(rules)] + [n for rule in rules for n in rule] for b in enc(n))
-
-
-def history(tokens):
-    return bytes(b for n in [len(tokens)] + tokens for b in enc(n))
-
-
-G = bytes([3, 7, 0, 0, 2, 0, 0, 1, 0, 0, 2, 0, 0, 2, 0, 0, 1, 1, 0, 1, 0, 1, 1, 2, 0, 2, 0, 2])
-OPEN, CLOSE, MARK = [1], [2], [0]
 CASES = []
 
 
@@ -186,18 +101,19 @@ def samples():
 
 
 def of_document_01():
-    for h in [[0], [3, 1, 0, 2], [2, 1, 2], [4, 1, 2, 1, 2], [1, 0], [1, 2], [1, 1], [1, 3], [128], [128, 0]]:
+    # G with 3 1 0 2 is among the samples
+    for h in [[0], [2, 1, 2], [4, 1, 2, 1, 2], [1, 0], [1, 2], [1, 1], [1, 3], [128], [128, 0]]:
         case(G, h)
     case([1, 2, 0, 0, 0, 0], [0])
     case([1, 0], [0])
     case([1, 1, 1, 0, 0, 0], [0])
     case(G, [129, 8] + MARK * 1025)
-    case(G, history(OPEN * 128 + CLOSE * 128)[:2] + bytes(OPEN * 128 + CLOSE * 127))
-    case(G, history(OPEN * 129 + CLOSE * 129))
+    case(G, history_bytes(OPEN * 128 + CLOSE * 128)[:2] + bytes(OPEN * 128 + CLOSE * 127))
+    case(G, history_bytes(OPEN * 129 + CLOSE * 129))
     # 128 nested steps and 1,024 tokens, each with one reading
-    case(grammar(1, [[0, 0], [2, 0, 0, 0, 0, 0]]), history(OPEN * 128 + CLOSE * 128))
-    case(grammar(1, [[0, 0], [1, 0, 0, 0]]), history(MARK * 1024))
-    case(grammar(1, [[0, 0], [2, 0, 0, 0, 0, 0]]), history((OPEN + CLOSE) * 512))
+    case(grammar_bytes(1, [[0, 0], [2, 0, 0, 0, 0, 0]]), history_bytes(OPEN * 128 + CLOSE * 128))
+    case(grammar_bytes(1, [[0, 0], [1, 0, 0, 0]]), history_bytes(MARK * 1024))
+    case(grammar_bytes(1, [[0, 0], [2, 0, 0, 0, 0, 0]]), history_bytes((OPEN + CLOSE) * 512))
 
 
 def refusals():
@@ -207,7 +123,7 @@ def refusals():
         case(g, [0])
     for h in [[], [128], [128, 128], [129, 8], [1], [1, 128, 2], [1, 255, 1], [1, 3], [1, 7], [1, 2], [1, 1], [0, 0], [2, 1, 2, 0], [3, 1, 2, 2]]:
         case(G, h)
-    case(G, history(OPEN * 129 + CLOSE * 129))
+    case(G, history_bytes(OPEN * 129 + CLOSE * 129))
     case([], [])
     # longer than 4,096 bytes: the first 4,096 decide
     case(G, [0] * 5000)
@@ -217,29 +133,29 @@ def refusals():
 
 def many_readings():
     # each mark goes to either of two stages: twice as many readings with every further one, 2,048 with the last
-    two = grammar(2, [[0, 0], [1, 0, 0, 0], [1, 0, 0, 1], [1, 1, 0, 0], [1, 1, 0, 1]])
+    two = grammar_bytes(2, [[0, 0], [1, 0, 0, 0], [1, 0, 0, 1], [1, 1, 0, 0], [1, 1, 0, 1]])
     for n in range(1, 12):
-        case(two, history(MARK * n))
+        case(two, history_bytes(MARK * n))
 
     # one step behind the other, each with its own open name and as many rules as its width: the product of all widths
     def steps(*widths):
         stages = 1 + max(widths)
         rules = [[0, 0]] + [[2, 0, name, 1 + k, name, 0] for name, width in enumerate(widths) for k in range(width)] + [[0, 1 + k] for k in range(stages - 1)]
-        return grammar(stages, rules), history([t for name in range(len(widths)) for t in (4 * name + 1, 4 * name + 2)])
+        return grammar_bytes(stages, rules), history_bytes([t for name in range(len(widths)) for t in (4 * name + 1, 4 * name + 2)])
 
     case(*steps(10, 10, 10))  # 1,000 readings: the last line is `end 1000`
     case(*steps(7, 11, 13))  # 1,001: `more 1000`
     case(*steps(27, 31))  # 837
     # a choice at the very end of a long history
-    end = grammar(3, [[0, 0], [1, 0, 0, 0], [1, 0, 1, 1], [1, 0, 1, 2], [0, 1], [0, 2]])
-    case(end, history(MARK * 1023 + [4]))
+    end = grammar_bytes(3, [[0, 0], [1, 0, 0, 0], [1, 0, 1, 1], [1, 0, 1, 2], [0, 1], [0, 2]])
+    case(end, history_bytes(MARK * 1023 + [4]))
     # a choice in the innermost of 128 steps
-    deep = grammar(3, [[0, 0], [2, 0, 0, 0, 0, 0], [1, 0, 0, 1], [1, 0, 0, 2], [0, 1], [0, 2]])
-    case(deep, history(OPEN * 128 + MARK + CLOSE * 128))
+    deep = grammar_bytes(3, [[0, 0], [2, 0, 0, 0, 0, 0], [1, 0, 0, 1], [1, 0, 0, 2], [0, 1], [0, 2]])
+    case(deep, history_bytes(OPEN * 128 + MARK + CLOSE * 128))
 
 
 def written(name):
-    data, at = open("crates/listings/data/" + name, "rb").read(), 0
+    data, at = open("crates/test_listings/data/" + name, "rb").read(), 0
     while at < len(data):
         g, h = data[at] + 256 * data[at + 1], data[at + 2] + 256 * data[at + 3]
         yield data[at + 4:at + 4 + g], data[at + 4 + g:at + 4 + g + h]
@@ -251,9 +167,9 @@ if __name__ == "__main__":
     of_document_01()
     refusals()
     many_readings()
-    with open("crates/listings/data/cases.bin", "wb") as f:
+    with open("crates/test_listings/data/cases.bin", "wb") as f:
         for g, h in CASES:
             f.write(bytes([len(g) % 256, len(g) // 256, len(h) % 256, len(h) // 256]) + g + h)
-    with open("crates/listings/stdout", "w") as f:
+    with open("crates/test_listings/stdout", "w") as f:
         for g, h in itertools.chain(written("cases.bin"), written("random.bin")):
             f.write(listing(g, h))

@@ -1,5 +1,5 @@
 #!/usr/bin/env python3
-"""Writes crates/vectors/data/cases.bin and crates/vectors/stdout: cases for the services, and the line due for each.
+"""Writes crates/test_vectors/data/cases.bin and crates/test_vectors/stdout: cases for the services, and the line due for each.
 
 Run from the repository's root, when the cases change. The readings of document 01's examples are written out by hand; those of
 the others are found by the search of make_listings.py. No part of the library is run.
@@ -8,7 +8,8 @@ import itertools
 import random
 import sys
 
-from make_listings import G, MARK, OPEN, CLOSE, Refused, grammar, history, read_grammar, read_history, readings
+from frames import CLOSE, G, MARK, OPEN, Refused, grammar_bytes, history_bytes, read_grammar, read_history
+from make_listings import readings
 
 SHOW, MARKS = 1, 2
 ALL = 65535
@@ -96,37 +97,37 @@ def of_document_01():
     refused("grammar 1 2 0 0 0 0: 8", [1, 2, 0, 0, 0, 0], [0], 8)
     refused("grammar 1 0: 4", [1, 0], [0], 4)
     passed("grammar 1 1 1 0 0 0, 0", [1, 1, 1, 0, 0, 0], [0], SHOW | MARKS, ALL, [9], [0, 1], ([], [0]))
-    passed("1,024 tokens", grammar(1, [[0, 0], [1, 0, 0, 0]]), history(MARK * 1024), MARKS, ALL, [1] * 1024 + [0], [1, 0, 1])
-    passed("G, 1,024 tokens", G, history((OPEN + CLOSE) * 512), 0, ALL)
+    passed("1,024 tokens", grammar_bytes(1, [[0, 0], [1, 0, 0, 0]]), history_bytes(MARK * 1024), MARKS, ALL, [1] * 1024 + [0], [1, 0, 1])
+    passed("G, 1,024 tokens", G, history_bytes((OPEN + CLOSE) * 512), 0, ALL)
     refused("1,025 tokens: 10", G, [129, 8] + MARK * 1025, 10)
-    passed("128 nested steps", grammar(1, [[0, 0], [2, 0, 0, 0, 0, 0]]), history(OPEN * 128 + CLOSE * 128), MARKS, ALL, [0] * 300, [1, 0, 1])
-    refused("129 nested steps: 14", G, history(OPEN * 129 + CLOSE * 129), 14)
+    passed("128 nested steps", grammar_bytes(1, [[0, 0], [2, 0, 0, 0, 0, 0]]), history_bytes(OPEN * 128 + CLOSE * 128), MARKS, ALL, [0] * 300, [1, 0, 1])
+    refused("129 nested steps: 14", G, history_bytes(OPEN * 129 + CLOSE * 129), 14)
     refused("grammar before history: 4", [1, 0], [1, 3], 4)
 
 
 def wrong_turns():
     # two form 2 rules that differ only in the close name are two rules, and the name at the close decides
-    closes = grammar(1, [[0, 0], [2, 0, 0, 0, 0, 0], [2, 0, 0, 0, 1, 0]])
-    passed("close names 0 and 1", closes, history([1, 1, 6, 2, 1, 2]), SHOW | MARKS, ALL, [1, 2, 0, 0, 1, 0, 0], [1, 0])
+    closes = grammar_bytes(1, [[0, 0], [2, 0, 0, 0, 0, 0], [2, 0, 0, 0, 1, 0]])
+    passed("close names 0 and 1", closes, history_bytes([1, 1, 6, 2, 1, 2]), SHOW | MARKS, ALL, [1, 2, 0, 0, 1, 0, 0], [1, 0])
     # a mark that leads to a nonterminal with no way on is kept by no reading
-    passed("a mark that leads nowhere", grammar(3, [[1, 0, 0, 1], [1, 0, 0, 2], [0, 1], [1, 2, 0, 2]]), history(MARK), SHOW | MARKS, ALL, [1, 2], [1, 0, 1])
+    passed("a mark that leads nowhere", grammar_bytes(3, [[1, 0, 0, 1], [1, 0, 0, 2], [0, 1], [1, 2, 0, 2]]), history_bytes(MARK), SHOW | MARKS, ALL, [1, 2], [1, 0, 1])
     # a return goes to the nonterminal of the rule that opened this step
-    opened = grammar(4, [[2, 0, 0, 1, 0, 2], [2, 0, 1, 1, 0, 3], [0, 1], [1, 2, 0, 1], [1, 3, 1, 1]])
-    passed("the rule that opened the step", opened, history([1, 2, 4]), SHOW | MARKS, ALL, [0, 2, 4, 2], [1, 0])
-    passed("the same, with its own mark", opened, history([1, 2, 0]), SHOW | MARKS, ALL, [0, 2, 3, 2], [1, 0])
+    opened = grammar_bytes(4, [[2, 0, 0, 1, 0, 2], [2, 0, 1, 1, 0, 3], [0, 1], [1, 2, 0, 1], [1, 3, 1, 1]])
+    passed("the rule that opened the step", opened, history_bytes([1, 2, 4]), SHOW | MARKS, ALL, [0, 2, 4, 2], [1, 0])
+    passed("the same, with its own mark", opened, history_bytes([1, 2, 0]), SHOW | MARKS, ALL, [0, 2, 3, 2], [1, 0])
     # an inside that stops early
-    early = grammar(2, [[0, 0], [2, 0, 0, 1, 0, 0], [1, 1, 0, 1], [1, 1, 1, 0]])
-    passed("an inside that stops early", early, history([1, 0, 2]), SHOW | MARKS, ALL, [1, 2, 0, 0], [1, 0])
-    passed("the same inside to its end", early, history([1, 0, 4, 2]), SHOW | MARKS, ALL, [1, 2, 3, 0, 0], [1, 0])
+    early = grammar_bytes(2, [[0, 0], [2, 0, 0, 1, 0, 0], [1, 1, 0, 1], [1, 1, 1, 0]])
+    passed("an inside that stops early", early, history_bytes([1, 0, 2]), SHOW | MARKS, ALL, [1, 2, 0, 0], [1, 0])
+    passed("the same inside to its end", early, history_bytes([1, 0, 4, 2]), SHOW | MARKS, ALL, [1, 2, 3, 0, 0], [1, 0])
 
 
 def many_readings():
     for k in range(1, 11):
-        h = history((OPEN + CLOSE) * k)
+        h = history_bytes((OPEN + CLOSE) * k)
         last = [2, 6] * k + [0]
         passed("%d steps of G, 2^%d readings" % (k, k), G, h, MARKS if k < 8 else 0, ALL, last, [1, 0, 1, 1])
-    passed("340 ambiguous steps", G, history((OPEN + MARK + CLOSE) * 340), 0, ALL)
-    passed("128 nested steps of two rules", grammar(1, [[0, 0], [2, 0, 0, 0, 0, 0], [1, 0, 0, 0]]), history(OPEN * 128 + MARK * 700 + CLOSE * 128), MARKS, ALL)
+    passed("340 ambiguous steps", G, history_bytes((OPEN + MARK + CLOSE) * 340), 0, ALL)
+    passed("128 nested steps of two rules", grammar_bytes(1, [[0, 0], [2, 0, 0, 0, 0, 0], [1, 0, 0, 0]]), history_bytes(OPEN * 128 + MARK * 700 + CLOSE * 128), MARKS, ALL)
 
 
 class Draw:
@@ -188,8 +189,8 @@ def drawn(wanted):
     while made < wanted:
         seed += 1
         draw = Draw(seed)
-        h = history(draw.changed(draw.tokens(0, 12))[:40])
-        g = grammar(draw.stages, draw.rules)
+        h = history_bytes(draw.changed(draw.tokens(0, 12))[:40])
+        g = grammar_bytes(draw.stages, draw.rules)
         try:
             tokens = read_history(h)
         except Refused as e:
@@ -210,7 +211,7 @@ if __name__ == "__main__":
     wrong_turns()
     many_readings()
     drawn(1000)
-    with open("crates/vectors/data/cases.bin", "wb") as f:
+    with open("crates/test_vectors/data/cases.bin", "wb") as f:
         f.write(b"".join(CASES))
-    with open("crates/vectors/stdout", "w") as f:
+    with open("crates/test_vectors/stdout", "w") as f:
         f.write("".join(line + "\n" for line in DUE))

@@ -1,5 +1,5 @@
-//! Finds `libcapi.a`: in the folder that GAFFMEDLAR_LIB_DIR names, else in the repository's target/staticlib, where
-//! `rt staticlib capi` writes it.
+//! Finds `libgaffmedlar.a`: in the folder that GAFFMEDLAR_LIB_DIR names, else in the repository's target/staticlib, where
+//! `rt staticlib gaffmedlar` writes it.
 use std::env;
 use std::path::PathBuf;
 
@@ -12,14 +12,14 @@ fn main() {
             PathBuf::from(here).join("../../target/staticlib")
         }
     };
-    let archive = folder.join("libcapi.a");
+    let archive = folder.join("libgaffmedlar.a");
     if !archive.exists() {
         panic!(
-            "no {}: run `rt staticlib capi` in the repository's root, or set GAFFMEDLAR_LIB_DIR to the folder that has libcapi.a",
+            "no {}: run `rt staticlib gaffmedlar` in the repository's root, or set GAFFMEDLAR_LIB_DIR to the folder that has libgaffmedlar.a",
             archive.display()
         );
     }
     println!("cargo:rerun-if-changed={}", archive.display());
     println!("cargo:rustc-link-search=native={}", folder.display());
-    println!("cargo:rustc-link-lib=static=capi");
+    println!("cargo:rustc-link-lib=static=gaffmedlar");
 }

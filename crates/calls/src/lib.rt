@@ -1,16 +1,12 @@
 // A whole list of the calls first reading and next reading on one buffer.
 use readings::Answer;
+use service::Outcome;
 ghost use mathlib.Core.Path.{_≡_};
 ghost use lib.ListN.{length};
 ghost use Rattle.listing_model.specs.Calls.{callOn};
 ghost use Rattle.readings.specs.believed.Answers.{said, subject};
-ghost use Rattle.calls.specs.believed.CallList.{codeOf, callOf, coded, callsSaid, callsDue};
-
-// The list of calls was made, or it was refused by 15: fewer answers can be written than there are calls.
-pub enum CallsAnswer {
-    Made,
-    Refused(u8),
-}
+ghost use Rattle.service.specs.believed.Given.{outcomeSaid};
+ghost use Rattle.calls.specs.believed.CallList.{codeOf, callOf, coded, callsDue};
 
 // An answer as a byte: 0 for a reading written, 100 for none, 101 for no further, else the number of the refusal.
 pub fn code_of(answer: Answer) -> u8
@@ -41,16 +37,16 @@ pub fn run_calls(
     calls: &[u8],
     answers: &mut [u8],
     buffer: &mut [u8],
-) -> CallsAnswer
-    ensures { λ r. ⌜ (callsSaid r, now (answers .exit), now (buffer .exit)) ≡ callsDue (subject (now (grammar .entry)) (now (history .entry)) (length (now (buffer .entry)))) (now (calls .entry)) (now (answers .entry)) (now (buffer .entry)) ⌝ }
+) -> Outcome
+    ensures { λ r. ⌜ (outcomeSaid r, now (answers .exit), now (buffer .exit)) ≡ callsDue (subject (now (grammar .entry)) (now (history .entry)) (length (now (buffer .entry)))) (now (calls .entry)) (now (answers .entry)) (now (buffer .entry)) ⌝ }
 {
     if answers.len() < calls.len() {
-        return CallsAnswer::Refused(15);
+        return Outcome::Refused(15);
     }
     let mut i: usize = 0;
     while i < calls.len() {
         answers[i] = call(grammar, history, calls[i], buffer);
         i += 1;
     }
-    CallsAnswer::Made
+    Outcome::Done
 }

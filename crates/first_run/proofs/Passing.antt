@@ -12,17 +12,18 @@ use lib.Dec.{eqb, ltb}
 use lib.ListN.{drop}
 use Rattle.vpg.specs.declared.Token.{Token}
 use Rattle.vpg.specs.believed.Grammar.{Rules}
-use Rattle.vpg.specs.Runs.{Stack}
 use Rattle.vpg.specs.Steps.{left}
 use Rattle.laws.proofs.Bools.{and-left, and-right, both}
-use Rattle.level_theory.specs.Masks.{masks, Fits}
+use Rattle.level_theory.specs.Masks.{masks}
 use Rattle.level_theory.specs.Walk.{testAt}
-use Rattle.level_theory.proofs.Alive.{Passes, lefts-some}
+use Rattle.level_theory.proofs.Alive.{Passes, lefts-some, some-lefts}
 use Rattle.level_theory.proofs.Search.{None}
 use Rattle.level_theory.proofs.Walk.{level-test}
 use Rattle.contexts.specs.declared.Context.{Context}
 use Rattle.contexts.specs.Context.{appliesTo}
-use Rattle.tables.specs.Table.{ruleIn, rulesIn}
+use Rattle.tables.specs.declared.Head.{Head}
+use Rattle.tables.specs.Table.{ruleIn}
+use Rattle.tables.specs.Ready.{rulesOf}
 use Rattle.tables.proofs.Tables.{rules-at, rules-below}
 use Rattle.levels.specs.Levels.{Leveled, Stands}
 use Rattle.first_run.specs.Fill.{ruleFits, Smallest}
@@ -34,39 +35,46 @@ below-more P n h x q l = ⊎-elim (λ e. rw e x) (λ k. h q k) (eq-or-lt-of-le (
     step : q < n + 1 → q ≤ n
     step k = omega arith
 
-module _ (t : List ℕ) (n : ℕ) (w : List Token) (mask : List ℕ) (p L : ℕ) (context : Context) (stands : Stands w mask p context) (leveled : Leveled (rulesIn t n) w mask (suc p)) where
+module _ (t : List ℕ) (head : Head) (w : List Token) (mask : List ℕ) (p L : ℕ) (context : Context) (stands : Stands w mask p context) (leveled : Leveled (rulesOf t head) w mask (suc p)) where
   abbrev G : Rules
-  G = rulesIn t n
+  G = rulesOf t head
+
+  abbrev Passing : ℕ → Type 0
+  Passing r = Passes (testAt G (drop p w)) G L r
 
   -- a rule that fits passes
-  pub passes : (r : ℕ) → r < n → ruleFits (ruleIn t r) L context ≡ true → Passes (testAt G (drop p w)) G L r
+  pub passes : (r : ℕ) → r < head .rules → ruleFits (ruleIn t r) L context ≡ true → Passing r
   passes r h q = record {
     rule = ruleIn t r;
-    is = rules-at t n r h;
+    is = rules-at t (head .rules) r h;
     from = eqb-true _ _ (and-left _ _ q);
     passes = sym (stands G leveled (ruleIn t r)) ∙ and-right (eqb (left (ruleIn t r)) L) (appliesTo (ruleIn t r) context) q;
   }
 
   -- where none fits, none passes
-  pub none : (P : ℕ → Type 0) → ((r : ℕ) → r < n → P r → ruleFits (ruleIn t r) L context ≡ false) → None (testAt G (drop p w)) G L P
+  pub none : (P : ℕ → Type 0) → ((r : ℕ) → r < head .rules → P r → ruleFits (ruleIn t r) L context ≡ false) → None (testAt G (drop p w)) G L P
   none P h r x k = false≢true (sym (h r l x) ∙ both (eq-eqb _ _ (ap left e ∙ k .from)) (stands G leveled (ruleIn t r) ∙ rw e (k .passes)))
     where
-      l : r < n
-      l = rules-below t n r (k .is)
+      l : r < head .rules
+      l = rules-below t (head .rules) r (k .is)
 
       e : ruleIn t r ≡ k .rule
-      e = Option·some-injective _ _ (sym (rules-at t n r l) ∙ k .is)
+      e = Option·some-injective _ _ (sym (rules-at t (head .rules) r l) ∙ k .is)
 
-  -- where the state fits there is one
-  pub found : (s : Stack) (r : ℕ) → Fits L s (masks G (drop p w)) → Smallest t n L context r → r < n
-  found s r f k = go (ltb r n) refl (lefts-some (testAt G (drop p w)) G L (level-test G (drop p w) L ∙ f .0))
+  pub least : (r : ℕ) → Smallest t head L context r → None (testAt G (drop p w)) G L (λ q. q < r)
+  least r k = none (λ q. q < r) (λ q h l. k .least q l)
+
+  -- where L derives the rest of the level there is one
+  pub found : (r : ℕ) → masks G (drop p w) .0 L ≡ true → Smallest t head L context r → r < head .rules
+  found r f k = go (ltb r (head .rules)) refl (lefts-some (testAt G (drop p w)) G L (level-test G (drop p w) L ∙ f))
     where
-      go : (b : Bool) → ltb r n ≡ b → (q : ℕ) × Passes (testAt G (drop p w)) G L q → r < n
-      go true e x = ltb-true r n e
+      go : (b : Bool) → ltb r (head .rules) ≡ b → (q : ℕ) × Passing q → r < head .rules
+      go true e x = ltb-true r (head .rules) e
       go false e x =
-          let l = ltb-false r n e in
-          let z = rules-below t n (x .0) (x .1 .is) in
-          absurd (none (λ q. q < r) (λ q h h′. k .least q h h′) (x .0) (omega arith) (x .1))
+          let l = ltb-false r (head .rules) e in
+          let z = rules-below t (head .rules) (x .0) (x .1 .is) in
+          absurd (least r k (x .0) (omega arith) (x .1))
 
-  pub least : (r : ℕ) → Smallest t n L context r → None (testAt G (drop p w)) G L (λ q. q < r)
-  least r k = none (λ q. q < r) (λ q h l. k .least q h l)
+  -- and where one passes, L derives the rest of the level
+  pub derives : (r : ℕ) → Passing r → masks G (drop p w) .0 L ≡ true
+  derives r k = sym (level-test G (drop p w) L) ∙ some-lefts (testAt G (drop p w)) G L r (k .rule) (k .is) (k .from) (k .passes)

@@ -9,46 +9,54 @@ use Rattle.bits.specs.Bit.{bit}
 use Rattle.vpg.specs.declared.Token.{Token}
 use Rattle.vpg.specs.believed.Grammar.{Grammar}
 use Rattle.vpg.specs.Extremes.{Least}
-use Rattle.listing_model.specs.believed.Listing.{first, written, no-reading}
-use Rattle.listing_model.specs.Calls.{callOn, overEntries}
 use Rattle.vpg.specs.Runs.{Stack, entries}
 use Rattle.vpg.proofs.Ascends.{entries-ascending}
+use Rattle.listing_model.specs.believed.Listing.{first, written, no-reading}
+use Rattle.listing_model.specs.Calls.{callOn, overEntries}
 use Rattle.listing_model.proofs.Calls.{first-written, first-nothing}
-use Rattle.level_theory.specs.Masks.{Outer, masks, Match, Fits}
+use Rattle.level_theory.specs.Masks.{Outer, masks, Match}
 use Rattle.level_theory.specs.Pending.{pendingAt, dueAt}
 use Rattle.level_theory.specs.Walk.{Run}
 use Rattle.level_theory.proofs.Alive.{run-fits}
 use Rattle.level_theory.proofs.Pending.{masks-outer}
-use Rattle.levels.specs.Levels.{Leveled}
-use Rattle.first_run.specs.Fill.{Filled}
+use Rattle.tables.specs.declared.Head.{Head}
+use Rattle.tables.specs.Ready.{grammarIn}
+use Rattle.history_file.specs.believed.HistoryFile.{tokensOf}
+use Rattle.levels.specs.Levels.{Setting}
+use Rattle.first_run.specs.declared.Configuration.{Configuration}
+use Rattle.first_run.specs.Fill.{Derives, Filled}
 
-module _ (g : Grammar) (w : List Token) (mask : List ℕ) (leveled : Leveled (g .rules) w mask 0) (matched : pendingAt w 0 ≡ []) where
-  no-outer : masks (g .rules) w .1 ≡ []
-  no-outer = masks-outer (g .rules) w 0 ∙ rw matched
+module _ {t : List ℕ} {head : Head} {ts m mask : List ℕ} (set-up : Setting t head ts m mask) where
+  abbrev W : List Token
+  W = tokensOf ts
 
-  -- where the start is in the level of position 0, it fits with nothing due
-  pub start-fits : bit (getD mask 0 0) (g .start) ≡ true → Fits (g .start) [] (masks (g .rules) w)
-  start-fits h = (sym (leveled 0 (omega arith) (omega arith) (g .start)) ∙ h, none-due (masks (g .rules) w .1) no-outer)
+  abbrev G : Grammar
+  G = grammarIn t head
+
+  -- the start, with any array of what is behind closes
+  abbrev from-start : List ℕ → Configuration
+  from-start f = record { position = 0; nonterminal = head .start; behind = f }
+
+  -- before the first token nothing is due
+  pub none-due : (f : List ℕ) → Match (dueAt f (pendingAt W 0)) (masks (G .rules) W .1)
+  none-due f = none (dueAt f (pendingAt W 0)) (ap (dueAt f) (set-up .balanced)) (masks (G .rules) W .1) (masks-outer (G .rules) W 0 ∙ rw (set-up .balanced))
     where
-      none-due : (o : Outer) → o ≡ [] → Match [] o
-      none-due o e = rw e tt
+      none : (s : Stack) → s ≡ [] → (o : Outer) → o ≡ [] → Match s o
+      none s e o d = rw (e, d) tt
 
-  -- and so it does with what any array says is due
-  pub state-fits : (f : List ℕ) → bit (getD mask 0 0) (g .start) ≡ true → Fits (g .start) (dueAt f (pendingAt w 0)) (masks (g .rules) w)
-  state-fits f h = at-start (dueAt f (pendingAt w 0)) (ap (dueAt f) matched)
-    where
-      at-start : (s : Stack) → s ≡ [] → Fits (g .start) s (masks (g .rules) w)
-      at-start s e = rw e (start-fits h)
+  -- where the start is in the level of position 0, it derives all tokens
+  pub start-derives : (f : List ℕ) → bit (getD mask 0 0) (head .start) ≡ true → Derives (G .rules) W (from-start f)
+  start-derives f h = (sym (set-up .leveled 0 (omega arith) (omega arith) (head .start)) ∙ h, none-due f)
 
-  pub first-is : (f old new : List ℕ) → Filled (g .rules) w (g .start, dueAt f (pendingAt w 0)) 0 old new → (written, new) ≡ callOn (overEntries g w) first old
+  pub first-is : (f old new : List ℕ) → Filled (G .rules) W (from-start f) old new → (written, new) ≡ callOn (overEntries G W) first old
   first-is f old new k =
-      let l : Least (Run (g .rules) (g .start, []) w) (k .run) = least-at (dueAt f (pendingAt w 0)) (ap (dueAt f) matched) (k .least) in
-      let e : new ≡ k .run ++ drop (suc (length w)) old = sym (take-append-drop (suc (length w)) new) ∙ ap₂ _++_ (k .written) (k .kept) in
-      rw e (sym (first-written (entries g w) (suc (length w)) old (k .run) (entries-ascending g w) l))
+      let l : Least (Run (G .rules) (head .start, []) W) (k .run) = least-at (dueAt f (pendingAt W 0)) (ap (dueAt f) (set-up .balanced)) (k .least) in
+      let e : new ≡ k .run ++ drop (suc (length W)) old = sym (take-append-drop (suc (length W)) new) ∙ ap₂ _++_ (k .written) (k .kept) in
+      rw e (sym (first-written (entries G W) (suc (length W)) old (k .run) (entries-ascending G W) l))
     where
-      least-at : (s : Stack) → s ≡ [] → Least (Run (g .rules) (g .start, s) w) (k .run) → Least (Run (g .rules) (g .start, []) w) (k .run)
+      least-at : (s : Stack) → s ≡ [] → Least (Run (G .rules) (head .start, s) W) (k .run) → Least (Run (G .rules) (head .start, []) W) (k .run)
       least-at s e h = rw e at h
 
-  pub none-is : (old : List ℕ) → bit (getD mask 0 0) (g .start) ≡ false → (no-reading, old) ≡ callOn (overEntries g w) first old
+  pub none-is : (old : List ℕ) → bit (getD mask 0 0) (head .start) ≡ false → (no-reading, old) ≡ callOn (overEntries G W) first old
   none-is old h =
-      sym (first-nothing (entries g w) (suc (length w)) old (λ e m. false≢true (sym h ∙ (leveled 0 (omega arith) (omega arith) (g .start) ∙ run-fits (g .rules) w (g .start) [] e m .0))))
+      sym (first-nothing (entries G W) (suc (length W)) old (λ e m. false≢true (sym h ∙ (set-up .leveled 0 (omega arith) (omega arith) (head .start) ∙ run-fits (G .rules) W (head .start) [] e m .0))))

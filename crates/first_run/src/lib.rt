@@ -1,42 +1,45 @@
 // The first reading: forward over the tokens, at each position the smallest rule that can stand there.
 use contexts::Context;
+use levels::Closes;
+use levels::Masks;
+use levels::Nonterminals;
+use tables::Head;
 use tables::Six;
+use tables::Table;
 ghost use mathlib.Core.Path.{_≡_};
-ghost use mathlib.Core.List.{[]};
-ghost use Prim.Native.Nat.{_+_, _<_, _≤_};
-ghost use lib.ListN.{length, drop, getD, set};
+ghost use Prim.Native.Nat.{_<_, _≤_};
+ghost use lib.ListN.{length, getD, set};
 ghost use Rattle.listing_model.specs.believed.Listing.{first};
 ghost use Rattle.listing_model.specs.Calls.{callOn, overEntries};
-ghost use Rattle.level_theory.specs.Masks.{masks, Fits};
-ghost use Rattle.level_theory.specs.Pending.{pendingAt, dueAt};
 ghost use Rattle.level_theory.specs.Walk.{inner, later};
-ghost use Rattle.tables.specs.Table.{ruleFrom, ruleIn, rulesIn};
-ghost use Rattle.tables.specs.Ready.{Below, Ready, grammarIn};
+ghost use Rattle.tables.specs.Table.{ruleFrom, ruleIn};
+ghost use Rattle.tables.specs.Ready.{Below, Ready, rulesOf, grammarIn};
 ghost use Rattle.history_file.specs.believed.HistoryFile.{tokensOf};
 ghost use Rattle.levels.specs.Levels.{Setting};
-ghost use Rattle.first_run.specs.Fill.{ruleFits, Smallest, Filled};
+ghost use Rattle.first_run.specs.Fill.{ruleFits, Smallest, Derives, Filled};
 ghost use Rattle.first_run.specs.First.{firstSaid};
 
 // Whether the rule of number r is for the nonterminal and can stand here.
-pub fn fits(table: &[u16; 768], r: usize, l: u16, context: Context) -> bool
+pub fn fits(table: &Table, r: usize, nonterminal: u16, context: Context) -> bool
     requires { ⌜ (r < 128) × Below 32 (ruleIn (now table) r) ⌝ }
-    ensures { λ x. ⌜ x ≡ ruleFits (ruleIn (now (table .entry)) r) l context ⌝ }
+    ensures { λ x. ⌜ x ≡ ruleFits (ruleIn (now (table .entry)) r) nonterminal context ⌝ }
 {
-    if tables::left_in(table, r) == l {
+    if tables::left_in(table, r) == nonterminal {
         contexts::applies(table, r, context)
     } else {
         false
     }
 }
 
-// The smallest rule for the nonterminal that can stand here; count where there is none.
-pub fn smallest(table: &[u16; 768], count: usize, l: u16, context: Context) -> usize
-    requires { ⌜ Ready (now table) count ⌝ }
-    ensures { λ r. ⌜ Smallest (now (table .entry)) count l context r ⌝ }
+// The smallest rule for the nonterminal that can stand here; the number of rules where there is none.
+pub fn smallest(table: &Table, head: Head, nonterminal: u16, context: Context) -> usize
+    requires { ⌜ Ready (now table) head ⌝ }
+    ensures { λ r. ⌜ Smallest (now (table .entry)) head nonterminal context r ⌝ }
 {
+    let count = head.rules;
     let mut r: usize = 0;
     while r < count {
-        if fits(table, r, l, context) {
+        if fits(table, r, nonterminal, context) {
             return r;
         }
         r += 1;
@@ -55,7 +58,7 @@ pub fn inner_of(rule: Six, d: u16) -> u16
 }
 
 // Stores at position j the nonterminal behind the close of a step; any other rule leaves all as it is.
-pub fn store_later(behind: &mut [u16; 1025], j: usize, rule: Six)
+pub fn store_later(behind: &mut Nonterminals, j: usize, rule: Six)
     requires { ⌜ (length (now behind) ≡ 1025) × (j < 1025) ⌝ }
     ensures { λ _. ⌜ now (behind .exit) ≡ set (now (behind .entry)) j (later (ruleFrom rule) (getD (now (behind .entry)) j 0)) ⌝ }
 {
@@ -68,36 +71,43 @@ pub fn store_later(behind: &mut [u16; 1025], j: usize, rule: Six)
     behind[j] = rule.5;
 }
 
-// Writes the first run from a position on; behind has the nonterminal behind each pending close.
+// Where a derivation stands: the position, the nonterminal there, and the nonterminal behind each pending close.
+pub struct Configuration {
+    pub position: usize,
+    pub nonterminal: u16,
+    pub behind: Nonterminals,
+}
+
+// Writes the first run from a configuration on.
 pub fn fill(
-    table: &[u16; 768],
-    count: usize,
-    w: &[u32],
-    m: &[usize; 1025],
-    mask: &[u32; 1025],
-    behind: [u16; 1025],
-    l0: u16,
-    from: usize,
+    table: &Table,
+    head: Head,
+    tokens: &[u32],
+    closes: &Closes,
+    masks: &Masks,
+    from: Configuration,
     out: &mut [u8],
 )
-    requires { ⌜ Setting (now table) count (now w) (now m) (now mask) ⌝ }
-    requires { ⌜ (from ≤ length (now w)) × (length (now w) < length (now out)) ⌝ }
-    requires { ⌜ Fits l0 (dueAt behind (pendingAt (tokensOf (now w)) from)) (masks (rulesIn (now table) count) (drop from (tokensOf (now w)))) ⌝ }
-    ensures { λ _. ⌜ Filled (rulesIn (now (table .entry)) count) (tokensOf (now (w .entry))) (l0, dueAt behind (pendingAt (tokensOf (now (w .entry))) from)) from (now (out .entry)) (now (out .exit)) ⌝ }
+    requires { ⌜ Setting (now table) head (now tokens) (now closes) (now masks) ⌝ }
+    requires { ⌜ (from .position ≤ length (now tokens)) × (length (from .behind) ≡ 1025) × (length (now tokens) < length (now out)) ⌝ }
+    requires { ⌜ Derives (rulesOf (now table) head) (tokensOf (now tokens)) from ⌝ }
+    ensures { λ _. ⌜ Filled (rulesOf (now (table .entry)) head) (tokensOf (now (tokens .entry))) from (now (out .entry)) (now (out .exit)) ⌝ }
 {
-    let mut due = behind;
-    let mut l = l0;
-    let mut p = from;
-    while p < w.len() {
-        let r = smallest(table, count, l, levels::context_at(w, m, mask, p));
+    let mut due = from.behind;
+    let mut nonterminal = from.nonterminal;
+    let mut p = from.position;
+    while p < tokens.len() {
+        let context = levels::context_at(tokens, closes, masks, p);
+        let r = smallest(table, head, nonterminal, context);
         let rule = tables::six_in(table, r);
         out[p] = r as u8;
-        let j = m[p];
-        l = inner_of(rule, due[p]);
+        let j = closes[p];
+        nonterminal = inner_of(rule, due[p]);
         store_later(&mut due, j, rule);
         p += 1;
     }
-    let last = smallest(table, count, l, levels::context_at(w, m, mask, p));
+    let end = levels::context_at(tokens, closes, masks, p);
+    let last = smallest(table, head, nonterminal, end);
     out[p] = last as u8;
 }
 
@@ -109,21 +119,26 @@ pub enum FirstAnswer {
 
 // Writes the first reading, if there is one.
 pub fn first(
-    table: &[u16; 768],
-    count: usize,
-    start: u16,
-    w: &[u32],
-    m: &[usize; 1025],
-    mask: &[u32; 1025],
+    table: &Table,
+    head: Head,
+    tokens: &[u32],
+    closes: &Closes,
+    masks: &Masks,
     out: &mut [u8],
 ) -> FirstAnswer
-    requires { ⌜ Setting (now table) count (now w) (now m) (now mask) ⌝ }
-    requires { ⌜ (start < 32) × (length (now w) < length (now out)) × (pendingAt (tokensOf (now w)) 0 ≡ []) ⌝ }
-    ensures { λ r. ⌜ (firstSaid r, now (out .exit)) ≡ callOn (overEntries (grammarIn (now (table .entry)) count start) (tokensOf (now (w .entry)))) first (now (out .entry)) ⌝ }
+    requires { ⌜ Setting (now table) head (now tokens) (now closes) (now masks) ⌝ }
+    requires { ⌜ length (now tokens) < length (now out) ⌝ }
+    ensures { λ r. ⌜ (firstSaid r, now (out .exit)) ≡ callOn (overEntries (grammarIn (now (table .entry)) head) (tokensOf (now (tokens .entry)))) first (now (out .entry)) ⌝ }
 {
-    if bits::has(mask[0], start as usize) {
+    let nonterminal = head.start;
+    if bits::has(masks[0], nonterminal as usize) {
         let behind = [0u16; 1025];
-        fill(table, count, w, m, mask, behind, start, 0, out);
+        let from = Configuration {
+            position: 0,
+            nonterminal,
+            behind,
+        };
+        fill(table, head, tokens, closes, masks, from, out);
         return FirstAnswer::Written;
     }
     FirstAnswer::NoReading

@@ -1,11 +1,9 @@
 // The services for C and for languages that call C. Each answers one number, or a struct with the number and the counts: 0 where all went
 // well, 100 for "none", 101 for "no further", else document 01's number of the refusal.
-use calls::CallsAnswer;
 use files::GrammarCheck;
 use files::HistoryCheck;
+use service::Outcome;
 use sets::CountAnswer;
-use sets::SetsAnswer;
-use stop_marks::MarksAnswer;
 ghost use mathlib.Core.Path.{_≡_};
 ghost use lib.ListN.{length};
 ghost use Rattle.listing_model.specs.believed.Listing.{first, next};
@@ -13,11 +11,12 @@ ghost use Rattle.listing_model.specs.Calls.{callOn};
 ghost use Rattle.grammar_file.specs.believed.GrammarFile.{grammarOf};
 ghost use Rattle.history_file.specs.believed.HistoryFile.{historyOf};
 ghost use Rattle.files.specs.believed.Checks.{grammarDue, historyDue};
+ghost use Rattle.service.specs.believed.Given.{outcomeSaid};
 ghost use Rattle.readings.specs.believed.Answers.{subject};
 ghost use Rattle.calls.specs.believed.CallList.{coded, callsDue};
 ghost use Rattle.sets.specs.believed.Sets.{setsDue, countDue};
-ghost use Rattle.stop_marks.specs.believed.Stops.{marksDue};
-ghost use Rattle.gaffmedlar.specs.believed.Wire.{grammarWire, historyWire, countWire, setsWire, marksWire, callsWire};
+ghost use Rattle.stop_marks.specs.believed.StopMarks.{marksDue};
+ghost use Rattle.gaffmedlar.specs.believed.Wire.{grammarWire, historyWire, countWire, outcomeCode, outcomeWire, callsWire};
 
 // 0 and the counts of an accepted grammar; or the number of the refusal, and zeros.
 #[repr(C)]
@@ -39,6 +38,16 @@ pub struct HistoryReply {
 pub struct CountReply {
     pub answer: u8,
     pub count: u32,
+}
+
+// 0, or the number of the refusal.
+fn outcome_code(outcome: Outcome) -> u8
+    ensures { λ r. ⌜ r ≡ outcomeCode (outcomeSaid outcome) ⌝ }
+{
+    match outcome {
+        Outcome::Done => 0,
+        Outcome::Refused(k) => k,
+    }
 }
 
 #[no_mangle]
@@ -102,23 +111,15 @@ pub extern "C" fn gaffmedlar_run_calls(
 ) -> u8
     ensures { λ r. ⌜ (r, now (answers .exit), now (buffer .exit)) ≡ callsWire (callsDue (subject (now (grammar .entry)) (now (history .entry)) (length (now (buffer .entry)))) (now (calls .entry)) (now (answers .entry)) (now (buffer .entry))) ⌝ }
 {
-    let made = calls::run_calls(grammar, history, calls, answers, buffer);
-    match made {
-        CallsAnswer::Made => 0,
-        CallsAnswer::Refused(k) => k,
-    }
+    outcome_code(calls::run_calls(grammar, history, calls, answers, buffer))
 }
 
 // Writes four words for each position: the set of rules that stand there in some reading.
 #[no_mangle]
 pub extern "C" fn gaffmedlar_sets(grammar: &[u8], history: &[u8], words: &mut [u32]) -> u8
-    ensures { λ r. ⌜ (r, now (words .exit)) ≡ setsWire (setsDue (now (grammar .entry)) (now (history .entry)) (now (words .entry))) ⌝ }
+    ensures { λ r. ⌜ (r, now (words .exit)) ≡ outcomeWire (setsDue (now (grammar .entry)) (now (history .entry)) (now (words .entry))) ⌝ }
 {
-    let given = sets::sets(grammar, history, words);
-    match given {
-        SetsAnswer::Written => 0,
-        SetsAnswer::Refused(k) => k,
-    }
+    outcome_code(sets::sets(grammar, history, words))
 }
 
 // How many positions have more than one rule in their set.
@@ -139,11 +140,7 @@ pub extern "C" fn gaffmedlar_doubtful_count(grammar: &[u8], history: &[u8]) -> C
 // Writes n + 1 bytes: byte i is 1 where the first i tokens alone have a reading, else 0.
 #[no_mangle]
 pub extern "C" fn gaffmedlar_stop_marks(grammar: &[u8], history: &[u8], marks: &mut [u8]) -> u8
-    ensures { λ r. ⌜ (r, now (marks .exit)) ≡ marksWire (marksDue (now (grammar .entry)) (now (history .entry)) (now (marks .entry))) ⌝ }
+    ensures { λ r. ⌜ (r, now (marks .exit)) ≡ outcomeWire (marksDue (now (grammar .entry)) (now (history .entry)) (now (marks .entry))) ⌝ }
 {
-    let given = stop_marks::stop_marks(grammar, history, marks);
-    match given {
-        MarksAnswer::Written => 0,
-        MarksAnswer::Refused(k) => k,
-    }
+    outcome_code(stop_marks::stop_marks(grammar, history, marks))
 }

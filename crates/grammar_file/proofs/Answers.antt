@@ -1,43 +1,48 @@
 -- What the answer of `read_grammar` tells of the grammar file.
-use Prim.Native.Nat.{ℕ}
-use mathlib.Core.Path.{_≡_, refl, sym, _∙_, ap}
+use Prim.Native.Nat.{ℕ, _≤_}
+use mathlib.Core.Path.{_≡_, refl, ap}
+use mathlib.Core.List.{List}
 use native.Mathlib.Omega.{arith}
 use lib.ListN.{length}
-use Rattle.grammar_file.specs.declared.GrammarAnswer.the-variants.{Accepted, Refused}
-use Rattle.grammar_file.specs.declared.GrammarRead.{GrammarRead}
-use Rattle.grammar_file.specs.believed.GrammarFile.{GrammarFile, accepted, refused}
-use Rattle.grammar_file.specs.GrammarTable.{grammarRead}
+use Rattle.numbers.specs.believed.Number.{bytes}
+use Rattle.tables.specs.declared.Head.{Head}
 use Rattle.tables.specs.Table.{tableOf}
+use Rattle.tables.specs.Ready.{Ready, grammarIn, headOf}
+use Rattle.tables.proofs.Tables.{rules-table}
 use Rattle.vpg.specs.believed.Grammar.{Grammar}
+use Rattle.grammar_file.specs.declared.GrammarAnswer.{GrammarAnswer}
+use Rattle.grammar_file.specs.declared.GrammarAnswer.the-variants.{Accepted, Refused}
+use Rattle.grammar_file.specs.believed.GrammarFile.{GrammarFile, accepted, refused, grammarOf}
+use Rattle.grammar_file.specs.GrammarTable.{grammarRead}
+use Rattle.grammar_file.proofs.Accepted.{grammar-wellformed}
+use Rattle.grammar_file.proofs.Ready.{wellformed-ready}
 
--- an accepted file, with its counts and its table
-pub record GrammarIs (f : GrammarFile) (r : GrammarRead) (nonterminals start count : ℕ) : Type 0 where
-  pub grammar : Grammar
-  pub is : f ≡ accepted grammar
-  pub nonterminals-is : grammar .nonterminals ≡ nonterminals
-  pub start-is : grammar .start ≡ start
-  pub count-is : length (grammar .rules) ≡ count
-  pub table-is : r .table ≡ tableOf (grammar .rules)
+-- the grammar is that of its table and its head
+grammar-table : (g : Grammar) → length (g .rules) ≤ 128 → grammarIn (tableOf (g .rules)) (headOf g) ≡ g
+grammar-table g few = ap (λ rules. record { nonterminals = g .nonterminals; start = g .start; rules = rules }) (rules-table (g .rules) few)
 
-apart : {n s k e : ℕ} → Refused e ≡ Accepted n s k → ⊥
-apart h = let z : _≡_ {A = ℕ} 0 1 = cc in omega arith
+-- what an accepted file says, by the head and the table
+pub record GrammarIs (s table : List ℕ) (head : Head) : Type 0 where
+  pub is : grammarOf s ≡ accepted (grammarIn table head)
+  pub ready : Ready table head
 
-module _ {r : GrammarRead} (f : GrammarFile) (says : r ≡ grammarRead f) where
-  pub grammar-accepted : (n s k : ℕ) → r .answer ≡ Accepted n s k → GrammarIs f r n s k
-  grammar-accepted n s k h = go f says (sym (ap (λ x. x .answer) says) ∙ h)
+module _ (s : List ℕ) {r : GrammarAnswer} {table : List ℕ} (says : _≡_ {A = GrammarAnswer × List ℕ} (r, table) (grammarRead (grammarOf s))) where
+  answer-is : r ≡ grammarRead (grammarOf s) .0
+  answer-is = ap (λ (x : GrammarAnswer × List ℕ). x .0) says
+
+  pub grammar-accepted : (head : Head) → r ≡ Accepted head → GrammarIs s table head
+  grammar-accepted head h = go (grammarOf s) refl answer-is (ap (λ (x : GrammarAnswer × List ℕ). x .1) says)
     where
-      counts : {a b c : ℕ} → Accepted a b c ≡ Accepted n s k → (a ≡ n) × (b ≡ s) × (c ≡ k)
-      counts q = (cc, cc, cc)
+      go : (f : GrammarFile) → grammarOf s ≡ f → r ≡ grammarRead f .0 → table ≡ grammarRead f .1 → GrammarIs s table head
+      go (refused e) p q t = absurd (let z : _≡_ {A = ℕ} 0 1 = cc in omega arith)
+      go (accepted g) p q t =
+          let w = grammar-wellformed (bytes s) g p in
+          let e : head ≡ headOf g = cc in
+          rw (e, t) (record { is = rw (grammar-table g (w .rules-most)) p; ready = wellformed-ready g w })
 
-      go : (f : GrammarFile) → r ≡ grammarRead f → (grammarRead f) .answer ≡ Accepted n s k → GrammarIs f r n s k
-      go (accepted g) p q =
-          let e = counts q in
-          record { grammar = g; is = refl; nonterminals-is = e .0; start-is = e .1; count-is = e .2; table-is = ap (λ x. x .table) p }
-      go (refused e) p q = absurd (apart q)
-
-  pub grammar-refused : (e : ℕ) → r .answer ≡ Refused e → f ≡ refused e
-  grammar-refused e h = go f (sym (ap (λ x. x .answer) says) ∙ h)
+  pub grammar-refused : (e : ℕ) → r ≡ Refused e → grammarOf s ≡ refused e
+  grammar-refused e h = go (grammarOf s) answer-is
     where
-      go : (f : GrammarFile) → (grammarRead f) .answer ≡ Refused e → f ≡ refused e
-      go (accepted g) q = absurd (apart (sym q))
-      go (refused e′) q = let z : e′ ≡ e = cc in ap refused z
+      go : (f : GrammarFile) → r ≡ grammarRead f .0 → f ≡ refused e
+      go (accepted g) q = absurd (let z : _≡_ {A = ℕ} 0 1 = cc in omega arith)
+      go (refused k) q = let z : k ≡ e = cc in ap refused z

@@ -1,40 +1,58 @@
 -- What the answer of `read_history` tells of the history file.
-use Prim.Native.Nat.{ℕ}
-use mathlib.Core.Path.{_≡_, refl, sym, _∙_, ap}
-use mathlib.Core.List.{List}
+use Prim.Native.Nat.{ℕ, zero, suc, _-_, _<_, _≤_}
+use mathlib.Core.Path.{_≡_, refl, ap}
+use mathlib.Core.List.{List, [], _∷_, List·Memᴰ, List·Memᴰ·head, List·Memᴰ·tail}
 use native.Mathlib.Omega.{arith}
-use lib.ListN.{length}
+use lib.ListN.{length, take, getD, replicate, length-append, length-replicate}
+use lib.Seq.{take-append-seam}
+use Rattle.numbers.specs.believed.Number.{bytes}
+use Rattle.history_file.specs.declared.HistoryAnswer.{HistoryAnswer}
 use Rattle.history_file.specs.declared.HistoryAnswer.the-variants.{Accepted, Refused}
-use Rattle.history_file.specs.declared.HistoryRead.{HistoryRead}
-use Rattle.history_file.specs.believed.HistoryFile.{HistoryFile, accepted, refused}
-use Rattle.history_file.specs.HistoryTokens.{padded, historyRead}
+use Rattle.history_file.specs.believed.HistoryFile.{HistoryFile, accepted, refused, historyOf}
+use Rattle.history_file.specs.HistoryTokens.{padded, historyRead, Tokens}
+use Rattle.history_file.specs.Wellformed.{Wellformed}
+use Rattle.history_file.proofs.Accepted.{history-wellformed}
 
--- an accepted file, with its count and its token numbers
-pub record HistoryIs (f : HistoryFile) (r : HistoryRead) (count : ℕ) : Type 0 where
-  pub numbers : List ℕ
-  pub is : f ≡ accepted numbers
-  pub count-is : length numbers ≡ count
-  pub tokens-are : r .tokens ≡ padded numbers
+at-member : (ts : List ℕ) (i : ℕ) → i < length ts → List·Memᴰ (getD ts i 0) ts
+at-member [] i h = absurd (omega arith)
+at-member (t ∷ ts) zero h = List·Memᴰ·head refl
+at-member (t ∷ ts) (suc i) h = List·Memᴰ·tail (at-member ts i (omega arith))
 
-apart : {n e : ℕ} → Refused e ≡ Accepted n → ⊥
-apart h = let z : _≡_ {A = ℕ} 0 1 = cc in omega arith
+wellformed-tokens : (ts : List ℕ) → Wellformed ts → Tokens ts
+wellformed-tokens ts w = record { few = w .few; small = λ i h. omega (arith, w .tokens (getD ts i 0) (at-member ts i h) .small) }
 
-module _ {r : HistoryRead} (f : HistoryFile) (says : r ≡ historyRead f) where
-  pub history-accepted : (n : ℕ) → r .answer ≡ Accepted n → HistoryIs f r n
-  history-accepted n h = go f says (sym (ap (λ x. x .answer) says) ∙ h)
+-- what an accepted file says: the first n of the numbers
+pub record HistoryIs (s numbers : List ℕ) (n : ℕ) : Type 0 where
+  pub is : historyOf s ≡ accepted (take n numbers)
+  pub room : n ≤ length numbers
+  pub count : length (take n numbers) ≡ n
+  pub tokens : Tokens (take n numbers)
+  pub wellformed : Wellformed (take n numbers)
+
+module _ (s : List ℕ) {r : HistoryAnswer} {numbers : List ℕ} (says : _≡_ {A = HistoryAnswer × List ℕ} (r, numbers) (historyRead (historyOf s))) where
+  answer-is : r ≡ historyRead (historyOf s) .0
+  answer-is = ap (λ (x : HistoryAnswer × List ℕ). x .0) says
+
+  pub history-accepted : (n : ℕ) → r ≡ Accepted n → HistoryIs s numbers n
+  history-accepted n h = go (historyOf s) refl answer-is (ap (λ (x : HistoryAnswer × List ℕ). x .1) says)
     where
-      go : (f : HistoryFile) → r ≡ historyRead f → (historyRead f) .answer ≡ Accepted n → HistoryIs f r n
-      go (accepted ts) p q =
-          let e : length ts ≡ n = counted q in
-          record { numbers = ts; is = refl; count-is = e; tokens-are = ap (λ x. x .tokens) p }
-        where
-          counted : {a : ℕ} → Accepted a ≡ Accepted n → a ≡ n
-          counted q = cc
-      go (refused e) p q = absurd (apart q)
+      go : (f : HistoryFile) → historyOf s ≡ f → r ≡ historyRead f .0 → numbers ≡ historyRead f .1 → HistoryIs s numbers n
+      go (refused e) p q t = absurd (let z : _≡_ {A = ℕ} 0 1 = cc in omega arith)
+      go (accepted ts) p q t =
+          let w = history-wellformed (bytes s) ts p in
+          let e : n ≡ length ts = cc in
+          let front : take n numbers ≡ ts = rw (e, t) (take-append-seam ts (replicate (1024 - length ts) 0)) in
+          record {
+            is = rw front p;
+            room = rw t (simp (length-append, length-replicate) (omega arith));
+            count = rw (front, e);
+            tokens = rw front (wellformed-tokens ts w);
+            wellformed = rw front w;
+          }
 
-  pub history-refused : (e : ℕ) → r .answer ≡ Refused e → f ≡ refused e
-  history-refused e h = go f (sym (ap (λ x. x .answer) says) ∙ h)
+  pub history-refused : (e : ℕ) → r ≡ Refused e → historyOf s ≡ refused e
+  history-refused e h = go (historyOf s) answer-is
     where
-      go : (f : HistoryFile) → (historyRead f) .answer ≡ Refused e → f ≡ refused e
-      go (accepted ts) q = absurd (apart (sym q))
-      go (refused e′) q = let z : e′ ≡ e = cc in ap refused z
+      go : (f : HistoryFile) → r ≡ historyRead f .0 → f ≡ refused e
+      go (accepted ts) q = absurd (let z : _≡_ {A = ℕ} 0 1 = cc in omega arith)
+      go (refused k) q = let z : k ≡ e = cc in ap refused z

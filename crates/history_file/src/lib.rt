@@ -8,10 +8,12 @@ use vpg::Token;
 ghost use mathlib.Core.Path.{_≡_};
 ghost use mathlib.Core.List.{[]};
 ghost use Prim.Native.Nat.{_≤_, _<_};
+ghost use lib.ListN.{replicate};
 ghost use Rattle.numbers.specs.believed.Number.{numberAt, bytes};
 ghost use Rattle.history_file.specs.Refusals.{refusalOfToken};
+ghost use Rattle.history_file.specs.believed.HistoryFile;
 ghost use Rattle.history_file.specs.believed.HistoryFile.{tokenWith, tokenOf, tokenJudged, tokenAt, depthAfter, tokensFrom, historyOf};
-ghost use Rattle.history_file.specs.HistoryTokens.{refusedRead, historyRead};
+ghost use Rattle.history_file.specs.HistoryTokens.{historyRead};
 
 // At most this many tokens (refusal 10), and this many steps open together (refusal 14).
 const TOKENS: u32 = 1024;
@@ -48,16 +50,13 @@ pub fn token_of(t: u32) -> Token
     token_with(t % 4, (t / 4) as u16)
 }
 
+// The token numbers of a history; at most 1,024.
+pub type TokenNumbers = [u32; 1024];
+
 // How many tokens there are, or the refusal.
 pub enum HistoryAnswer {
-    Accepted(u16),
+    Accepted(usize),
     Refused(u8),
-}
-
-// The answer, and the token numbers with zeros behind them; a refused file has zeros alone.
-pub struct HistoryRead {
-    pub answer: HistoryAnswer,
-    pub tokens: [u32; 1024],
 }
 
 // A token number that was read, with so many steps open before it.
@@ -123,28 +122,26 @@ fn depth_after(t: u32, depth: u32) -> u32
     depth
 }
 
-fn refused(e: u8) -> HistoryRead
-    ensures { λ r. ⌜ r ≡ refusedRead e ⌝ }
+// A refused file: the token numbers are cleared again.
+fn refused(tokens: &mut TokenNumbers, e: u8) -> HistoryAnswer
+    ensures { λ r. ⌜ (r, now (tokens .exit)) ≡ historyRead (HistoryFile.refused e) ⌝ }
 {
-    let answer = HistoryAnswer::Refused(e);
-    let tokens = [0u32; 1024];
-    HistoryRead { answer, tokens }
+    *tokens = [0u32; 1024];
+    HistoryAnswer::Refused(e)
 }
 
-// The tokens that are due, from a place to the end.
-fn tokens_at(s: &[u8], from: usize, due: u16) -> HistoryRead
-    requires { ⌜ due ≤ 1024 ⌝ }
-    ensures { λ r. ⌜ r ≡ historyRead (tokensFrom (bytes (now (s .entry))) due from 0 []) ⌝ }
+// The tokens that are due, from a place to the end, into zeros.
+fn tokens_at(s: &[u8], from: usize, due: usize, tokens: &mut TokenNumbers) -> HistoryAnswer
+    requires { ⌜ (due ≤ 1024) × (now tokens ≡ replicate 1024 0) ⌝ }
+    ensures { λ r. ⌜ (r, now (tokens .exit)) ≡ historyRead (tokensFrom (bytes (now (s .entry))) due from 0 []) ⌝ }
 {
-    let n = due as usize;
-    let mut tokens = [0u32; 1024];
     let mut at = from;
     let mut depth: u32 = 0;
     let mut k: usize = 0;
-    while k < n {
+    while k < due {
         let read = token_at(s, at, depth);
         let TokenRead::Token(t, next) = read else {
-            return refused(token_refusal(read));
+            return refused(tokens, token_refusal(read));
         };
         tokens[k] = t;
         depth = depth_after(t, depth);
@@ -152,21 +149,23 @@ fn tokens_at(s: &[u8], from: usize, due: u16) -> HistoryRead
         k += 1;
     }
     if 0 < depth {
-        return refused(13);
+        return refused(tokens, 13);
     }
     if at < s.len() {
-        return refused(9);
+        return refused(tokens, 9);
     }
-    let answer = HistoryAnswer::Accepted(due);
-    HistoryRead { answer, tokens }
+    HistoryAnswer::Accepted(due)
 }
 
-pub fn read_history(s: &[u8]) -> HistoryRead
-    ensures { λ r. ⌜ r ≡ historyRead (historyOf (now (s .entry))) ⌝ }
+// Reads the file into zeros that the caller lends, which stand behind the tokens; a refused file leaves zeros alone.
+pub fn read_history(s: &[u8], tokens: &mut TokenNumbers) -> HistoryAnswer
+    requires { ⌜ now tokens ≡ replicate 1024 0 ⌝ }
+    ensures { λ r. ⌜ (r, now (tokens .exit)) ≡ historyRead (historyOf (now (s .entry))) ⌝ }
 {
     let count = numbers::field_at(s, 0, TOKENS + 1, 10);
-    let FieldRead::Field(due, at) = count else {
-        return refused(numbers::field_refusal(count));
+    let FieldRead::Field(number, at) = count else {
+        return refused(tokens, numbers::field_refusal(count));
     };
-    tokens_at(s, at, due)
+    let due = number as usize;
+    tokens_at(s, at, due, tokens)
 }

@@ -12,6 +12,7 @@ use Rattle.vpg.specs.declared.Rule.{Rule}
 use Rattle.vpg.specs.declared.Token.{Token}
 use Rattle.vpg.specs.believed.Grammar.{Rules, Grammar}
 use Rattle.vpg.specs.Runs.{Stack, move}
+use Rattle.vpg.specs.Parts.{onward, beyond, isIt}
 use Rattle.vpg.specs.Steps.{left}
 use Rattle.level_theory.specs.Masks.{Nonterminals, masks, Fits}
 use Rattle.level_theory.specs.Pending.{Closes, pendingAt}
@@ -25,15 +26,11 @@ keeps g v F R = F (left R) && testAt g v R
 
 -- does R go on with the nonterminal K
 abbrev pub goesTo : Rule → Nonterminals
-goesTo (Rule.Empty M) K = false
-goesTo (Rule.Mark M c M₁) K = eqb M₁ K
-goesTo (Rule.Step M a M₁ b M₂) K = eqb M₁ K
+goesTo R = isIt (onward R)
 
 -- does R go on with the nonterminal K behind its close
 abbrev pub returnsTo : Rule → Nonterminals
-returnsTo (Rule.Empty M) K = false
-returnsTo (Rule.Mark M c M₁) K = false
-returnsTo (Rule.Step M a M₁ b M₂) K = eqb M₂ K
+returnsTo R = isIt (beyond R)
 
 -- those with which the kept rules go on, and those behind their close
 abbrev pub going : (Rule → Bool) → Rules → Nonterminals

@@ -1,10 +1,12 @@
 -- Walking over the tokens by an array: which rules can stand at a position, and where they lead.
 use Prim.Native.Nat.{ℕ}
 use mathlib.Core.Bool.{Bool}
+use mathlib.Core.Option.{Option·getD}
 use mathlib.Core.List.{List, [], _∷_, List·Memᴰ}
 use Rattle.vpg.specs.declared.Rule.{Rule}
 use Rattle.vpg.specs.declared.Token.{Token}
 use Rattle.vpg.specs.believed.Grammar.{Rules}
+use Rattle.vpg.specs.Parts.{onward, beyond}
 use Rattle.vpg.specs.Runs.{State, runs}
 use Rattle.level_theory.specs.Masks.{applies, finishes, masks}
 
@@ -19,12 +21,8 @@ testAt g (t ∷ v) R = applies (masks g v) t R
 
 -- the nonterminal at the next position; d: the one behind the close, where the token is a close
 abbrev pub inner : Rule → ℕ → ℕ
-inner (Rule.Empty M) d = d
-inner (Rule.Mark M c M₁) d = M₁
-inner (Rule.Step M a M₁ b M₂) d = M₁
+inner R d = Option·getD (onward R) d
 
 -- the nonterminal behind the close of a step; d: what stands there already
 abbrev pub later : Rule → ℕ → ℕ
-later (Rule.Empty M) d = d
-later (Rule.Mark M c M₁) d = d
-later (Rule.Step M a M₁ b M₂) d = M₂
+later R d = Option·getD (beyond R) d

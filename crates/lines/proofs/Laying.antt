@@ -12,7 +12,8 @@ use lib.ListN.{length, take, drop, set, getD, length-set, length-append, drop-of
 use lib.Seq.{drop-cons, length-take-le, take-suc-set, drop-set-lt}
 use Rattle.io.specs.Counts.{Counts}
 use Rattle.lines.specs.declared.Cursor.{Cursor}
-use Rattle.lines.specs.believed.Laid.{Laid, put, laid, shown, window}
+use Rattle.lines.specs.Laid.{Laid, put, laid}
+use Rattle.lines.specs.believed.Window.{shown, window}
 
 pub laid-append : (p : Laid) (a b : List ℕ) → laid p (a ++ b) ≡ laid (laid p a) b
 unfolding laid

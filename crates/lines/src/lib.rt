@@ -1,7 +1,7 @@
 // The lines of a listing, written to a buffer that is a window on the text. Each answers the place behind its line.
 ghost use mathlib.Core.Path.{_≡_};
 ghost use mathlib.Core.List.{_++_, _∷_, []};
-ghost use Rattle.lines.specs.believed.Laid.{put, laid};
+ghost use Rattle.lines.specs.Laid.{put, laid};
 ghost use Rattle.lines.specs.believed.Text.{decimal, readingText, tokensLine, doubtfulLine, noneLine, readingLine, endLine, moreLine, refusedGrammarLine, refusedHistoryLine};
 
 // How many bytes of the text are still to be passed over, and where in the buffer the next one goes.

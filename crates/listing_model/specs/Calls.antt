@@ -1,4 +1,5 @@
 -- One call of first reading or next reading on the buffer alone (document 01, "Services"): what it answers and what it leaves.
+-- Law: entries-listing, entries-list-all (listing_model/proofs/Listing.antt)
 use Prim.Native.Nat.{ℕ, suc}
 use mathlib.Core.List.{List, [], _∷_, _++_}
 use mathlib.Core.Option.{none, some}

@@ -17,7 +17,7 @@ use Rattle.history_file.specs.believed.HistoryFile.{HistoryFile, historyOf, tok
 use Rattle.history_file.specs.believed.HistoryFile
 use Rattle.history_file.proofs.Accepted.{history-wellformed}
 use Rattle.numbers.specs.believed.Number.{bytes}
-use Rattle.lines.specs.believed.Laid.{shown}
+use Rattle.lines.specs.believed.Window.{shown}
 use Rattle.lines.specs.believed.Text.{decimalBy, decimal, lineEnd, numberLine, readingText, readingLine, tokensLine, doubtfulLine, tokensWord, doubtfulWord, endWord, moreWord, refusedWord, grammarWord, historyWord}
 use Rattle.listing_text.specs.believed.Listing.{listedFrom, mostListed, readingsListed, filesListed, listing}
 

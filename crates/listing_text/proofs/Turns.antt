@@ -18,7 +18,7 @@ use Rattle.files.specs.believed.Files.{accepted}
 use Rattle.service.specs.believed.Frame.{filesIn}
 use Rattle.service.proofs.Served.{served-on}
 use Rattle.readings.specs.believed.Answers.{subject}
-use Rattle.lines.specs.believed.Laid.{Laid, laid}
+use Rattle.lines.specs.Laid.{Laid, laid}
 use Rattle.lines.specs.declared.Cursor.{Cursor}
 use Rattle.lines.specs.believed.Text.{readingLine, endLine, moreLine}
 use Rattle.lines.proofs.Laying.{laid-append}

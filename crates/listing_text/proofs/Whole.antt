@@ -26,7 +26,7 @@ use Rattle.service.specs.believed.Frame.{filesIn}
 use Rattle.service.proofs.Served.{served-on}
 use Rattle.readings.specs.believed.Answers.{subject}
 use Rattle.sets.specs.believed.Sets.{counted, refused, countDue}
-use Rattle.lines.specs.believed.Laid.{Laid, laid}
+use Rattle.lines.specs.Laid.{Laid, laid}
 use Rattle.lines.proofs.Laying.{laid-both}
 use Rattle.lines.specs.believed.Text.{tokensLine, doubtfulLine, noneLine, refusedGrammarLine, refusedHistoryLine}
 use Rattle.listing_text.specs.believed.Listing.{listedFrom, mostListed, readingsListed, listing}

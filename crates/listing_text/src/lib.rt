@@ -11,7 +11,8 @@ ghost use Rattle.listing_model.specs.Calls.{callOn};
 ghost use Rattle.readings.specs.believed.Answers.{said, subject};
 ghost use Rattle.sets.specs.believed.Sets.{countDue};
 ghost use Rattle.io.specs.Counts.{Counts};
-ghost use Rattle.lines.specs.believed.Laid.{laid, window};
+ghost use Rattle.lines.specs.Laid.{laid};
+ghost use Rattle.lines.specs.believed.Window.{window};
 ghost use Rattle.listing_text.specs.believed.Listing.{listedFrom, mostListed, listing};
 ghost use Rattle.listing_text.specs.Passing.{Passing, Begun, entriesOf, isWritten, told, countIn};
 

@@ -2,7 +2,7 @@
 use Prim.Native.Nat.{ℕ, _^_, _<_}
 use native.Mathlib.Nat.{lt-of-le-of-lt}
 use mathlib.Core.Path.{_≡_, refl, sym, _∙_, ap}
-use mathlib.Core.Bool.{Bool, true, false, not, _&&_, false≢true}
+use mathlib.Core.Bool.{Bool, true, false, _&&_, false≢true}
 use mathlib.Core.List.{List}
 use borrow.Author.Tests.{eqb-true, eq-eqb}
 use lib.Bits.{bitAnd, and-le-r}
@@ -20,13 +20,15 @@ use Rattle.pair_theory.specs.Pairs.{PairState, single, markTo, overMark, openTo
 use Rattle.laws.proofs.Any.{below-some, some-below}
 use Rattle.laws.proofs.Bools.{both, eqb-refl, and-left, and-right, same-test}
 use Rattle.sets_theory.proofs.Sets.{getD-listed}
-use Rattle.tables.specs.Ready.{Below, Ready, grammarIn}
+use Rattle.tables.specs.declared.Head.{Head}
+use Rattle.tables.specs.Ready.{Below, Ready}
 use Rattle.tables.specs.Table.{ruleIn, rulesIn}
 use Rattle.pair_words.specs.declared.Pattern.{Pattern}
 use Rattle.pair_words.specs.Row.{followsBy, passes, rowAfter}
 use Rattle.pair_words.proofs.Below.{follows-below}
 use Rattle.pair_words.proofs.Gathers.{below-cong, any-rules, bit-gather, gather-below, gathers, some-member}
-use Rattle.pair_states.specs.Words.{rowsAfter, currentsOf, diagonalOf, meets, finishedOf, emptiesOf}
+use Rattle.pair_states.specs.Words.{rowsAfter, currentsOf, diagonalOf, meets, finishedOf, mayEnd, emptiesOf}
+use Rattle.pair_states.specs.Wide.{wideGrammar}
 use Rattle.pair_states.specs.Encodes.{Encodes}
 use Rattle.pair_states.proofs.Fills.{bit-currents}
 
@@ -145,57 +147,60 @@ single-encodes s = record {
       both (eq-eqb L L′ (e ∙ sym f)) (and-left (eqb L s) _ q));
 }
 
-module _ (t : List ℕ) (n start : ℕ) (ready : Ready t n) where
+module _ (t : List ℕ) (head : Head) (ready : Ready t head) where
   abbrev g : Grammar
-  g = grammarIn t n start
+  g = wideGrammar t head
+
+  abbrev n : ℕ
+  n = head .rules
 
   -- the nonterminals with an empty rule
-  bit-empties : (L : ℕ) → bit (emptiesOf t n) L ≡ any (emptyOf L) (rulesIn t n)
+  bit-empties : (L : ℕ) → bit (emptiesOf t head) L ≡ any (emptyOf L) (rulesIn t n)
   bit-empties L = gathers Pattern.Empty 4294967295 0 (emptyOf L) t n L (λ r l. empty-rule L (ruleIn t r) (ready .small r l))
 
-  empties-below : emptiesOf t n < 2 ^ 32
+  empties-below : emptiesOf t head < 2 ^ 32
   empties-below = gather-below 32 _ _ n (λ r l. follows-below Pattern.Empty (ruleIn t r) (ready .small r l))
 
-  meets-members : (a : ℕ) → meets a (emptiesOf t n) ≡ anyBelow 32 (λ L. bit a L && bit (emptiesOf t n) L)
+  meets-members : (a : ℕ) → meets a (emptiesOf t head) ≡ anyBelow 32 (λ L. bit a L && bit (emptiesOf t head) L)
   meets-members a =
-      some-member 32 (bitAnd a (emptiesOf t n)) (lt-of-le-of-lt (and-le-r a (emptiesOf t n)) empties-below)
-      ∙ below-cong 32 (bit (bitAnd a (emptiesOf t n))) (λ L. bit a L && bit (emptiesOf t n) L) (λ L l. bit-and a (emptiesOf t n) L)
+      some-member 32 (bitAnd a (emptiesOf t head)) (lt-of-le-of-lt (and-le-r a (emptiesOf t head)) empties-below)
+      ∙ below-cong 32 (bit (bitAnd a (emptiesOf t head))) (λ L. bit a L && bit (emptiesOf t head) L) (λ L l. bit-and a (emptiesOf t head) L)
 
   -- a row meets them exactly where the level from its context may be finished
-  meets-finished : (a : ℕ) (S : PairState) (L₃ : ℕ) → Members a (S L₃) → meets a (emptiesOf t n) ≡ finished g S L₃
-  meets-finished a S L₃ x = same-test (meets a (emptiesOf t n)) (finished g S L₃) forth back
+  meets-finished : (a : ℕ) (S : PairState) (L₃ : ℕ) → Members a (S L₃) → meets a (emptiesOf t head) ≡ finished g S L₃
+  meets-finished a S L₃ x = same-test (meets a (emptiesOf t head)) (finished g S L₃) forth back
     where
-      forth : meets a (emptiesOf t n) ≡ true → finished g S L₃ ≡ true
+      forth : meets a (emptiesOf t head) ≡ true → finished g S L₃ ≡ true
       forth q =
-          let s = below-some 32 (λ L. bit a L && bit (emptiesOf t n) L) (sym (meets-members a) ∙ q) in
+          let s = below-some 32 (λ L. bit a L && bit (emptiesOf t head) L) (sym (meets-members a) ∙ q) in
           let e = any-rules (emptyOf (s .number)) t n in
           let r = below-some n (λ r. emptyOf (s .number) (ruleIn t r)) (sym e ∙ sym (bit-empties (s .number)) ∙ and-right (bit a (s .number)) _ (s .passes)) in
           let pair : S L₃ (s .number) ≡ true = sym (x (s .number) (s .small)) ∙ and-left (bit a (s .number)) _ (s .passes) in
           any-rules (endsFrom S L₃) t n
           ∙ some-below n (λ r. endsFrom S L₃ (ruleIn t r)) (r .number) (r .small) (ap (endsFrom S L₃) (empty-of (s .number) (ruleIn t (r .number)) (r .passes)) ∙ pair)
 
-      back : finished g S L₃ ≡ true → meets a (emptiesOf t n) ≡ true
+      back : finished g S L₃ ≡ true → meets a (emptiesOf t head) ≡ true
       back q =
           let r = below-some n (λ r. endsFrom S L₃ (ruleIn t r)) (sym (any-rules (endsFrom S L₃) t n) ∙ q) in
           let m = ends S L₃ (ruleIn t (r .number)) (ready .small (r .number) (r .small)) (r .passes) in
           let in-row : bit a (m .current) ≡ true = x (m .current) (m .small) ∙ m .pair in
-          let empty : bit (emptiesOf t n) (m .current) ≡ true =
+          let empty : bit (emptiesOf t head) (m .current) ≡ true =
           bit-empties (m .current) ∙ any-rules (emptyOf (m .current)) t n ∙ some-below n (λ r. emptyOf (m .current) (ruleIn t r)) (r .number) (r .small) (m .passes) in
-          meets-members a ∙ some-below 32 (λ L. bit a L && bit (emptiesOf t n) L) (m .current) (m .small) (both in-row empty)
+          meets-members a ∙ some-below 32 (λ L. bit a L && bit (emptiesOf t head) L) (m .current) (m .small) (both in-row empty)
 
-  pub finished-members : (rows : List ℕ) (S : PairState) → Encodes rows S → Members (finishedOf rows (emptiesOf t n)) (finished g S)
+  pub finished-members : (rows : List ℕ) (S : PairState) → Encodes rows S → Members (finishedOf rows (emptiesOf t head)) (finished g S)
   finished-members rows S x L l =
-      bit-gather (λ k. meets (getD rows k 0) (emptiesOf t n)) (λ k. k) 32 L
-      ∙ below-at 32 (λ k. meets (getD rows k 0) (emptiesOf t n)) L l
+      bit-gather (λ k. meets (getD rows k 0) (emptiesOf t head)) (λ k. k) 32 L
+      ∙ below-at 32 (λ k. meets (getD rows k 0) (emptiesOf t head)) L l
       ∙ meets-finished (getD rows L 0) S L (λ L₂ l₂. x .at L L₂ l l₂)
 
-  pub finished-some : (rows : List ℕ) (S : PairState) → Encodes rows S → not (eqb (finishedOf rows (emptiesOf t n)) 0) ≡ anyBelow 32 (finished g S)
+  pub finished-some : (rows : List ℕ) (S : PairState) → Encodes rows S → mayEnd rows (emptiesOf t head) ≡ anyBelow 32 (finished g S)
   finished-some rows S x =
-      some-member 32 (finishedOf rows (emptiesOf t n)) (gather-below 32 _ _ 32 (λ r l. l))
-      ∙ below-cong 32 (bit (finishedOf rows (emptiesOf t n))) (finished g S) (finished-members rows S x)
+      some-member 32 (finishedOf rows (emptiesOf t head)) (gather-below 32 _ _ 32 (λ r l. l))
+      ∙ below-cong 32 (bit (finishedOf rows (emptiesOf t head))) (finished g S) (finished-members rows S x)
 
   -- (1)
-  pub mark-encodes : (c : MarkName) (rows : List ℕ) (S : PairState) → Encodes rows S → Encodes (rowsAfter (Pattern.Mark c) 0 t n rows) (overMark g c S)
+  pub mark-encodes : (c : MarkName) (rows : List ℕ) (S : PairState) → Encodes rows S → Encodes (rowsAfter (Pattern.Mark c) 0 t head rows) (overMark g c S)
   unfolding rowsAfter
   mark-encodes c rows S x = record {
     at = λ L₁ L₃ l₁ l₃.
@@ -218,11 +223,11 @@ module _ (t : List ℕ) (n start : ℕ) (ready : Ready t n) where
 
   -- (3)
   pub close-encodes : (b : CloseName) (a : OpenName) (rows saved : List ℕ) (S S₁ : PairState) → Encodes rows S → Encodes saved S₁ →
-      Encodes (rowsAfter (Pattern.Step a b) (finishedOf rows (emptiesOf t n)) t n saved) (overClose g b S S₁ a)
+      Encodes (rowsAfter (Pattern.Step a b) (finishedOf rows (emptiesOf t head)) t head saved) (overClose g b S S₁ a)
   unfolding rowsAfter
   close-encodes b a rows saved S S₁ x y = record {
     at = λ L₁ L₅ l₁ l₅.
-        ap (λ (m : ℕ). bit m L₅) (getD-listed 32 (λ k. rowAfter (Pattern.Step a b) (getD saved k 0) (finishedOf rows (emptiesOf t n)) t n) L₁ 0 l₁)
-        ∙ gathers (Pattern.Step a b) (getD saved L₁ 0) (finishedOf rows (emptiesOf t n)) (closeTo g b S S₁ a L₁ L₅) t n L₅
-        (λ r l. close-rule g b a (getD saved L₁ 0) (finishedOf rows (emptiesOf t n)) S S₁ L₁ L₅ (ruleIn t r) (ready .small r l) (λ L m. y .at L₁ L l₁ m) (finished-members rows S x));
+        ap (λ (m : ℕ). bit m L₅) (getD-listed 32 (λ k. rowAfter (Pattern.Step a b) (getD saved k 0) (finishedOf rows (emptiesOf t head)) t n) L₁ 0 l₁)
+        ∙ gathers (Pattern.Step a b) (getD saved L₁ 0) (finishedOf rows (emptiesOf t head)) (closeTo g b S S₁ a L₁ L₅) t n L₅
+        (λ r l. close-rule g b a (getD saved L₁ 0) (finishedOf rows (emptiesOf t head)) S S₁ L₁ L₅ (ruleIn t r) (ready .small r l) (λ L m. y .at L₁ L l₁ m) (finished-members rows S x));
   }

@@ -1,2 +1,3 @@
 pub mod Encodes
+pub mod Wide
 pub mod Words

@@ -7,11 +7,12 @@ use lib.Dec.{eqb}
 use lib.ListN.{getD}
 use Rattle.bits.specs.Bit.{addBit}
 use Rattle.sets_theory.specs.believed.Sets.{listed}
+use Rattle.tables.specs.declared.Head.{Head}
 use Rattle.pair_words.specs.declared.Pattern.{Pattern}
 use Rattle.pair_words.specs.Row.{gather, rowAfter}
 
-unfoldable pub rowsAfter : Pattern → ℕ → List ℕ → ℕ → List ℕ → List ℕ
-rowsAfter p done t n rows = listed 32 (λ k. rowAfter p (getD rows k 0) done t n)
+unfoldable pub rowsAfter : Pattern → ℕ → List ℕ → Head → List ℕ → List ℕ
+rowsAfter p done table head rows = listed 32 (λ k. rowAfter p (getD rows k 0) done table (head .rules))
 
 -- the current nonterminals of the first n rows
 unfoldable pub currentsOf : List ℕ → ℕ → ℕ
@@ -30,6 +31,10 @@ meets a b = not (eqb (bitAnd a b) 0)
 abbrev pub finishedOf : List ℕ → ℕ → ℕ
 finishedOf rows empties = gather (λ k. meets (getD rows k 0) empties) (λ k. k) 32
 
+-- some context may be finished
+abbrev pub mayEnd : List ℕ → ℕ → Bool
+mayEnd rows empties = not (eqb (finishedOf rows empties) 0)
+
 -- the nonterminals with an empty rule; 4294967295 is the set of all numbers below 32
-abbrev pub emptiesOf : List ℕ → ℕ → ℕ
-emptiesOf t n = rowAfter Pattern.Empty 4294967295 0 t n
+abbrev pub emptiesOf : List ℕ → Head → ℕ
+emptiesOf table head = rowAfter Pattern.Empty 4294967295 0 table (head .rules)

@@ -1,4 +1,6 @@
 // Which nonterminals follow those of a set, by the rules that a token allows: a set is a word, digit L is 1 where L is a member.
+use tables::Head;
+use tables::Table;
 use vpg::CloseName;
 use vpg::MarkName;
 use vpg::OpenName;
@@ -18,16 +20,16 @@ pub enum Pattern {
 }
 
 // A nonterminal as a digit's place.
-pub fn wide(l: u16) -> usize
-    ensures { λ r. ⌜ r ≡ l ⌝ }
+pub fn wide(nonterminal: u16) -> usize
+    ensures { λ r. ⌜ r ≡ nonterminal ⌝ }
 {
-    l as usize
+    nonterminal as usize
 }
 
-fn is_empty(p: Pattern) -> bool
-    ensures { λ r. ⌜ r ≡ emptyMatches p ⌝ }
+fn is_empty(pattern: Pattern) -> bool
+    ensures { λ r. ⌜ r ≡ emptyMatches pattern ⌝ }
 {
-    match p {
+    match pattern {
         Pattern::Empty => true,
         Pattern::Mark(_) => false,
         Pattern::Open(_) => false,
@@ -35,10 +37,10 @@ fn is_empty(p: Pattern) -> bool
     }
 }
 
-fn is_mark(p: Pattern, c: MarkName) -> bool
-    ensures { λ r. ⌜ r ≡ markMatches p c ⌝ }
+fn is_mark(pattern: Pattern, c: MarkName) -> bool
+    ensures { λ r. ⌜ r ≡ markMatches pattern c ⌝ }
 {
-    match p {
+    match pattern {
         Pattern::Empty => false,
         Pattern::Mark(d) => vpg::same_mark(c, d),
         Pattern::Open(_) => false,
@@ -46,11 +48,11 @@ fn is_mark(p: Pattern, c: MarkName) -> bool
     }
 }
 
-fn is_step(p: Pattern, done: u32, a: OpenName, l1: u16, b: CloseName) -> bool
+fn is_step(pattern: Pattern, done: u32, a: OpenName, l1: u16, b: CloseName) -> bool
     requires { ⌜ l1 < 32 ⌝ }
-    ensures { λ r. ⌜ r ≡ stepMatches p done a l1 b ⌝ }
+    ensures { λ r. ⌜ r ≡ stepMatches pattern done a l1 b ⌝ }
 {
-    match p {
+    match pattern {
         Pattern::Empty => false,
         Pattern::Mark(_) => false,
         Pattern::Open(x) => vpg::same_open(a, x),
@@ -61,21 +63,21 @@ fn is_step(p: Pattern, done: u32, a: OpenName, l1: u16, b: CloseName) -> bool
     }
 }
 
-fn matches_rule(p: Pattern, done: u32, rule: Rule) -> bool
+fn matches_rule(pattern: Pattern, done: u32, rule: Rule) -> bool
     requires { ⌜ Below 32 rule ⌝ }
-    ensures { λ r. ⌜ r ≡ matchesBy p done rule ⌝ }
+    ensures { λ r. ⌜ r ≡ matchesBy pattern done rule ⌝ }
 {
     match rule {
-        Rule::Empty(_) => is_empty(p),
-        Rule::Mark(_, c, _) => is_mark(p, c),
-        Rule::Step(_, a, l1, b, _) => is_step(p, done, a, l1, b),
+        Rule::Empty(_) => is_empty(pattern),
+        Rule::Mark(_, c, _) => is_mark(pattern, c),
+        Rule::Step(_, a, l1, b, _) => is_step(pattern, done, a, l1, b),
     }
 }
 
-fn step_follows(p: Pattern, l1: u16, l2: u16) -> usize
-    ensures { λ r. ⌜ r ≡ stepFollows p l1 l2 ⌝ }
+fn step_follows(pattern: Pattern, l1: u16, l2: u16) -> usize
+    ensures { λ r. ⌜ r ≡ stepFollows pattern l1 l2 ⌝ }
 {
-    match p {
+    match pattern {
         Pattern::Empty => wide(l1),
         Pattern::Mark(_) => wide(l1),
         Pattern::Open(_) => wide(l1),
@@ -83,43 +85,44 @@ fn step_follows(p: Pattern, l1: u16, l2: u16) -> usize
     }
 }
 
-fn follows(p: Pattern, rule: Rule) -> usize
-    ensures { λ r. ⌜ r ≡ followsBy p rule ⌝ }
+fn follows(pattern: Pattern, rule: Rule) -> usize
+    ensures { λ r. ⌜ r ≡ followsBy pattern rule ⌝ }
 {
     match rule {
         Rule::Empty(l) => wide(l),
         Rule::Mark(_, _, l1) => wide(l1),
-        Rule::Step(_, _, l1, _, l2) => step_follows(p, l1, l2),
+        Rule::Step(_, _, l1, _, l2) => step_follows(pattern, l1, l2),
     }
 }
 
-// The set m, and what follows where rule k is for a nonterminal of the row and is one of those looked for.
-fn gain(p: Pattern, row: u32, done: u32, m: u32, table: &[u16; 768], k: usize) -> u32
+// The set, and what follows where rule k is for a nonterminal of the row and is one of those looked for.
+fn gain(pattern: Pattern, row: u32, done: u32, set: u32, table: &Table, k: usize) -> u32
     requires { ⌜ (k < 128) × Below 32 (ruleIn (now table) k) ⌝ }
-    ensures { λ r. ⌜ r ≡ gained p row done m (ruleIn (now (table .entry)) k) ⌝ }
+    ensures { λ r. ⌜ r ≡ gained pattern row done set (ruleIn (now (table .entry)) k) ⌝ }
 {
     if bits::has(row, wide(tables::left_in(table, k))) {
         let rule = tables::rule_of(table, k);
-        if matches_rule(p, done, rule) {
-            return bits::with(m, follows(p, rule));
+        if matches_rule(pattern, done, rule) {
+            return bits::with(set, follows(pattern, rule));
         }
     }
-    m
+    set
 }
 
 // One row: the nonterminals that follow those of the row.
-pub fn row_after(table: &[u16; 768], count: usize, p: Pattern, row: u32, done: u32) -> u32
-    requires { ⌜ Ready (now table) count ⌝ }
-    ensures { λ r. ⌜ r ≡ rowAfter p row done (now (table .entry)) count ⌝ }
+pub fn row_after(table: &Table, head: Head, pattern: Pattern, row: u32, done: u32) -> u32
+    requires { ⌜ Ready (now table) head ⌝ }
+    ensures { λ r. ⌜ r ≡ rowAfter pattern row done (now (table .entry)) (head .rules) ⌝ }
 {
     if row == 0 {
         return 0;
     }
-    let mut m: u32 = 0;
+    let count = head.rules;
+    let mut set: u32 = 0;
     let mut k: usize = 0;
     while k < count {
-        m = gain(p, row, done, m, table, k);
+        set = gain(pattern, row, done, set, table, k);
         k += 1;
     }
-    m
+    set
 }

@@ -1,2 +1,2 @@
-pub mod Passed
-pub mod Served
+pub mod Matched
+pub mod Opens

@@ -2,7 +2,8 @@
 use Prim.Native.Nat.{ℕ, zero, suc, _+_, _-_, _*_, _<_, _≤_}
 use native.Mathlib.Numerals.{add-one}
 use native.Mathlib.Omega.{arith}
-use mathlib.Core.Path.{_≡_, refl, sym, _∙_, ap, subst}
+use mathlib.Core.Path.{_≡_, refl, sym, _∙_, ap, ap₂, subst}
+use mathlib.Core.Bool.{_&&_}
 use mathlib.Core.Logic.{_≢_}
 use mathlib.Core.List.{List, [], _∷_, _++_}
 use lib.Dec.{eqb, eqb·suc-zero}
@@ -15,12 +16,18 @@ use Rattle.vpg.specs.declared.OpenName.{OpenName}
 use Rattle.vpg.specs.declared.CloseName.{CloseName}
 use Rattle.vpg.specs.declared.Token.{Token}
 use Rattle.pair_theory.specs.Depth.{openAfter}
-use Rattle.pair_theory.specs.Pairs.{PairState, PairStack, overMark, overOpen, overClose, closed, bottom}
+use Rattle.pair_theory.specs.Pairs.{PairState, PairStack, Configuration, overMark, overOpen, overClose, closed, bottom, accepts}
+use Rattle.sets_theory.specs.believed.Sets.{one}
 use Rattle.sets_theory.proofs.Sets.{listed-cong, getD-listed}
 use Rattle.vpg.proofs.Take.{name-open}
-use Rattle.tables.specs.Ready.{grammarIn}
+use Rattle.tables.specs.declared.Head.{Head}
+use Rattle.tables.specs.Ready.{Ready}
 use Rattle.pair_states.specs.Encodes.{Encodes}
-use Rattle.stop_marks_core.specs.Stack.{blockAt, Saved, Holds, CloseHolds, StepHolds}
+use Rattle.pair_states.specs.Wide.{wideGrammar}
+use Rattle.pair_states.specs.Words.{mayEnd, emptiesOf}
+use Rattle.pair_states.proofs.Derivatives.{finished-some}
+use Rattle.stop_marks_core.specs.declared.Top.{Top}
+use Rattle.stop_marks_core.specs.Stack.{blockAt, Saved, Holds, markOf, CloseHolds, StepHolds}
 
 -- ── a block that was written ──
 
@@ -92,56 +99,63 @@ saved-bottom stack names (suc d) (y ∷ T) x = eqb·suc-zero d
 pub room : (t : Token) (a : OpenName) (d : ℕ) → t ≡ Token.Open a → openAfter t d ≤ 128 → d < 128
 room t a d e h = let l : openAfter (Token.Open a) d ≤ 128 = rw e at h in omega arith
 
+-- the marks agree
+pub mark-accepts : (table : List ℕ) (head : Head) → Ready table head → (empties : ℕ) → empties ≡ emptiesOf table head → (top : Top) (stack names : List ℕ) (x : Configuration) →
+    Holds top stack names x → markOf top empties ≡ one (accepts (wideGrammar table head) x)
+mark-accepts table head ready empties e top stack names x h =
+    ap one (ap₂ _&&_ (saved-bottom stack names (top .depth) (x .1) (h .saved)) (ap (mayEnd (top .rows)) e ∙ finished-some table head ready (top .rows) (x .0) (h .state)))
+
 -- over a close
-module _ (t : List ℕ) (n : ℕ) (rows : List ℕ) (stack names : List ℕ) (b : CloseName) where
-  pub closed-step : (depth : ℕ) (rows′ : List ℕ) → depth ≢ 0 →
-      ((start : ℕ) (S S₁ : PairState) → Encodes rows S → Encodes (blockAt stack (depth - 1)) S₁ →
-      Encodes rows′ (overClose (grammarIn t n start) b S S₁ (record { 0 = getD names (depth - 1) 0 }))) →
-      CloseHolds t n b rows depth stack names rows′ (depth - 1)
-  closed-step zero rows′ more f = absurd (more refl)
-  closed-step (suc d) rows′ more f = record { holds = λ start x h. go start (x .0) (x .1) (h .state) (h .saved); steps-open = refl }
+module _ (table : List ℕ) (head : Head) (stack names : List ℕ) (b : CloseName) where
+  -- the words after the close of step d
+  abbrev Back : List ℕ → ℕ → List ℕ → Type 0
+  Back rows d rows′ =
+      (S S₁ : PairState) → Encodes rows S → Encodes (blockAt stack d) S₁ → Encodes rows′ (overClose (wideGrammar table head) b S S₁ (record { 0 = getD names d 0 }))
+
+  pub closed-step : (top : Top) (rows′ : List ℕ) → top .depth ≢ 0 → Back (top .rows) (top .depth - 1) rows′ →
+      CloseHolds table head b top stack names (record { rows = rows′; depth = top .depth - 1 })
+  closed-step top rows′ more f = record { holds = λ x h. go (top .depth) more f (x .0) (x .1) (h .state) (h .saved); steps-open = refl }
     where
-      go : (start : ℕ) (S : PairState) (T : PairStack) → Encodes rows S → Saved stack names (suc d) T → Holds rows′ (suc d - 1) stack names (closed (grammarIn t n start) b S T)
-      go start S [] x y = absurd y
-      go start S (p ∷ T) x y =
+      go : (d : ℕ) → d ≢ 0 → Back (top .rows) (d - 1) rows′ → (S : PairState) (T : PairStack) → Encodes (top .rows) S → Saved stack names d T →
+          Holds (record { rows = rows′; depth = d - 1 }) stack names (closed (wideGrammar table head) b S T)
+      go zero more f S T x y = absurd (more refl)
+      go (suc d) more f S [] x y = absurd y
+      go (suc d) more f S (p ∷ T) x y =
           let e : suc d - 1 ≡ d = omega arith in
           let a : record { 0 = getD names (suc d - 1) 0 } ≡ p .1 = name-open (ap (λ (k : ℕ). getD names k 0) e ∙ y .1) in
           record {
-            state = subst (λ (o : OpenName). Encodes rows′ (overClose (grammarIn t n start) b S (p .0) o)) a
-                (f start S (p .0) x (subst (λ (k : ℕ). Encodes (blockAt stack k) (p .0)) (sym e) (y .0)));
+            state = subst (λ (o : OpenName). Encodes rows′ (overClose (wideGrammar table head) b S (p .0) o)) a
+                (f S (p .0) x (subst (λ (k : ℕ). Encodes (blockAt stack k) (p .0)) (sym e) (y .0)));
             saved = subst (λ (k : ℕ). Saved stack names k T) (sym e) (y .2);
           }
 
   -- with no step open
-  pub closed-none : (depth : ℕ) → depth ≡ 0 → CloseHolds t n b rows depth stack names (replicate 32 0) 0
-  closed-none depth none = record { holds = λ start x h. go start (x .0) (x .1) (subst (λ (d : ℕ). Saved stack names d (x .1)) none (h .saved)); steps-open = rw none }
+  pub closed-none : (top : Top) → top .depth ≡ 0 → CloseHolds table head b top stack names (record { rows = replicate 32 0; depth = 0 })
+  closed-none top none = record { holds = λ x h. go (x .0) (x .1) (subst (λ (d : ℕ). Saved stack names d (x .1)) none (h .saved)); steps-open = rw none }
     where
-      go : (start : ℕ) (S : PairState) (T : PairStack) → Saved stack names 0 T → Holds (replicate 32 0) 0 stack names (closed (grammarIn t n start) b S T)
-      go start S [] y = record { state = record { at = λ L₁ L₂ l₁ l₂. ap (λ (m : ℕ). bit m L₂) (getD-replicate 32 L₁ 0 0 l₁) ∙ bit-zero L₂ }; saved = tt }
-      go start S (p ∷ T) y = absurd y
+      go : (S : PairState) (T : PairStack) → Saved stack names 0 T → Holds (record { rows = replicate 32 0; depth = 0 }) stack names (closed (wideGrammar table head) b S T)
+      go S [] y = record { state = record { at = λ L₁ L₂ l₁ l₂. ap (λ (m : ℕ). bit m L₂) (getD-replicate 32 L₁ 0 0 l₁) ∙ bit-zero L₂ }; saved = tt }
+      go S (p ∷ T) y = absurd y
 
 -- over each kind of token
-module _ (t : List ℕ) (n : ℕ) (rows : List ℕ) (depth : ℕ) (stack names : List ℕ) (long : length stack ≡ 4096) (long′ : length names ≡ 128) where
-  -- over a mark
-  pub mark-step : (c : MarkName) (rows′ : List ℕ) → ((start : ℕ) (S : PairState) → Encodes rows S → Encodes rows′ (overMark (grammarIn t n start) c S)) →
-      StepHolds t n (Token.Mark c) rows depth stack names rows′ depth stack names
-  mark-step c rows′ f = record { holds = λ start x h. record { state = f start (x .0) (h .state); saved = h .saved }; steps-open = refl; stack-size = long; names-size = long′ }
+module _ (table : List ℕ) (head : Head) (top : Top) (stack names : List ℕ) (long : length stack ≡ 4096) (long′ : length names ≡ 128) where
+  pub mark-step : (c : MarkName) (rows′ : List ℕ) → ((S : PairState) → Encodes (top .rows) S → Encodes rows′ (overMark (wideGrammar table head) c S)) →
+      StepHolds table head (Token.Mark c) top stack names (record { rows = rows′; depth = top .depth }) stack names
+  mark-step c rows′ f = record { holds = λ x h. record { state = f (x .0) (h .state); saved = h .saved }; steps-open = refl; stack-size = long; names-size = long′ }
 
-  -- over an open
-  pub open-step : (a : OpenName) (rows′ : List ℕ) → depth < 128 → 32 ≤ length rows →
-      ((start : ℕ) (S : PairState) → Encodes rows S → Encodes rows′ (overOpen (grammarIn t n start) a S)) →
-      StepHolds t n (Token.Open a) rows depth stack names rows′ (depth + 1) (paste stack (depth * 32) rows 32) (set names depth (a .0))
+  pub open-step : (a : OpenName) (rows′ : List ℕ) → top .depth < 128 → 32 ≤ length (top .rows) →
+      ((S : PairState) → Encodes (top .rows) S → Encodes rows′ (overOpen (wideGrammar table head) a S)) →
+      StepHolds table head (Token.Open a) top stack names (record { rows = rows′; depth = top .depth + 1 }) (paste stack (top .depth * 32) (top .rows) 32) (set names (top .depth) (a .0))
   open-step a rows′ more all f = record {
-    holds = λ start x h. record {
-      state = f start (x .0) (h .state);
-      saved = subst (λ (d : ℕ). Saved (paste stack (depth * 32) rows 32) (set names depth (a .0)) d ((x .0, a) ∷ x .1)) (sym (add-one depth))
-          (pushed stack names rows depth (x .0) a (x .1) (omega arith) all (omega arith) (h .state) (h .saved));
+    holds = λ x h. record {
+      state = f (x .0) (h .state);
+      saved = subst (λ (d : ℕ). Saved (paste stack (top .depth * 32) (top .rows) 32) (set names (top .depth) (a .0)) d ((x .0, a) ∷ x .1)) (sym (add-one (top .depth)))
+          (pushed stack names (top .rows) (top .depth) (x .0) a (x .1) (omega arith) all (omega arith) (h .state) (h .saved));
     };
     steps-open = refl;
-    stack-size = length-paste stack (depth * 32) rows 32 (omega arith) all ∙ long;
-    names-size = length-set names depth (a .0) ∙ long′;
+    stack-size = length-paste stack (top .depth * 32) (top .rows) 32 (omega arith) all ∙ long;
+    names-size = length-set names (top .depth) (a .0) ∙ long′;
   }
 
-  pub close-step : (b : CloseName) (rows′ : List ℕ) (depth′ : ℕ) → CloseHolds t n b rows depth stack names rows′ depth′ →
-      StepHolds t n (Token.Close b) rows depth stack names rows′ depth′ stack names
-  close-step b rows′ depth′ h = record { holds = h .holds; steps-open = h .steps-open; stack-size = long; names-size = long′ }
+  pub close-step : (b : CloseName) (top′ : Top) → CloseHolds table head b top stack names top′ → StepHolds table head (Token.Close b) top stack names top′ stack names
+  close-step b top′ h = record { holds = h .holds; steps-open = h .steps-open; stack-size = long; names-size = long′ }

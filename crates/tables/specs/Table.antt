@@ -1,4 +1,5 @@
 -- A table of numbers, six to a rule: the form, the fields in file order, and zeros.
+-- Law: earlier-is (tables/proofs/Earlier.antt)
 use Prim.Native.Nat.{ℕ, zero, suc, _+_, _*_}
 use mathlib.Core.List.{List, [], _∷_, _++_}
 use mathlib.Core.Bool.{Bool, true, false, cond, _&&_, _||_}

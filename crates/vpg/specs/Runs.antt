@@ -1,5 +1,7 @@
--- All readings of a token list in ascending order, by a search from left to right. Nobody has to believe this:
--- `entries-readings`, `entries-ascending` and `entries-only` of proofs/ say what `entries` is.
+-- All readings of a token list in ascending order, by a search from left to right.
+-- Law: entries-readings (vpg/proofs/Sound.antt)
+-- Law: entries-ascending (vpg/proofs/Ascends.antt)
+-- Law: entries-only (vpg/proofs/Entries.antt)
 use Prim.Native.Nat.{ℕ, suc}
 use mathlib.Core.Bool.{Bool, true, false, _&&_}
 use mathlib.Core.List.{List, [], _∷_, _++_, map}

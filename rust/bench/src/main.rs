@@ -9,9 +9,9 @@ mod clock;
 mod plain;
 mod plot;
 
+use frames::{grammar_file, history_file, Rule, Token, G};
 use gaffmedlar::raw;
 use plot::{svg, Line, Panel};
-use reference::{Rule, Token};
 use std::fmt::Write;
 use std::hint::black_box;
 use std::path::PathBuf;
@@ -45,57 +45,6 @@ struct Files {
     grammar: Vec<u8>,
     history: Vec<u8>,
 }
-
-fn put_number(number: usize, out: &mut Vec<u8>) {
-    if number >= 128 {
-        out.push((number % 128) as u8 | 128);
-        out.push((number / 128) as u8);
-    } else {
-        out.push(number as u8);
-    }
-}
-
-fn grammar_file(stages: usize, rules: &[Rule]) -> Vec<u8> {
-    let mut out = Vec::new();
-    put_number(stages, &mut out);
-    put_number(rules.len(), &mut out);
-    for rule in rules {
-        let fields = match *rule {
-            Rule::Ends { from } => vec![0, from],
-            Rule::Marks { from, mark, then } => vec![1, from, mark, then],
-            Rule::Steps {
-                from,
-                open,
-                inside,
-                close,
-                then,
-            } => vec![2, from, open, inside, close, then],
-        };
-        for field in fields {
-            put_number(field.into(), &mut out);
-        }
-    }
-    out
-}
-
-fn history_file(tokens: &[Token]) -> Vec<u8> {
-    let mut out = Vec::new();
-    put_number(tokens.len(), &mut out);
-    for token in tokens {
-        let number = match *token {
-            Token::Mark(name) => 4 * name,
-            Token::Open(name) => 4 * name + 1,
-            Token::Close(name) => 4 * name + 2,
-        };
-        put_number(number.into(), &mut out);
-    }
-    out
-}
-
-/// Document 01's grammar G: each step has two readings.
-const G: [u8; 28] = [
-    3, 7, 0, 0, 2, 0, 0, 1, 0, 0, 2, 0, 0, 2, 0, 0, 1, 1, 0, 1, 0, 1, 1, 2, 0, 2, 0, 2,
-];
 
 fn steps(count: usize) -> Vec<u8> {
     let step = [Token::Open(0), Token::Mark(0), Token::Close(0)];

@@ -1,6 +1,7 @@
 //! The algorithms of the proved library in plain Rust: backward the stages that derive the rest of each level, forward
 //! the readings and the sets; stop marks by pair states. Answers are numbers as in include/gaffmedlar.h.
-use reference::{parse_grammar, parse_history, Grammar, Rule, Token, NO_FURTHER, NO_READING};
+use frames::{Rule, Token};
+use reference::{parse_grammar, parse_history, Grammar, NO_FURTHER, NO_READING};
 
 struct Read {
     rules: Vec<Rule>,

@@ -2,78 +2,11 @@
 //! is needed.
 use crate::case::Case;
 use crate::random::Random;
+use frames::{
+    grammar_file, grammar_numbers, history_file, history_numbers, numbers_file, Rule, Token, G,
+};
 use reference::big::Big;
-use reference::{Rule, Token, Work};
-
-/// A number in groups of seven bits, lowest first, in the shortest form.
-pub fn put_number(number: usize, out: &mut Vec<u8>) {
-    let mut left = number;
-    while left >= 128 {
-        out.push((left % 128) as u8 | 128);
-        left /= 128;
-    }
-    out.push(left as u8);
-}
-
-fn put_numbers(numbers: &[usize]) -> Vec<u8> {
-    let mut out = Vec::new();
-    for &number in numbers {
-        put_number(number, &mut out);
-    }
-    out
-}
-
-pub fn grammar_numbers(stages: usize, rules: &[Rule]) -> Vec<usize> {
-    let mut numbers = vec![stages, rules.len()];
-    for rule in rules {
-        match *rule {
-            Rule::Ends { from } => numbers.extend([0, from.into()]),
-            Rule::Marks { from, mark, then } => {
-                numbers.extend([1, from.into(), mark.into(), then.into()])
-            }
-            Rule::Steps {
-                from,
-                open,
-                inside,
-                close,
-                then,
-            } => numbers.extend([
-                2,
-                from.into(),
-                open.into(),
-                inside.into(),
-                close.into(),
-                then.into(),
-            ]),
-        }
-    }
-    numbers
-}
-
-pub fn history_numbers(tokens: &[Token]) -> Vec<usize> {
-    let mut numbers = vec![tokens.len()];
-    numbers.extend(tokens.iter().map(|token| match *token {
-        Token::Mark(name) => 4 * usize::from(name),
-        Token::Open(name) => 4 * usize::from(name) + 1,
-        Token::Close(name) => 4 * usize::from(name) + 2,
-    }));
-    numbers
-}
-
-/// The bytes of a grammar file.
-pub fn grammar_file(stages: usize, rules: &[Rule]) -> Vec<u8> {
-    put_numbers(&grammar_numbers(stages, rules))
-}
-
-/// The bytes of a history file.
-pub fn history_file(tokens: &[Token]) -> Vec<u8> {
-    put_numbers(&history_numbers(tokens))
-}
-
-/// Document 01's grammar G.
-pub const G: [u8; 28] = [
-    3, 7, 0, 0, 2, 0, 0, 1, 0, 0, 2, 0, 0, 2, 0, 0, 1, 1, 0, 1, 0, 1, 1, 2, 0, 2, 0, 2,
-];
+use reference::Work;
 
 /// How large a grammar and its history get.
 struct Size {
@@ -290,7 +223,7 @@ impl Maker<'_> {
         if damaged && self.random.percent(60) {
             self.damage_numbers(&mut numbers);
         }
-        let mut bytes = put_numbers(&numbers);
+        let mut bytes = numbers_file(&numbers);
         if damaged && self.random.percent(60) {
             for _ in 0..self.random.within(1, 2) {
                 self.damage_bytes(&mut bytes);

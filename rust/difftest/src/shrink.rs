@@ -1,9 +1,10 @@
 //! Makes a case smaller as long as both sides still differ on it.
 use crate::case::{compare, Case, Fault};
-use crate::make::{grammar_file, history_file, tokens_without};
+use crate::make::tokens_without;
+use frames::{grammar_file, history_file, Token};
 use reference::big::Big;
 use reference::files::partners;
-use reference::{parse_grammar, parse_history, Token, Work};
+use reference::{parse_grammar, parse_history, Work};
 use std::time::{Duration, Instant};
 
 /// At most this long.

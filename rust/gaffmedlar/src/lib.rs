@@ -1,6 +1,6 @@
 //! Reads edit histories by a visibly pushdown grammar.
 //!
-//! Every function here calls one proved service of the archive `libcapi.a` and turns its number into an enum. The files
+//! Every function here calls one proved service of the archive `libgaffmedlar.a` and turns its number into an enum. The files
 //! are byte strings of any content; a file or a buffer that does not pass is answered by a [`Refusal`], and then no
 //! element of a lent buffer changes. README.md says what the two files hold.
 //!
@@ -191,7 +191,9 @@ pub enum CallAnswer {
 /// The archive gave a number that its promises rule out: another archive was linked.
 #[cold]
 fn foreign(number: u8) -> ! {
-    panic!("libcapi.a answered {number}, which no promise allows: was another archive linked?")
+    panic!(
+        "libgaffmedlar.a answered {number}, which no promise allows: was another archive linked?"
+    )
 }
 
 fn refusal(number: u8) -> Refusal {
@@ -341,11 +343,7 @@ pub mod raw {
 #[cfg(test)]
 mod tests {
     use super::*;
-
-    /// Document 01's grammar G.
-    const G: [u8; 28] = [
-        3, 7, 0, 0, 2, 0, 0, 1, 0, 0, 2, 0, 0, 2, 0, 0, 1, 1, 0, 1, 0, 1, 1, 2, 0, 2, 0, 2,
-    ];
+    use frames::G;
 
     #[test]
     fn numbers_and_words() {

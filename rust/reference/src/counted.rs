@@ -1,6 +1,7 @@
 //! Readings counted, not written down: how many there are, the place of one in the order, and the one at a place.
 use crate::big::Big;
-use crate::files::{partners, Grammar, Rule, Token};
+use crate::files::{partners, Grammar};
+use frames::{Rule, Token};
 use std::cell::RefCell;
 use std::collections::{HashMap, HashSet};
 use std::rc::Rc;

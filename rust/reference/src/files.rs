@@ -1,41 +1,10 @@
-//! The two files.
-
-/// One rule. Stages and names are kept as they stand in the file.
-#[derive(Clone, Copy, Debug, PartialEq, Eq)]
-pub enum Rule {
-    /// Form 0: L becomes nothing.
-    Ends { from: u16 },
-    /// Form 1: L becomes mark c, then L1.
-    Marks { from: u16, mark: u16, then: u16 },
-    /// Form 2: L becomes open a, L1, close b, then L2.
-    Steps {
-        from: u16,
-        open: u16,
-        inside: u16,
-        close: u16,
-        then: u16,
-    },
-}
-
-impl Rule {
-    pub fn from(&self) -> u16 {
-        match *self {
-            Rule::Ends { from } | Rule::Marks { from, .. } | Rule::Steps { from, .. } => from,
-        }
-    }
-}
+//! The two files, read. Rules and tokens are those that the tests write files of; the reader is this crate's own.
+use frames::{Rule, Token};
 
 #[derive(Clone, Debug, PartialEq, Eq)]
 pub struct Grammar {
     pub stages: u16,
     pub rules: Vec<Rule>,
-}
-
-#[derive(Clone, Copy, Debug, PartialEq, Eq)]
-pub enum Token {
-    Mark(u16),
-    Open(u16),
-    Close(u16),
 }
 
 /// The bytes that have not been read yet.

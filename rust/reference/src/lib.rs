@@ -12,7 +12,7 @@ pub mod listed;
 pub mod marks;
 pub mod services;
 
-pub use files::{parse_grammar, parse_history, Grammar, Rule, Token};
+pub use files::{parse_grammar, parse_history, Grammar};
 pub use services::{grammar_check, history_check, Work};
 
 /// "none".

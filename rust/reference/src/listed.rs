@@ -1,5 +1,6 @@
 //! Every reading written down, by recursion over the history.
-use crate::files::{partners, Grammar, Rule, Token};
+use crate::files::{partners, Grammar};
+use frames::{Rule, Token};
 use std::collections::HashMap;
 use std::rc::Rc;
 

@@ -1,5 +1,6 @@
 //! Stop marks: each beginning of the history is recognised by itself.
-use crate::files::{partners, Grammar, Rule, Token};
+use crate::files::{partners, Grammar};
+use frames::{Rule, Token};
 use std::collections::HashMap;
 
 /// For each i from 0 to n whether the first i tokens alone have a reading.

@@ -254,10 +254,7 @@ impl Served {
 #[cfg(test)]
 mod tests {
     use super::*;
-
-    const G: [u8; 28] = [
-        3, 7, 0, 0, 2, 0, 0, 1, 0, 0, 2, 0, 0, 2, 0, 0, 1, 1, 0, 1, 0, 1, 1, 2, 0, 2, 0, 2,
-    ];
+    use frames::{history_file, Token, G};
 
     fn all(history: &[u8]) -> (Vec<Vec<u8>>, Vec<u8>, u32) {
         let work = Work::new(&G, history);
@@ -319,10 +316,7 @@ mod tests {
         full[0] = 129;
         assert_eq!(history_check(&full), Err(10));
         let nested = |deep: usize| {
-            let mut bytes = vec![(2 * deep % 128) as u8 | 128, (2 * deep / 128) as u8];
-            bytes.extend(vec![1; deep]);
-            bytes.extend(vec![2; deep]);
-            bytes
+            history_file(&[vec![Token::Open(0); deep], vec![Token::Close(0); deep]].concat())
         };
         assert_eq!(history_check(&nested(128)), Ok(256));
         assert_eq!(history_check(&nested(129)), Err(14));

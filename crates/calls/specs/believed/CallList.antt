@@ -5,7 +5,8 @@ use mathlib.Core.List.{List, [], _∷_, _++_, map}
 use lib.Dec.{eqb, ltb}
 use lib.ListN.{length, drop}
 use Rattle.listing_model.specs.believed.Listing.{Call, first, next, Answer, written, no-reading, no-further, refused, Subject, start, model, shows, trace}
-use Rattle.calls.specs.declared.CallsAnswer.{CallsAnswer}
+use Rattle.service.specs.believed.Given.{Given}
+use Rattle.service.specs.believed.Given as service
 
 -- an answer as a number; refusals are 1 to 16
 abbrev pub codeOf : Answer → ℕ
@@ -37,16 +38,8 @@ modelAnswers x cs buf = map (λ p. codeOf (p .0)) (trace (model x) cs (start x b
 abbrev pub modelBuffer : Subject → List Call → List ℕ → List ℕ
 modelBuffer x cs buf = shows x buf (final (trace (model x) cs (start x buf)) (start x buf))
 
-pub data Outcome : Type 0 where
-  made : Outcome
-  refused-by : ℕ → Outcome
-
-abbrev pub callsSaid : CallsAnswer → Outcome
-callsSaid CallsAnswer.Made = made
-callsSaid (CallsAnswer.Refused k) = refused-by k
-
 -- all calls made, by the model; or nothing done where the answers have no room (15)
-abbrev pub callsDue : Subject → List ℕ → List ℕ → List ℕ → Outcome × List ℕ × List ℕ
+abbrev pub callsDue : Subject → List ℕ → List ℕ → List ℕ → Given Unit × List ℕ × List ℕ
 callsDue x kinds answers buf =
-    cond (ltb (length answers) (length kinds)) (refused-by 15, answers, buf)
-    (made, modelAnswers x (callsOf kinds) buf ++ drop (length kinds) answers, modelBuffer x (callsOf kinds) buf)
+    cond (ltb (length answers) (length kinds)) (service.refused 15, answers, buf)
+    (service.written, modelAnswers x (callsOf kinds) buf ++ drop (length kinds) answers, modelBuffer x (callsOf kinds) buf)

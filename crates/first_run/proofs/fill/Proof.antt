@@ -10,40 +10,40 @@ use Rattle.first_run.proofs.fill.Statement.{statement}
 use Rattle.first_run.proofs.fill.Tie as tie
 
 abbrev Inv-loop : tie.InvT-loop
-Inv-loop table count w m mask l0 from out₀ due₀ l₀ p₀ out due l p = Going table count w l0 from due₀ out₀ out due l p
+Inv-loop table head tokens closes masks out₀ due₀ nonterminal₀ p₀ out due nonterminal p = Going table head tokens (record { position = p₀; nonterminal = nonterminal₀; behind = due₀ }) out₀ out due nonterminal p
 
 abbrev μ-loop : tie.MeasureT-loop
-μ-loop table count w m mask l0 from out₀ due₀ l₀ p₀ out due l p = length w - p
+μ-loop table head tokens closes masks out₀ due₀ nonterminal₀ p₀ out due nonterminal p = length tokens - p
 
 loop-holds : tie.Need-loop-holds Inv-loop μ-loop
 loop-holds c =
-    let s = c .before .before in
+    let s = c .before .before .before in
     let a = s .args in
-    going-start (s .pre .0) (a .l0) (a .from) (a .behind) (a .out .now) (s .pre .1 .0 .1) (s .pre .1 .0 .0) (search needs) (s .pre .1 .1)
+    going-start (s .pre .0) (a .from) (a .out .now) (s .pre .1 .0 .2) (s .pre .1 .0 .0) (s .pre .1 .0 .1) (s .pre .1 .1)
 
 context-at-requires : tie.Need-context-at-requires Inv-loop μ-loop
 context-at-requires c κs =
     let l = c .before in
-    let s = l .before .before .before in
+    let s = l .before .before .before .before in
     (s .pre .0 .tokens, (omega arith, s .pre .0 .matched))
 
 smallest-requires : tie.Need-smallest-requires Inv-loop μ-loop
 smallest-requires c κs =
-    c .before .before .before .before .before .pre .0 .ready
+    c .before .before .before .before .before .before .pre .0 .ready
 
 six-in-requires : tie.Need-six-in-requires Inv-loop μ-loop
 six-in-requires c κs =
     let l = c .before .before .before in
-    let s = l .before .before .before in
+    let s = l .before .before .before .before in
     let a = s .args in
-    omega (arith, s .pre .0 .ready .few, found-rule (s .pre .0) (a .l0) (a .from) (a .behind) (a .out .now) (s .pre .1 .0 .1) (l .loop .inv) (c .before .context-at .result) (c .before .context-at .ensures) (c .smallest .result) (c .smallest .ensures))
+    omega (arith, s .pre .0 .ready .few, found-rule (s .pre .0) (a .from) (a .out .now) (s .pre .1 .0 .2) (l .loop .inv) (c .before .context-at .result) (c .before .context-at .ensures) (c .smallest .result) (c .smallest .ensures))
 
 cast-out : tie.Need-cast-out Inv-loop μ-loop
 cast-out c =
     let l = c .before .before .before .before in
-    let s = l .before .before .before in
+    let s = l .before .before .before .before in
     let a = s .args in
-    omega (arith, s .pre .0 .ready .few, found-rule (s .pre .0) (a .l0) (a .from) (a .behind) (a .out .now) (s .pre .1 .0 .1) (l .loop .inv) (c .before .before .context-at .result) (c .before .before .context-at .ensures) (c .before .smallest .result) (c .before .smallest .ensures))
+    omega (arith, s .pre .0 .ready .few, found-rule (s .pre .0) (a .from) (a .out .now) (s .pre .1 .0 .2) (l .loop .inv) (c .before .before .context-at .result) (c .before .before .context-at .ensures) (c .before .smallest .result) (c .before .smallest .ensures))
 
 slice-write-out : tie.Need-slice-write-out Inv-loop μ-loop
 slice-write-out c = search needs
@@ -57,13 +57,13 @@ element-copy-out-j c = search needs
 mul-inner-of : tie.Need-mul-inner-of Inv-loop μ-loop
 mul-inner-of c =
     let l = c .before .before .before .before .before in
-    let s = l .before .before .before in
+    let s = l .before .before .before .before in
     omega (arith, s .pre .0 .tokens .few)
 
 array-read-inner-of : tie.Need-array-read-inner-of Inv-loop μ-loop
 array-read-inner-of c =
     let l = c .before .before .before .before .before in
-    let s = l .before .before .before in
+    let s = l .before .before .before .before in
     omega (arith, s .pre .0 .tokens .few)
 
 inner-of-requires : tie.Need-inner-of-requires Inv-loop μ-loop
@@ -72,11 +72,13 @@ inner-of-requires c κs = search needs
 store-later-requires : tie.Need-store-later-requires Inv-loop μ-loop
 store-later-requires c κs =
     let l = c .before .before .before .before .before .before .before in
-    let s = l .before .before .before in
+    let s = l .before .before .before .before in
     (l .loop .inv .room, close-room (s .pre .0) (l .loop .p) (omega arith))
 
 add-p : tie.Need-add-p Inv-loop μ-loop
-add-p c = search needs
+add-p c =
+    let l = c .before .before .before .before .before .before .before .before in
+    omega (arith, l .before .before .before .before .pre .0 .tokens .few)
 
 loop-less : tie.Need-loop-less Inv-loop μ-loop
 loop-less c = search needs
@@ -85,30 +87,30 @@ loop-again : tie.Need-loop-again Inv-loop μ-loop
 unfolding ruleIn
 loop-again c =
     let l = c .before .before .before .before .before .before .before .before in
-    let s = l .before .before .before in
+    let s = l .before .before .before .before in
     let a = s .args in
     let k = l .loop .inv in
     let context = c .before .before .before .before .before .before .context-at in
     let r = c .before .before .before .before .before .smallest in
     rw (c .store-later .ensures, c .before .before .inner-of .ensures, c .before .before .before .before .six-in .ensures)
-    (going-next (s .pre .0) (a .l0) (a .from) (a .behind) (a .out .now) (s .pre .1 .0 .1) k (context .result) (context .ensures) (r .result) (r .ensures) (c .before .before .before .before .before .before .before .loop-test .taken))
+    (going-next (s .pre .0) (a .from) (a .out .now) (s .pre .1 .0 .2) k (context .result) (context .ensures) (r .result) (r .ensures) (c .before .before .before .before .before .before .before .loop-test .taken))
 
 context-at-requires-2 : tie.Need-context-at-requires-2 Inv-loop μ-loop
 context-at-requires-2 c κs =
     let l = c .before in
-    let s = l .before .before .before in
+    let s = l .before .before .before .before in
     (s .pre .0 .tokens, (omega arith, s .pre .0 .matched))
 
 smallest-requires-2 : tie.Need-smallest-requires-2 Inv-loop μ-loop
 smallest-requires-2 c κs =
-    c .before .before .before .before .before .pre .0 .ready
+    c .before .before .before .before .before .before .pre .0 .ready
 
 cast-out-2 : tie.Need-cast-out-2 Inv-loop μ-loop
 cast-out-2 c =
     let l = c .before .before .before in
-    let s = l .before .before .before in
+    let s = l .before .before .before .before in
     let a = s .args in
-    omega (arith, s .pre .0 .ready .few, found-rule (s .pre .0) (a .l0) (a .from) (a .behind) (a .out .now) (s .pre .1 .0 .1) (l .loop .inv) (c .before .context-at2 .result) (c .before .context-at2 .ensures) (c .smallest2 .result) (c .smallest2 .ensures))
+    omega (arith, s .pre .0 .ready .few, found-rule (s .pre .0) (a .from) (a .out .now) (s .pre .1 .0 .2) (l .loop .inv) (c .before .context-at2 .result) (c .before .context-at2 .ensures) (c .smallest2 .result) (c .smallest2 .ensures))
 
 slice-write-out-2 : tie.Need-slice-write-out-2 Inv-loop μ-loop
 slice-write-out-2 c = search needs
@@ -119,9 +121,9 @@ same-length c = search needs
 returns : tie.Need-returns Inv-loop μ-loop
 returns c =
     let l = c .before .before .before in
-    let s = l .before .before .before in
+    let s = l .before .before .before .before in
     let a = s .args in
-    going-end (s .pre .0) (a .l0) (a .from) (a .behind) (a .out .now) (s .pre .1 .0 .1) (l .loop .inv) (c .before .context-at2 .result) (c .before .context-at2 .ensures) (c .smallest2 .result) (c .smallest2 .ensures) (omega arith)
+    going-end (s .pre .0) (a .from) (a .out .now) (s .pre .1 .0 .2) (l .loop .inv) (c .before .context-at2 .result) (c .before .context-at2 .ensures) (c .smallest2 .result) (c .smallest2 .ensures) (omega arith)
 
 pub fill-spec : {M : Type 1} → statement M
 fill-spec =

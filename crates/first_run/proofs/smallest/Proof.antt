@@ -11,10 +11,10 @@ use Rattle.first_run.proofs.smallest.Statement.{statement}
 use Rattle.first_run.proofs.smallest.Tie as tie
 
 abbrev Inv-loop : tie.InvT-loop
-Inv-loop table count l context r₀ r = (r ≤ count) × ((q : ℕ) → q < r → ruleFits (ruleIn table q) l context ≡ false)
+Inv-loop table nonterminal context count r₀ r = (r ≤ count) × ((q : ℕ) → q < r → ruleFits (ruleIn table q) nonterminal context ≡ false)
 
 abbrev μ-loop : tie.MeasureT-loop
-μ-loop table count l context r₀ r = count - r
+μ-loop table nonterminal context count r₀ r = count - r
 
 loop-holds : tie.Need-loop-holds Inv-loop μ-loop
 loop-holds c = (omega arith, λ q h. absurd (omega arith))
@@ -27,7 +27,7 @@ fits-requires c κs =
 returns : tie.Need-returns Inv-loop μ-loop
 returns c =
     let l = c .before .before .before in
-    record { found = λ h. sym (c .before .fits2 .ensures) ∙ c .if1 .taken; least = λ q h k. l .loop .inv .1 q k }
+    record { most = l .loop .inv .0; found = λ h. sym (c .before .fits2 .ensures) ∙ c .if1 .taken; least = l .loop .inv .1 }
 
 add-r : tie.Need-add-r Inv-loop μ-loop
 add-r c = search needs
@@ -43,7 +43,7 @@ loop-again c =
 returns-2 : tie.Need-returns-2 Inv-loop μ-loop
 returns-2 c =
     let l = c .before in
-    record { found = λ h. absurd (omega arith); least = λ q h k. l .loop .inv .1 q k }
+    record { most = l .loop .inv .0; found = λ h. absurd (omega arith); least = l .loop .inv .1 }
 
 pub smallest-spec : {M : Type 1} → statement M
 smallest-spec =

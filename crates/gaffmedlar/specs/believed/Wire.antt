@@ -4,11 +4,8 @@ use Prim.Native.Nat.{ℕ}
 use mathlib.Core.List.{List}
 use lib.ListN.{getD}
 use Rattle.files.specs.believed.Checks.{Verdict, accepted, refused}
-use Rattle.sets.specs.believed.Sets.{Given}
-use Rattle.sets.specs.believed.Sets
-use Rattle.stop_marks.specs.believed.Stops.{Given as Marked}
-use Rattle.stop_marks.specs.believed.Stops
-use Rattle.calls.specs.believed.CallList.{Outcome, made, refused-by}
+use Rattle.service.specs.believed.Given.{Given, given}
+use Rattle.service.specs.believed.Given as service
 use Rattle.gaffmedlar.specs.declared.GrammarReply.{GrammarReply}
 use Rattle.gaffmedlar.specs.declared.HistoryReply.{HistoryReply}
 use Rattle.gaffmedlar.specs.declared.CountReply.{CountReply}
@@ -22,33 +19,19 @@ abbrev pub historyWire : Verdict → HistoryReply
 historyWire (accepted counts) = record { answer = 0; tokens = getD counts 0 0 }
 historyWire (refused k) = record { answer = k; tokens = 0 }
 
-abbrev pub countWire : Given → CountReply
-countWire Given.written = record { answer = 0; count = 0 }
-countWire (Given.counted n) = record { answer = 0; count = n }
-countWire (Given.refused k) = record { answer = k; count = 0 }
+abbrev pub countWire : Given ℕ → CountReply
+countWire (given n) = record { answer = 0; count = n }
+countWire (service.refused k) = record { answer = k; count = 0 }
 
 -- 0, or the number of the refusal
-abbrev pub givenCode : Given → ℕ
-givenCode Given.written = 0
-givenCode (Given.counted n) = 0
-givenCode (Given.refused k) = k
+abbrev pub outcomeCode : Given Unit → ℕ
+outcomeCode (given x) = 0
+outcomeCode (service.refused k) = k
 
-abbrev pub markedCode : Marked → ℕ
-markedCode Marked.written = 0
-markedCode (Marked.refused k) = k
-
-abbrev pub outcomeCode : Outcome → ℕ
-outcomeCode made = 0
-outcomeCode (refused-by k) = k
-
--- an answer as a number, with what the call leaves in the words
-abbrev pub setsWire : Given × List ℕ → ℕ × List ℕ
-setsWire p = (givenCode (p .0), p .1)
-
--- an answer as a number, with what the call leaves in the marks
-abbrev pub marksWire : Marked × List ℕ → ℕ × List ℕ
-marksWire p = (markedCode (p .0), p .1)
+-- an answer as a number, with what the call leaves in its buffer
+abbrev pub outcomeWire : Given Unit × List ℕ → ℕ × List ℕ
+outcomeWire p = (outcomeCode (p .0), p .1)
 
 -- an answer as a number, with the answers and the buffer that the calls leave
-abbrev pub callsWire : Outcome × List ℕ × List ℕ → ℕ × List ℕ × List ℕ
+abbrev pub callsWire : Given Unit × List ℕ × List ℕ → ℕ × List ℕ × List ℕ
 callsWire p = (outcomeCode (p .0), p .1, p .2)

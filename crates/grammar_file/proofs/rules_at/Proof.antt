@@ -16,14 +16,14 @@ use Rattle.grammar_file.proofs.rules_at.Statement.{statement}
 use Rattle.grammar_file.proofs.rules_at.Tie as tie
 
 abbrev Inv-loop : tie.InvT-loop
-Inv-loop s from nonterminals start due table₀ n at₀ k₀ table at k =
-    (k ≤ due)
+Inv-loop s from head table₀ count at₀ k₀ table at k =
+    (k ≤ head .rules)
     × (length table ≡ 768)
     × (table ≡ tableOf (rulesIn table k))
-    × (rulesFrom (bytes s) nonterminals start (due - k) at (rulesIn table k) ≡ rulesFrom (bytes s) nonterminals start due from [])
+    × (rulesFrom (bytes s) (head .nonterminals) (head .start) (head .rules - k) at (rulesIn table k) ≡ rulesFrom (bytes s) (head .nonterminals) (head .start) (head .rules) from [])
 
 abbrev μ-loop : tie.MeasureT-loop
-μ-loop s from nonterminals start due table₀ n at₀ k₀ table at k = due - k
+μ-loop s from head table₀ count at₀ k₀ table at k = head .rules - k
 
 loop-holds : tie.Need-loop-holds Inv-loop μ-loop
 unfolding tableOf fill rulesIn
@@ -55,7 +55,7 @@ returns c =
       c .before .rule-refusal .ensures,
       told,
       ← (l .loop .inv .3),
-      turn-refused (bytes (a .s .now)) _ (a .start) (a .due) _ _ (rulesIn (l .loop .table) (l .loop .k)) (d .before .loop-test .taken) _ (sym (d .rule-at .ensures) ∙ told),
+      turn-refused (bytes (a .s .now)) _ (a .head .start) (a .head .rules) _ _ (rulesIn (l .loop .table) (l .loop .k)) (d .before .loop-test .taken) _ (sym (d .rule-at .ensures) ∙ told),
     )
 
 seen-requires : tie.Need-seen-requires Inv-loop μ-loop
@@ -74,7 +74,7 @@ returns-2 c =
     c .refused2 .ensures
     ∙ rw (
       ← (l .loop .inv .3),
-      turn-seen (bytes (a .s .now)) _ (a .start) (a .due) _ _ (rulesIn (l .loop .table) (l .loop .k)) (d .before .loop-test .taken) _ _
+      turn-seen (bytes (a .s .now)) _ (a .head .start) (a .head .rules) _ _ (rulesIn (l .loop .table) (l .loop .k)) (d .before .loop-test .taken) _ _
           (sym (d .rule-at .ensures) ∙ p .before .read .given .1) (sym (q .seen .ensures) ∙ c .before .before .if1 .taken),
     )
 
@@ -106,7 +106,7 @@ loop-again c =
       ap length e ∙ (length-put t k (sixOf r) ∙ l .loop .inv .1),
       table-next t (c .put .last .0) k r room (l .loop .inv .2) e,
       rw (e, rules-put t k r room)
-          (sym (turn-next (bytes (a .s .now)) _ (a .start) (a .due) k _ (rulesIn t k) (d .before .loop-test .taken) r _ (sym (d .rule-at .ensures) ∙ p .before .read .given .1)
+          (sym (turn-next (bytes (a .s .now)) _ (a .head .start) (a .head .rules) k _ (rulesIn t k) (d .before .loop-test .taken) r _ (sym (d .rule-at .ensures) ∙ p .before .read .given .1)
           (sym (q .seen .ensures) ∙ c .before .before .before .if1 .left)) ∙ l .loop .inv .3),
     )
 
@@ -117,15 +117,15 @@ returns-3 : tie.Need-returns-3 Inv-loop μ-loop
 unfolding rulesFrom
 returns-3 c =
     let l = c .before .before .before .before in
-    let none : l .before .before .args .due - l .loop .k ≡ 0 = omega arith in
+    let none : l .before .before .args .head .rules - l .loop .k ≡ 0 = omega arith in
     c .refused3 .ensures ∙ rw (← (l .loop .inv .3), none, lt-ltb _ _ (c .before .before .if2 .taken))
 
 returns-4 : tie.Need-returns-4 Inv-loop μ-loop
 unfolding rulesFrom
 returns-4 c =
     let l = c .before .before in
-    let none : l .before .before .args .due - l .loop .k ≡ 0 = omega arith in
-    let all : l .loop .k ≡ l .before .before .args .due = omega arith in
+    let none : l .before .before .args .head .rules - l .loop .k ≡ 0 = omega arith in
+    let all : l .loop .k ≡ l .before .before .args .head .rules = omega arith in
     rw (← (l .loop .inv .3), none, le-ltb _ _ (c .if2 .left), length-rules, ← (l .loop .inv .2), all)
 
 pub rules-at-spec : {M : Type 1} → statement M

@@ -28,17 +28,22 @@ refused-requires c κs = search needs
 returns : tie.Need-returns
 unfolding historyFrom
 returns c =
-    rw (c .refused .ensures, c .before .field-refusal .ensures, ← (c .before .before .before .before .field-at .ensures), c .before .before .enum-told .given .1)
+    c .refused .ensures
+    ∙ rw (c .before .field-refusal .ensures, ← (c .before .before .before .before .before .field-at .ensures), c .before .before .before .enum-told .given .1)
+
+cast-due : tie.Need-cast-due
+cast-due c = search needs
 
 tokens-at-requires : tie.Need-tokens-at-requires
 tokens-at-requires c κs =
-    omega (arith, field-read _ _ 1025 10 _ _ (sym (c .before .before .before .field-at .ensures) ∙ c .before .count .given .1) .below)
+    let below = field-read _ _ 1025 10 _ _ (sym (c .before .before .before .before .field-at .ensures) ∙ c .before .before .count .given .1) .below in
+    (omega arith, c .before .before .before .before .before .before .pre)
 
 returns-2 : tie.Need-returns-2
 unfolding historyFrom
 returns-2 c =
-    let q = c .before in
-    rw (c .tokens-at .ensures, ← (q .before .before .before .field-at .ensures), q .before .count .given .1)
+    let q = c .before .before in
+    c .tokens-at .ensures ∙ rw (← (q .before .before .before .field-at .ensures), q .before .count .given .1)
 
 pub read-history-spec : {M : Type 1} → statement M
 read-history-spec =
@@ -51,5 +56,6 @@ read-history-spec =
     field-refusal-requires
     refused-requires
     returns
+    cast-due
     tokens-at-requires
     returns-2)

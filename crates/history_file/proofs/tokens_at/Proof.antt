@@ -1,7 +1,7 @@
 -- `history_file::tokens_at` meets its contract.
 use borrow.Author.Needs.{needs}
 use Prim.Native.Nat.{_≤_, _<_, _-_}
-use mathlib.Core.Path.{_≡_, refl, sym, _∙_}
+use mathlib.Core.Path.{_≡_, sym, ap, _∙_}
 use mathlib.Core.List.{[]}
 use borrow.Author.Tests.{le-ltb, lt-ltb}
 use native.Mathlib.Omega.{arith}
@@ -15,7 +15,7 @@ use Rattle.history_file.proofs.tokens_at.Statement.{statement}
 use Rattle.history_file.proofs.tokens_at.Tie as tie
 
 abbrev Inv-loop : tie.InvT-loop
-Inv-loop s from due n tokens₀ at₀ depth₀ k₀ tokens at depth k =
+Inv-loop s from due tokens₀ at₀ depth₀ k₀ tokens at depth k =
     (k ≤ due)
     × (depth ≤ 128)
     × (length tokens ≡ 1024)
@@ -23,10 +23,10 @@ Inv-loop s from due n tokens₀ at₀ depth₀ k₀ tokens at depth k =
     × (tokensFrom (bytes s) (due - k) at depth (take k tokens) ≡ tokensFrom (bytes s) due from 0 [])
 
 abbrev μ-loop : tie.MeasureT-loop
-μ-loop s from due n tokens₀ at₀ depth₀ k₀ tokens at depth k = due - k
+μ-loop s from due tokens₀ at₀ depth₀ k₀ tokens at depth k = due - k
 
 loop-holds : tie.Need-loop-holds Inv-loop μ-loop
-loop-holds c = (omega arith, omega arith, refl, refl, rw sub-zero)
+loop-holds c = let z = c .before .pre .1 in (omega arith, omega arith, ap length z, z, rw sub-zero)
 
 token-at-requires : tie.Need-token-at-requires Inv-loop μ-loop
 token-at-requires c κs = search needs
@@ -45,23 +45,23 @@ refused-requires c κs = search needs
 
 returns : tie.Need-returns Inv-loop μ-loop
 returns c =
-    let d = c .before .before .before .before in
+    let d = c .before .before .before .before .before in
     let l = d .before .before in
     let a = l .before .before .args in
-    rw (
-      c .refused .ensures,
+    let told = c .before .before .before .enum-told .given .1 in
+    c .refused .ensures
+    ∙ rw (
       c .before .token-refusal .ensures,
-      c .before .before .enum-told .given .1,
+      told,
       ← (l .loop .inv .4),
-      turn-refused (bytes (a .s .now)) (a .due) _ _ _ (take (l .loop .k) (l .loop .tokens)) (d .before .loop-test .taken) _
-          (sym (d .token-at .ensures) ∙ c .before .before .enum-told .given .1),
+      turn-refused (bytes (a .s .now)) (a .due) _ _ _ (take (l .loop .k) (l .loop .tokens)) (d .before .loop-test .taken) _ (sym (d .token-at .ensures) ∙ told),
     )
 
 mul-tokens : tie.Need-mul-tokens Inv-loop μ-loop
 mul-tokens c = search needs
 
-array-write-tokens : tie.Need-array-write-tokens Inv-loop μ-loop
-array-write-tokens c = search needs
+element-write-tokens : tie.Need-element-write-tokens Inv-loop μ-loop
+element-write-tokens c = search needs
 
 depth-after-requires : tie.Need-depth-after-requires Inv-loop μ-loop
 depth-after-requires c κs = search needs
@@ -97,9 +97,9 @@ refused-requires-2 c κs = search needs
 returns-2 : tie.Need-returns-2 Inv-loop μ-loop
 unfolding tokensFrom
 returns-2 c =
-    let l = c .before .before .before in
+    let l = c .before .before .before .before in
     let none : l .before .before .args .due - l .loop .k ≡ 0 = omega arith in
-    rw (c .refused2 .ensures, ← (l .loop .inv .4), none, lt-ltb _ _ (c .before .if1 .taken))
+    c .refused2 .ensures ∙ rw (← (l .loop .inv .4), none, lt-ltb _ _ (c .before .before .if1 .taken))
 
 refused-requires-3 : tie.Need-refused-requires-3 Inv-loop μ-loop
 refused-requires-3 c κs = search needs
@@ -107,9 +107,9 @@ refused-requires-3 c κs = search needs
 returns-3 : tie.Need-returns-3 Inv-loop μ-loop
 unfolding tokensFrom
 returns-3 c =
-    let l = c .before .before .before .before in
+    let l = c .before .before .before .before .before in
     let none : l .before .before .args .due - l .loop .k ≡ 0 = omega arith in
-    rw (c .refused3 .ensures, ← (l .loop .inv .4), none, le-ltb _ _ (c .before .before .if1 .left), lt-ltb _ _ (c .before .if2 .taken))
+    c .refused3 .ensures ∙ rw (← (l .loop .inv .4), none, le-ltb _ _ (c .before .before .before .if1 .left), lt-ltb _ _ (c .before .before .if2 .taken))
 
 returns-4 : tie.Need-returns-4 Inv-loop μ-loop
 unfolding tokensFrom
@@ -142,7 +142,7 @@ tokens-at-spec =
     refused-requires
     returns
     mul-tokens
-    array-write-tokens
+    element-write-tokens
     depth-after-requires
     add-k
     loop-less

@@ -1,7 +1,7 @@
 use mathlib.Core.Path.{_∙_, ap}
 use native.Mathlib.Omega.{arith}
 use Rattle.lines.specs.believed.Text.{decimal}
-use Rattle.lines.specs.believed.Laid.{laid}
+use Rattle.lines.specs.Laid.{laid}
 use Rattle.lines.proofs.Digits.{decimal-written}
 use borrow.Author.Needs.{needs}
 use Rattle.lines.proofs.put_number.Statement.{statement}

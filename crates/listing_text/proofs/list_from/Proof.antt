@@ -1,5 +1,5 @@
 use mathlib.Core.Path.{sym, _∙_, ap}
-use Rattle.lines.specs.believed.Laid.{laid}
+use Rattle.lines.specs.Laid.{laid}
 use Rattle.listing_text.proofs.Whole.{grammar-refused, grammar-taken, history-refused, both-taken}
 use borrow.Author.Needs.{needs}
 use Rattle.listing_text.proofs.list_from.Statement.{statement}

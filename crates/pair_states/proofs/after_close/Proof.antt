@@ -11,9 +11,9 @@ rows-after-requires : tie.Need-rows-after-requires
 rows-after-requires c κs = search needs
 
 returns : tie.Need-returns
-returns c = λ start S S₁ x y.
+returns c = λ S S₁ x y.
     let a = c .before .before in
-    rw (c .rows-after .ensures, c .before .finished-of .ensures, a .pre .1) (close-encodes _ _ start (a .pre .0) (a .args .b) (a .args .a) (a .args .rows) (a .args .saved) S S₁ x y)
+    rw (c .rows-after .ensures, c .before .finished-of .ensures, a .pre .1) (close-encodes _ _ (a .pre .0) (a .args .b) (a .args .a) (a .args .rows) (a .args .saved) S S₁ x y)
 
 pub after-close-spec : {M : Type 1} → statement M
 after-close-spec = tie.close (tie.spec finished-of-requires rows-after-requires returns)

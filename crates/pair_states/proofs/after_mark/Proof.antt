@@ -8,7 +8,7 @@ rows-after-requires : tie.Need-rows-after-requires
 rows-after-requires c κs = search needs
 
 returns : tie.Need-returns
-returns c = λ start S x. rw (c .rows-after .ensures) (mark-encodes _ _ start (c .before .pre) (c .before .args .c) (c .before .args .rows) S x)
+returns c = λ S x. rw (c .rows-after .ensures) (mark-encodes _ _ (c .before .pre) (c .before .args .c) (c .before .args .rows) S x)
 
 pub after-mark-spec : {M : Type 1} → statement M
 after-mark-spec = tie.close (tie.spec rows-after-requires returns)

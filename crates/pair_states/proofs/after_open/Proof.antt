@@ -14,7 +14,7 @@ diagonal-requires : tie.Need-diagonal-requires
 diagonal-requires c κs = search needs
 
 returns : tie.Need-returns
-returns c = λ start S x. let a = c .before .before .before in rw (c .diagonal .ensures, c .before .row-after .ensures, c .before .before .currents .ensures) (open-encodes _ _ start (a .pre) (a .args .a) (a .args .rows) S x)
+returns c = λ S x. let a = c .before .before .before in rw (c .diagonal .ensures, c .before .row-after .ensures, c .before .before .currents .ensures) (open-encodes _ _ (a .pre) (a .args .a) (a .args .rows) S x)
 
 pub after-open-spec : {M : Type 1} → statement M
 after-open-spec =

@@ -1,4 +1,4 @@
--- `finished_of`. The invariant: m has those of the first k contexts that pass.
+-- `finished_of`. The invariant: the set has those of the first k contexts that pass.
 use Prim.Native.Nat.{_-_, _≤_}
 use native.Mathlib.Omega.{arith}
 use mathlib.Core.Bool.{Bool, cond}
@@ -13,10 +13,10 @@ use Rattle.pair_states.proofs.finished_of.Statement.{statement}
 use Rattle.pair_states.proofs.finished_of.Tie as tie
 
 abbrev Inv-loop : tie.InvT-loop
-Inv-loop empties rows m₀ k₀ m k = (k ≤ 32) × (m ≡ gather (λ i. meets (getD rows i 0) empties) (λ i. i) k)
+Inv-loop empties rows set₀ k₀ set k = (k ≤ 32) × (set ≡ gather (λ i. meets (getD rows i 0) empties) (λ i. i) k)
 
 abbrev μ-loop : tie.MeasureT-loop
-μ-loop empties rows m₀ k₀ m k = 32 - k
+μ-loop empties rows set₀ k₀ set k = 32 - k
 
 loop-holds : tie.Need-loop-holds Inv-loop μ-loop
 unfolding gather
@@ -46,8 +46,8 @@ loop-again c =
     let a = c .before .before .before .before .args in (
       omega arith,
       c .add-if .ensures
-          ∙ ap (λ (b : Bool). cond b (addBit (l .m) (l .k)) (l .m)) (c .before .meet .ensures)
-          ∙ gather-turn (λ i. meets (getD (a .t1) i 0) (a .empties)) (λ i. i) (l .k) (l .m) (l .inv .1),
+          ∙ ap (λ (b : Bool). cond b (addBit (l .set) (l .k)) (l .set)) (c .before .meet .ensures)
+          ∙ gather-turn (λ i. meets (getD (a .t1) i 0) (a .empties)) (λ i. i) (l .k) (l .set) (l .inv .1),
     )
 
 returns : tie.Need-returns Inv-loop μ-loop

@@ -11,10 +11,10 @@ use Rattle.pair_states.proofs.rows_after.Statement.{statement}
 use Rattle.pair_states.proofs.rows_after.Tie as tie
 
 abbrev Inv-loop : tie.InvT-loop
-Inv-loop table count p done rows out₀ k₀ out k = (k ≤ 32) × Filled 32 (λ i. rowAfter p (getD rows i 0) done table count) k out
+Inv-loop table head pattern done rows out₀ k₀ out k = (k ≤ 32) × Filled 32 (λ i. rowAfter pattern (getD rows i 0) done table (head .rules)) k out
 
 abbrev μ-loop : tie.MeasureT-loop
-μ-loop table count p done rows out₀ k₀ out k = 32 - k
+μ-loop table head pattern done rows out₀ k₀ out k = 32 - k
 
 loop-holds : tie.Need-loop-holds Inv-loop μ-loop
 loop-holds c = (omega arith, record { size = refl; at = λ i h. absurd (omega arith) })

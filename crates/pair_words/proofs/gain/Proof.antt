@@ -38,22 +38,22 @@ with-requires c κs =
     let s = c .before .before .before .before .before .before .before .before in
     let a = s .args in
     let R = ruleIn (a .table .now) (a .k) in
-    rw (c .follows .ensures, c .before .before .before .rule-of .ensures) (follows-below (a .p) R (s .pre .1))
+    rw (c .follows .ensures, c .before .before .before .rule-of .ensures) (follows-below (a .pattern) R (s .pre .1))
 
 returns : tie.Need-returns
 returns c =
     let s = c .before .before .before .before .before .before .before .before .before in
     let a = s .args in
     let in-row = ap (bit (a .row)) (sym (c .before .before .before .before .before .before .before .wide .ensures ∙ c .before .before .before .before .before .before .before .before .left-in .ensures)) ∙ sym (c .before .before .before .before .before .before .has .ensures) ∙ c .before .before .before .before .before .if1 .taken in
-    let matches = ap (matchesBy (a .p) (a .done)) (sym (c .before .before .before .before .rule-of .ensures)) ∙ sym (c .before .before .before .matches-rule .ensures) ∙ c .before .before .if2 .taken in
-    rw (in-row, matches) (c .with .ensures ∙ ap (addBit (a .m)) (c .before .follows .ensures ∙ ap (followsBy (a .p)) (c .before .before .before .before .rule-of .ensures)))
+    let matches = ap (matchesBy (a .pattern) (a .done)) (sym (c .before .before .before .before .rule-of .ensures)) ∙ sym (c .before .before .before .matches-rule .ensures) ∙ c .before .before .if2 .taken in
+    rw (in-row, matches) (c .with .ensures ∙ ap (addBit (a .set)) (c .before .follows .ensures ∙ ap (followsBy (a .pattern)) (c .before .before .before .before .rule-of .ensures)))
 
 returns-2 : tie.Need-returns-2
 returns-2 c =
     let s = c .before .before .before .before .before .before .before in
     let a = s .args in
     let in-row = ap (bit (a .row)) (sym (c .before .before .before .before .before .wide .ensures ∙ c .before .before .before .before .before .before .left-in .ensures)) ∙ sym (c .before .before .before .before .has .ensures) ∙ c .before .before .before .if1 .taken in
-    let matches = ap (matchesBy (a .p) (a .done)) (sym (c .before .before .rule-of .ensures)) ∙ sym (c .before .matches-rule .ensures) ∙ c .if2 .left in
+    let matches = ap (matchesBy (a .pattern) (a .done)) (sym (c .before .before .rule-of .ensures)) ∙ sym (c .before .matches-rule .ensures) ∙ c .if2 .left in
     rw (in-row, matches)
 
 returns-3 : tie.Need-returns-3

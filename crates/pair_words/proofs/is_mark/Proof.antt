@@ -6,8 +6,8 @@ use Rattle.pair_words.proofs.is_mark.Tie as tie
 enum-told : tie.Need-enum-told
 enum-told c = search needs
 
-enum-known-p : tie.Need-enum-known-p
-enum-known-p c = search needs
+enum-known-pattern : tie.Need-enum-known-pattern
+enum-known-pattern c = search needs
 
 same-mark-requires : tie.Need-same-mark-requires
 same-mark-requires c κs = search needs
@@ -22,7 +22,7 @@ returns : tie.Need-returns
 returns c = search needs
 
 returns-2 : tie.Need-returns-2
-returns-2 c = simp (c .before .before .p .given .1) (c .same-mark .ensures)
+returns-2 c = simp (c .before .before .pattern .given .1) (c .same-mark .ensures)
 
 returns-3 : tie.Need-returns-3
 returns-3 c = search needs
@@ -35,7 +35,7 @@ is-mark-spec =
     tie.close
     (tie.spec
     enum-told
-    enum-known-p
+    enum-known-pattern
     same-mark-requires
     enum-told-2
     enum-told-3

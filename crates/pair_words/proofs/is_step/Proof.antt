@@ -12,14 +12,14 @@ enum-told c = search needs
 enum-told-2 : tie.Need-enum-told-2
 enum-told-2 c = search needs
 
-enum-known-p : tie.Need-enum-known-p
-enum-known-p c = search needs
+enum-known-pattern : tie.Need-enum-known-pattern
+enum-known-pattern c = search needs
 
 same-open-requires : tie.Need-same-open-requires
 same-open-requires c κs = search needs
 
-enum-known-p-2 : tie.Need-enum-known-p-2
-enum-known-p-2 c = search needs
+enum-known-pattern-2 : tie.Need-enum-known-pattern-2
+enum-known-pattern-2 c = search needs
 
 same-open-requires-2 : tie.Need-same-open-requires-2
 same-open-requires-2 c κs = search needs
@@ -46,13 +46,13 @@ returns-2 : tie.Need-returns-2
 returns-2 c = search needs
 
 returns-3 : tie.Need-returns-3
-returns-3 c = simp (c .before .before .p .given .1) (c .same-open .ensures)
+returns-3 c = simp (c .before .before .pattern .given .1) (c .same-open .ensures)
 
 returns-4 : tie.Need-returns-4
 returns-4 c =
     let d = c .before .before .before .before .before in
     let h = c .before .before .has .ensures ∙ ap (bit (d .before .before .before .before .args .done)) (c .before .before .before .wide .ensures) in
-    simp (d .before .before .p2 .given .1)
+    simp (d .before .before .pattern2 .given .1)
     (c .both2 .ensures ∙ ap₂ _&&_ (d .same-open2 .ensures) (c .before .both .ensures ∙ ap₂ _&&_ (c .before .before .before .before .same-close .ensures) h))
 
 pub is-step-spec : {M : Type 1} → statement M
@@ -61,9 +61,9 @@ is-step-spec =
     (tie.spec
     enum-told
     enum-told-2
-    enum-known-p
+    enum-known-pattern
     same-open-requires
-    enum-known-p-2
+    enum-known-pattern-2
     same-open-requires-2
     same-close-requires
     wide-requires

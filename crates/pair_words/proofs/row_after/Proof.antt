@@ -1,4 +1,4 @@
--- `row_after`. The invariant: m is what the first k rules give. A row without a member leads nowhere.
+-- `row_after`. The invariant: the set is what the first k rules give. A row without a member leads nowhere.
 use Prim.Native.Nat.{_-_, _≤_}
 use native.Mathlib.Omega.{arith}
 use mathlib.Core.Path.{_≡_, sym, _∙_}
@@ -10,13 +10,13 @@ use Rattle.pair_words.proofs.row_after.Statement.{statement}
 use Rattle.pair_words.proofs.row_after.Tie as tie
 
 abbrev Inv-loop : tie.InvT-loop
-Inv-loop table count p row done m₀ k₀ m k = (k ≤ count) × (m ≡ rowAfter p row done table k)
+Inv-loop table pattern row done count set₀ k₀ set k = (k ≤ count) × (set ≡ rowAfter pattern row done table k)
 
 abbrev μ-loop : tie.MeasureT-loop
-μ-loop table count p row done m₀ k₀ m k = count - k
+μ-loop table pattern row done count set₀ k₀ set k = count - k
 
 returns : tie.Need-returns Inv-loop μ-loop
-returns c = rw (c .if1 .taken) (sym (no-row (c .before .args .p) (c .before .args .done) (c .before .args .table .now) (c .before .args .count)))
+returns c = rw (c .if1 .taken) (sym (no-row (c .before .args .pattern) (c .before .args .done) (c .before .args .table .now) (c .before .args .head .rules)))
 
 loop-holds : tie.Need-loop-holds Inv-loop μ-loop
 unfolding gather
@@ -39,11 +39,11 @@ loop-again c =
     let a = l .before .before .args in (
       omega arith,
       c .gain .ensures
-          ∙ gather-turn (λ r. passes (a .p) (a .row) (a .done) (ruleIn (a .table .now) r)) (λ r. followsBy (a .p) (ruleIn (a .table .now) r)) (l .loop .k) (l .loop .m) (l .loop .inv .1),
+          ∙ gather-turn (λ r. passes (a .pattern) (a .row) (a .done) (ruleIn (a .table .now) r)) (λ r. followsBy (a .pattern) (ruleIn (a .table .now) r)) (l .loop .k) (l .loop .set) (l .loop .inv .1),
     )
 
 returns-2 : tie.Need-returns-2 Inv-loop μ-loop
-returns-2 c = let e : c .before .loop .k ≡ c .before .before .before .args .count = omega arith in c .before .loop .inv .1 ∙ rw e
+returns-2 c = let e : c .before .loop .k ≡ c .before .before .before .args .head .rules = omega arith in c .before .loop .inv .1 ∙ rw e
 
 pub row-after-spec : {M : Type 1} → statement M
 row-after-spec =

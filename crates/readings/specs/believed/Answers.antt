@@ -4,7 +4,7 @@ use mathlib.Core.List.{List}
 use Rattle.listing_model.specs.believed.Listing.{written, no-reading, no-further, Subject, due}
 use Rattle.listing_model.specs.believed.Listing as model
 use Rattle.listing_model.specs.Calls.{overEntries}
-use Rattle.service.specs.believed.Frame.{filesIn, served}
+use Rattle.service.specs.believed.Opened.{filesIn, opened, served}
 use Rattle.readings.specs.declared.Answer.{Answer}
 
 -- each case of the enum: a reading written, "none", "no further", or the number
@@ -16,4 +16,4 @@ said (Answer.Refused k) = model.refused k
 
 -- from the bytes of both files and the length of the buffer; a reading is n + 1 bytes
 abbrev pub subject : List ℕ → List ℕ → ℕ → Subject
-subject grammar history size = served due overEntries suc size (filesIn grammar history)
+subject grammar history size = served due overEntries (opened 1 size (filesIn grammar history))

@@ -3,34 +3,21 @@ use Prim.Native.Nat.{ℕ, _+_, _*_}
 use mathlib.Core.List.{List, _++_}
 use lib.ListN.{length, drop}
 use Rattle.sets_theory.specs.believed.Sets.{doubtfulCount, setWords}
-use Rattle.service.specs.believed.Frame.{filesIn, served}
-use Rattle.sets.specs.declared.SetsAnswer.{SetsAnswer}
+use Rattle.service.specs.believed.Given.{Given, given, refused, written, untouched}
+use Rattle.service.specs.believed.Opened.{filesIn, opened, served}
 use Rattle.sets.specs.declared.CountAnswer.{CountAnswer}
 
--- the words written, a count, or the number of a refusal
-pub data Given : Type 0 where
-  written : Given
-  counted : ℕ → Given
-  refused : ℕ → Given
+-- "four 32-bit words for each position, n + 1 positions", "elements of a lent buffer past those named keep their contents"; or the refusal,
+-- and every element as it was
+abbrev pub setsDue : List ℕ → List ℕ → List ℕ → Given Unit × List ℕ
+setsDue grammar history words =
+    served (untouched words) (λ g w. (written, setWords g w ++ drop (4 * (length w + 1)) words)) (opened 4 (length words) (filesIn grammar history))
 
--- each case of the enums
-abbrev pub setsSaid : SetsAnswer → Given
-setsSaid SetsAnswer.Written = written
-setsSaid (SetsAnswer.Refused k) = refused k
-
-abbrev pub countSaid : CountAnswer → Given
-countSaid (CountAnswer.Count n) = counted n
+-- each case of the enum
+abbrev pub countSaid : CountAnswer → Given ℕ
+countSaid (CountAnswer.Count n) = given n
 countSaid (CountAnswer.Refused k) = refused k
 
--- "four 32-bit words for each position, n + 1 positions": 4 (n + 1) elements
-abbrev pub wordsFor : ℕ → ℕ
-wordsFor n = 4 * (n + 1)
-
--- the words of all positions, "elements of a lent buffer past those named keep their contents"; or the refusal, and every element as it was
-abbrev pub setsDue : List ℕ → List ℕ → List ℕ → Given × List ℕ
-setsDue grammar history words =
-    served (λ k. (refused k, words)) (λ g w. (written, setWords g w ++ drop (wordsFor (length w)) words)) wordsFor (length words) (filesIn grammar history)
-
--- "how many positions are doubtful"; no buffer is needed
-abbrev pub countDue : List ℕ → List ℕ → Given
-countDue grammar history = served refused (λ g w. counted (doubtfulCount g w)) (λ n. 0) 0 (filesIn grammar history)
+-- "how many positions are doubtful"; no buffer is asked for
+abbrev pub countDue : List ℕ → List ℕ → Given ℕ
+countDue grammar history = served refused (λ g w. given (doubtfulCount g w)) (filesIn grammar history)

@@ -1,8 +1,8 @@
--- `mark_of`: no step is open exactly where the stack is empty.
-use mathlib.Core.Path.{_∙_, ap, ap₂}
-use mathlib.Core.Bool.{_&&_}
+-- `mark_of`: both tests, as a number.
+use mathlib.Core.Path.{_∙_, ap}
+use mathlib.Core.Bool.{Bool, _&&_}
 use borrow.Author.Needs.{needs}
-use Rattle.stop_marks_core.proofs.Stacks.{saved-bottom}
+use lib.Dec.{eqb}
 use Rattle.sets_theory.specs.believed.Sets.{one}
 use Rattle.stop_marks_core.proofs.mark_of.Statement.{statement}
 use Rattle.stop_marks_core.proofs.mark_of.Tie as tie
@@ -17,11 +17,7 @@ number-requires : tie.Need-number-requires
 number-requires c κs = search needs
 
 returns : tie.Need-returns
-returns c = λ t n start stack names x ready e h.
-    let a = c .before .before .before .args in
-    let open-now = saved-bottom stack names (a .depth) (x .1) (h .saved) in
-    let ends = c .before .before .may-end .ensures t n start (x .0) ready e (h .state) in
-    c .number .ensures ∙ ap one (c .before .both .ensures ∙ ap₂ _&&_ open-now ends)
+returns c = c .number .ensures ∙ ap one (c .before .both .ensures ∙ ap (λ (b : Bool). eqb (c .before .before .before .before .before .args .top .depth) 0 && b) (c .before .before .may-end .ensures))
 
 pub mark-of-spec : {M : Type 1} → statement M
 mark-of-spec = tie.close (tie.spec may-end-requires both-requires number-requires returns)

@@ -4,16 +4,17 @@ use native.Mathlib.Omega.{arith}
 use mathlib.Core.Path.{_∙_}
 use borrow.Author.Needs.{needs}
 use lib.ListN.{length, replicate, length-replicate, length-set}
+use Rattle.stop_marks_core.proofs.Stacks.{mark-accepts}
 use Rattle.stop_marks_core.proofs.Turns.{Turn, depths, first-turn, next-turn, last-turn}
-use Rattle.tables.specs.Ready.{grammarIn}
+use Rattle.pair_states.specs.Wide.{wideGrammar}
 use Rattle.stop_marks_core.proofs.marks.Statement.{statement}
 use Rattle.stop_marks_core.proofs.marks.Tie as tie
 
 abbrev Inv-loop : tie.InvT-loop
-Inv-loop table count start w out₀ empties stack₀ names₀ rows₀ depth₀ i₀ out stack names rows depth i = (i ≤ length w) × Turn (grammarIn table count start) w out₀ i rows depth stack names out
+Inv-loop table head tokens out₀ empties stack₀ names₀ top₀ i₀ out stack names top i = (i ≤ length tokens) × Turn (wideGrammar table head) tokens out₀ i top stack names out
 
 abbrev μ-loop : tie.MeasureT-loop
-μ-loop table count start w out₀ empties stack₀ names₀ rows₀ depth₀ i₀ out stack names rows depth i = length w - i
+μ-loop table head tokens out₀ empties stack₀ names₀ top₀ i₀ out stack names top i = length tokens - i
 
 empties-requires : tie.Need-empties-requires Inv-loop μ-loop
 empties-requires c κs = search needs
@@ -26,8 +27,8 @@ loop-holds c =
     let s = c .before .before .before .before in
     let a = s .args in (
       omega arith,
-      first-turn (a .table .now) (a .count) (a .start) (a .w .now) (a .out .now)
-          (c .begin .result) (replicate 4096 0) (replicate 128 0) (c .begin .ensures) (s .pre .1 .1 .1 .0) (length-replicate {A = ℕ} 4096 0) (length-replicate {A = ℕ} 128 0),
+      first-turn (a .table .now) (a .head) (a .tokens .now) (a .out .now)
+          (c .begin .result) (replicate 4096 0) (replicate 128 0) (c .begin .ensures) (s .pre .1 .1 .0) (length-replicate {A = ℕ} 4096 0) (length-replicate {A = ℕ} 128 0),
     )
 
 mark-of-requires : tie.Need-mark-of-requires Inv-loop μ-loop
@@ -45,7 +46,7 @@ shared-slice-read-token-of : tie.Need-shared-slice-read-token-of Inv-loop μ-loo
 shared-slice-read-token-of c = search needs
 
 token-of-requires : tie.Need-token-of-requires Inv-loop μ-loop
-token-of-requires c κs = c .before .before .before .before .before .before .before .before .pre .1 .1 .0 .small (c .before .before .before .loop .i) (c .before .before .loop-test .taken)
+token-of-requires c κs = c .before .before .before .before .before .before .before .before .pre .1 .0 .small (c .before .before .before .loop .i) (c .before .before .loop-test .taken)
 
 step-requires : tie.Need-step-requires Inv-loop μ-loop
 step-requires c κs =
@@ -63,16 +64,17 @@ loop-less c = search needs
 
 loop-again : tie.Need-loop-again Inv-loop μ-loop
 loop-again c =
-    let l = c .before .before .before .before .before .before .before .before .loop in
-    let s = c .before .before .before .before .before .before .before .before .before .before .before .before .before in
+    let l = c .before .before .before .before .before .before .before .loop in
+    let e = c .before .before .before .before .before .before .before .before .before .empties .ensures in
+    let s = c .before .before .before .before .before .before .before .before .before .before .before .before in
     let a = s .args in
     let u = l .inv .1 in
-    let is = c .before .before .before .before .before .before .mark-of .ensures (a .table .now) (a .count) (a .start) (l .stack) (l .names) (u .configuration)
-    (s .pre .0) (c .before .before .before .before .before .before .before .before .before .before .empties .ensures) (u .holds) in (
+    let mark = c .before .before .before .before .before .mark-of in
+    let is = mark .ensures ∙ mark-accepts (a .table .now) (a .head) (s .pre .0) _ e (l .top) (l .stack) (l .names) (u .configuration) (u .holds) in (
       omega arith,
-      next-turn (a .table .now) (a .count) (a .start) (a .w .now) (a .out .now)
-          (l .i) (l .rows) (l .depth) (l .stack) (l .names) (l .out) (c .before .before .before .before .before .before .mark-of .result) (s .pre .1 .1 .1 .1) u is
-          (c .before .step .result .rows) (c .before .step .result .depth) _ _ (c .before .before .before .before .before .before .before .loop-test .taken) (rw (c .before .before .before .before .token-of .ensures) at (c .before .step .ensures)),
+      next-turn (a .table .now) (a .head) (a .tokens .now) (a .out .now)
+          (l .i) (l .top) (l .stack) (l .names) (l .out) (mark .result) (s .pre .1 .1 .1) u is
+          (c .step .result) _ _ (c .before .before .before .before .before .before .loop-test .taken) (rw (c .before .before .before .token-of .ensures) at (c .step .ensures)),
     )
 
 mark-of-requires-2 : tie.Need-mark-of-requires-2 Inv-loop μ-loop
@@ -91,14 +93,14 @@ same-length c =
 returns : tie.Need-returns Inv-loop μ-loop
 returns c =
     let l = c .before .before .loop in
+    let e = c .before .before .before .before .empties .ensures in
     let s = c .before .before .before .before .before .before .before in
     let a = s .args in
     let u = l .inv .1 in
-    let is = c .mark-of2 .ensures (a .table .now) (a .count) (a .start) (l .stack) (l .names) (u .configuration)
-    (s .pre .0) (c .before .before .before .before .empties .ensures) (u .holds) in
-    last-turn (a .table .now) (a .count) (a .start) (a .w .now) (a .out .now)
-    (l .i) (l .rows) (l .depth) (l .stack) (l .names) (l .out) (c .mark-of2 .result) (s .pre .1 .1 .1 .1) u is
-    (s .pre .0) (s .pre .1 .0) (omega arith)
+    let is = c .mark-of2 .ensures ∙ mark-accepts (a .table .now) (a .head) (s .pre .0) _ e (l .top) (l .stack) (l .names) (u .configuration) (u .holds) in
+    last-turn (a .table .now) (a .head) (a .tokens .now) (a .out .now)
+    (l .i) (l .top) (l .stack) (l .names) (l .out) (c .mark-of2 .result) (s .pre .1 .1 .1) u is
+    (s .pre .0) (omega arith)
 
 pub marks-spec : {M : Type 1} → statement M
 marks-spec =

@@ -51,7 +51,7 @@ loop-again c =
     )
 
 returns : tie.Need-returns Inv-loop μ-loop
-returns c = let e : c .before .loop .k ≡ 32 = omega arith in c .before .loop .inv .1 ∙ rw e
+returns c = let e : c .before .loop .k ≡ 32 = omega arith in (c .before .loop .inv .1 ∙ rw e, search needs)
 
 pub save-spec : {M : Type 1} → statement M
 save-spec =

@@ -1,12 +1,12 @@
--- Text laid into a buffer that is a window on it.
+-- Text laid byte by byte into a buffer that is a window on it; `laid-window` (proofs/Laying.antt) says what is then in the buffer.
 use Prim.Native.Nat.{ℕ, _+_, _-_}
 use mathlib.Core.Bool.{Bool, true, false}
-use mathlib.Core.List.{List, [], _∷_, _++_}
+use mathlib.Core.List.{List, [], _∷_}
 use lib.Dec.{ltb}
-use lib.ListN.{length, set, take, drop}
+use lib.ListN.{length, set}
 use Rattle.lines.specs.declared.Cursor.{Cursor}
 
--- a place, and the buffer
+-- a cursor, and the buffer
 abbrev pub Laid : Type 0
 Laid = Cursor × List ℕ
 
@@ -22,11 +22,3 @@ put w b = putIf (ltb 0 (w .0 .skip)) (ltb (w .0 .at) (length (w .1))) (w .0) (w 
 unfoldable pub laid : Laid → List ℕ → Laid
 laid w [] = w
 laid w (b ∷ text) = laid (put w b) text
-
--- the part of the text behind its first bytes, as many as `skip`, that a buffer of `size` bytes has room for
-abbrev pub shown : ℕ → ℕ → List ℕ → List ℕ
-shown skip size text = take size (drop skip text)
-
--- how many bytes are shown, and the buffer: these bytes, and behind them what was there
-abbrev pub window : ℕ → List ℕ → List ℕ → ℕ × List ℕ
-window skip out text = (length (shown skip (length out) text), shown skip (length out) text ++ drop (length (shown skip (length out) text)) out)

@@ -1,0 +1,58 @@
+-- What the opening finds, from what the two readers found.
+use Prim.Native.Nat.{ℕ, _+_, _*_, _^_, _<_, _≤_}
+use native.Mathlib.Nat.{mul-le-mul}
+use native.Mathlib.Omega.{arith}
+use mathlib.Core.Path.{_≡_}
+use mathlib.Core.List.{List}
+use borrow.Author.Tests.{lt-ltb, le-ltb}
+use lib.ListN.{length, take}
+use Rattle.vpg.specs.believed.Grammar.{Grammar}
+use Rattle.tables.specs.declared.Head.{Head}
+use Rattle.grammar_file.specs.believed.GrammarFile.{grammarOf}
+use Rattle.grammar_file.specs.believed.GrammarFile as grammar-file
+use Rattle.grammar_file.proofs.Answers.{GrammarIs}
+use Rattle.history_file.specs.believed.HistoryFile.{historyOf}
+use Rattle.history_file.specs.believed.HistoryFile as history-file
+use Rattle.history_file.proofs.Answers.{HistoryIs}
+use Rattle.files.specs.believed.Files.{Files, accepted, refused, filesOf}
+use Rattle.service.specs.declared.Opened.{Opened}
+use Rattle.service.specs.believed.Opened.{filesIn, opened}
+use Rattle.service.specs.Opening.{Numbers, HistoryOpened, Open, OpenedIs}
+use Rattle.service.proofs.Matched.{well-matched}
+
+-- the room for a few elements at each position of a history
+pub room-small : (each n : ℕ) → each ≤ 255 → n + 1 ≤ 1025 → each * (n + 1) < 2 ^ 64
+room-small each n few most = omega (arith, mul-le-mul {n₁ = each} {m₁ = n + 1} {n₂ = 255} {m₂ = 1025} few most)
+
+module _ (each size : ℕ) (history : List ℕ) where
+  pub history-refuses : (e : ℕ) → historyOf history ≡ history-file.refused e → (g : Grammar) → opened each size (filesOf (grammar-file.accepted g) (historyOf history)) ≡ refused e
+  history-refuses e h g = rw h
+
+  pub history-short : (numbers : List ℕ) (n : ℕ) → HistoryIs history numbers n → size < each * (n + 1) → (g : Grammar) →
+      opened each size (filesOf (grammar-file.accepted g) (historyOf history)) ≡ refused 15
+  history-short numbers n k short g = rw (k .is, k .count, lt-ltb size (each * (n + 1)) short)
+
+  pub history-fits : (numbers : List ℕ) (n : ℕ) → HistoryIs history numbers n → each * (n + 1) ≤ size → Numbers each size history n numbers
+  history-fits numbers n k room =
+      record { is = k .is; count = k .count; long = k .room; room = room; tokens = k .tokens; wellformed = k .wellformed }
+
+  module _ (grammar table : List ℕ) (head : Head) (k : GrammarIs grammar table head) where
+    -- what the history gives, with this grammar
+    pub both-opened : (r : Opened) (numbers : List ℕ) → HistoryOpened each size history head r numbers → OpenedIs each size (filesIn grammar history) r table numbers
+    both-opened (Opened.Refused e) numbers h = rw (k .is) (h _)
+    both-opened (Opened.Files head′ n) numbers h =
+        let x = h .1 in
+        rw (h .0)
+        (record {
+          is = rw (k .is, x .is, x .count, le-ltb size (each * (n + 1)) (x .room));
+          ready = k .ready;
+          count = x .count;
+          long = x .long;
+          room = x .room;
+          tokens = x .tokens;
+          balanced = well-matched (take n numbers) (x .wellformed);
+          wellformed = x .wellformed;
+        })
+
+pub grammar-refuses : (each size : ℕ) (grammar history : List ℕ) (e : ℕ) → grammarOf grammar ≡ grammar-file.refused e → opened each size (filesIn grammar history) ≡ refused e
+grammar-refuses each size grammar history e h = rw h
