@@ -4,6 +4,7 @@ use native.Mathlib.Omega.{arith}
 use mathlib.Core.Path.{_≡_, refl, sym, _∙_, ap}
 use mathlib.Core.Bool.{Bool, true, false, cond, _&&_, _||_, or-false}
 use mathlib.Core.List.{List}
+use mathlib.Core.Option.{Option, none, some}
 use lib.ListN.{length, length-set}
 use Rattle.laws.specs.Any.{any}
 use Rattle.laws.proofs.Any.{any-snoc}
@@ -11,26 +12,21 @@ use Rattle.laws.proofs.Bools.{eqb-comm}
 use Rattle.bits.specs.Bit.{bit}
 use Rattle.bits.proofs.Bits.{bit-zero, bit-add}
 use Rattle.vpg.specs.declared.Rule.{Rule}
+use Rattle.vpg.specs.Parts.{onward, beyond, isIt}
 use Rattle.sets_theory.specs.believed.Sets.{count}
 use Rattle.level_theory.specs.Kept.{goesTo, returnsTo, going, returning}
 use Rattle.tables.specs.Table.{ruleIn, rulesIn}
 use Rattle.contexts.specs.declared.Context.{Context}
 use Rattle.rule_set.specs.Words.{Held, addIn}
 use Rattle.rule_set.specs.declared.Ways.{Ways}
-use Rattle.rule_set.specs.RuleSet.{keepsAt, nextWith, behindWith, waysWith, waysIn, wordsIn}
+use Rattle.rule_set.specs.RuleSet.{keepsAt, withSome, waysWith, waysIn, wordsIn}
 use Rattle.rule_set.proofs.Words.{held-none, held-with, held-without}
 
 -- ── one rule ──
 
-next-bit : (x K : ℕ) (R : Rule) → bit (nextWith x R) K ≡ (bit x K || goesTo R K)
-next-bit x K (Rule.Empty M) = sym (or-false (bit x K))
-next-bit x K (Rule.Mark M c M₁) = bit-add x M₁ K ∙ ap (λ (b : Bool). bit x K || b) (eqb-comm K M₁)
-next-bit x K (Rule.Step M a M₁ b M₂) = bit-add x M₁ K ∙ ap (λ (b : Bool). bit x K || b) (eqb-comm K M₁)
-
-behind-bit : (x K : ℕ) (R : Rule) → bit (behindWith x R) K ≡ (bit x K || returnsTo R K)
-behind-bit x K (Rule.Empty M) = sym (or-false (bit x K))
-behind-bit x K (Rule.Mark M c M₁) = sym (or-false (bit x K))
-behind-bit x K (Rule.Step M a M₁ b M₂) = bit-add x M₂ K ∙ ap (λ (b : Bool). bit x K || b) (eqb-comm K M₂)
+some-bit : (x K : ℕ) (o : Option ℕ) → bit (withSome x o) K ≡ (bit x K || isIt o K)
+some-bit x K none = sym (or-false (bit x K))
+some-bit x K (some M) = bit-add x M K ∙ ap (λ (b : Bool). bit x K || b) (eqb-comm K M)
 
 -- ── all rules ──
 
@@ -86,10 +82,10 @@ module _ (t : List ℕ) (here : ℕ) (context : Context) where
   pub next-going : (K n : ℕ) → bit (waysIn t here context n .next) K ≡ going (keepsAt here context) (rulesIn t n) K
   unfolding waysIn rulesIn
   next-going K zero = bit-zero K
-  next-going K (suc n) = grows (λ x. x .next) (λ R. goesTo R K) K n _ refl (next-bit (Ways-of n .next) K (ruleIn t n)) (next-going K n)
+  next-going K (suc n) = grows (λ x. x .next) (λ R. goesTo R K) K n _ refl (some-bit (Ways-of n .next) K (onward (ruleIn t n))) (next-going K n)
 
   -- and those behind the close
   pub behind-returning : (K n : ℕ) → bit (waysIn t here context n .behind) K ≡ returning (keepsAt here context) (rulesIn t n) K
   unfolding waysIn rulesIn
   behind-returning K zero = bit-zero K
-  behind-returning K (suc n) = grows (λ x. x .behind) (λ R. returnsTo R K) K n _ refl (behind-bit (Ways-of n .behind) K (ruleIn t n)) (behind-returning K n)
+  behind-returning K (suc n) = grows (λ x. x .behind) (λ R. returnsTo R K) K n _ refl (some-bit (Ways-of n .behind) K (beyond (ruleIn t n))) (behind-returning K n)

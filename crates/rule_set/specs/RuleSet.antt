@@ -2,9 +2,11 @@
 use Prim.Native.Nat.{ℕ, zero, suc, _+_}
 use mathlib.Core.Bool.{Bool, cond, _&&_}
 use mathlib.Core.List.{List}
+use mathlib.Core.Option.{Option, none, some}
 use lib.ListN.{replicate}
 use Rattle.bits.specs.Bit.{bit, addBit}
 use Rattle.vpg.specs.declared.Rule.{Rule}
+use Rattle.vpg.specs.Parts.{onward, beyond}
 use Rattle.vpg.specs.Steps.{left}
 use Rattle.tables.specs.Table.{ruleIn}
 use Rattle.contexts.specs.declared.Context.{Context}
@@ -16,15 +18,17 @@ use Rattle.rule_set.specs.Words.{addIn}
 abbrev pub keepsAt : ℕ → Context → Rule → Bool
 keepsAt here context R = bit here (left R) && appliesTo R context
 
+-- the set with a nonterminal, where there is one
+abbrev pub withSome : ℕ → Option ℕ → ℕ
+withSome x none = x
+withSome x (some M) = addBit x M
+
+-- the nonterminals at the next position, and those behind the close, with the rule's
 abbrev pub nextWith : ℕ → Rule → ℕ
-nextWith x (Rule.Empty M) = x
-nextWith x (Rule.Mark M c M₁) = addBit x M₁
-nextWith x (Rule.Step M a M₁ b M₂) = addBit x M₁
+nextWith x R = withSome x (onward R)
 
 abbrev pub behindWith : ℕ → Rule → ℕ
-behindWith x (Rule.Empty M) = x
-behindWith x (Rule.Mark M c M₁) = x
-behindWith x (Rule.Step M a M₁ b M₂) = addBit x M₂
+behindWith x R = withSome x (beyond R)
 
 abbrev pub waysWith : Ways → Rule → Ways
 waysWith x R = record { held = x .held + 1; next = nextWith (x .next) R; behind = behindWith (x .behind) R }

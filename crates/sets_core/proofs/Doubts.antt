@@ -5,7 +5,6 @@ use native.Mathlib.Omega.{arith}
 use mathlib.Core.Path.{_≡_, refl, _∙_}
 use mathlib.Core.Bool.{Bool, true, false}
 use mathlib.Core.List.{List}
-use lib.Dec.{ltb}
 use lib.ListN.{length}
 use Rattle.vpg.specs.declared.Token.{Token}
 use Rattle.vpg.specs.believed.Grammar.{Grammar}
@@ -20,22 +19,22 @@ count-most (suc n) f = go (f n) (count-most n f)
     go true h = omega arith
     go false h = omega arith
 
-module _ (g : Grammar) (w : List Token) where
-  -- so many of the first p positions are doubtful
-  abbrev pub Doubts : ℕ → ℕ → Type 0
-  Doubts p total = total ≡ count p (doubtful g w)
+-- so many of the first p positions are doubtful
+pub record Doubts (g : Grammar) (w : List Token) (p total : ℕ) : Type 0 where
+  pub is : total ≡ count p (doubtful g w)
 
-  pub doubts-none : Doubts 0 0
+pub doubts-none : {g : Grammar} {w : List Token} → Doubts g w 0 0
+unfolding count
+doubts-none = record { is = refl }
+
+module _ {g : Grammar} {w : List Token} {p total : ℕ} (d : Doubts g w p total) where
+  pub doubts-most : total ≤ p
+  doubts-most = rw (d .is) (count-most p (doubtful g w))
+
+  pub doubts-next : {total′ : ℕ} {b : Bool} → doubtful g w p ≡ b → total′ ≡ one b + total → Doubts g w (p + 1) total′
   unfolding count
-  doubts-none = refl
+  doubts-next e q = record { is = q ∙ rw (d .is, ← e, add-one) }
 
-  pub doubts-most : (p total : ℕ) → Doubts p total → total ≤ p
-  doubts-most p total e = rw e (count-most p (doubtful g w))
-
-  pub doubts-next : (p total total′ held : ℕ) → Doubts p total → doubtful g w p ≡ ltb 1 held → total′ ≡ one (ltb 1 held) + total → Doubts (p + 1) total′
-  unfolding count
-  doubts-next p total total′ held e d q = q ∙ rw (e, ← d, add-one)
-
-  pub doubts-all : (n p total : ℕ) → length w ≡ n → p ≡ n + 1 → Doubts p total → total ≡ doubtfulCount g w
+  pub doubts-all : {n : ℕ} → length w ≡ n → p ≡ n + 1 → total ≡ doubtfulCount g w
   unfolding doubtfulCount
-  doubts-all n p total e q h = h ∙ rw (q, e, add-one)
+  doubts-all e q = d .is ∙ rw (q, e, add-one)

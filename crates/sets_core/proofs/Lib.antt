@@ -1,3 +1,3 @@
 pub mod Doubts
-pub mod Fronts
+pub mod Pass
 pub mod Written

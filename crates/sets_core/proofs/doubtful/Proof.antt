@@ -7,17 +7,16 @@ use lib.ListN.{length}
 use Rattle.tables.specs.Ready.{grammarIn}
 use Rattle.history_file.specs.believed.HistoryFile.{tokensOf}
 use Rattle.levels.proofs.Levels.{tokens-length}
-use Rattle.levels.proofs.Setting.{close-room}
-use Rattle.sets_core.proofs.Fronts.{Going, going-start, going-next, doubtful-here}
+use Rattle.sets_core.proofs.Pass.{Going, going-start, onward-room, going-next, doubtful-here}
 use Rattle.sets_core.proofs.Doubts.{Doubts, doubts-none, doubts-most, doubts-next, doubts-all}
 use Rattle.sets_core.proofs.doubtful.Statement.{statement}
 use Rattle.sets_core.proofs.doubtful.Tie as tie
 
 abbrev Inv-loop : tie.InvT-loop
-Inv-loop table count start w m mask behind₀ here₀ total₀ p₀ behind here total p = Going table count start w p here behind × Doubts (grammarIn table count start) (tokensOf w) p total
+Inv-loop table head tokens closes masks behind₀ here₀ total₀ p₀ behind here total p = Going table head tokens p here behind × Doubts (grammarIn table head) (tokensOf tokens) p total
 
 abbrev μ-loop : tie.MeasureT-loop
-μ-loop table count start w m mask behind₀ here₀ total₀ p₀ behind here total p = length w + 1 - p
+μ-loop table head tokens closes masks behind₀ here₀ total₀ p₀ behind here total p = length tokens + 1 - p
 
 element-copy-out-start-set : tie.Need-element-copy-out-start-set Inv-loop μ-loop
 element-copy-out-start-set c = search needs
@@ -26,22 +25,16 @@ start-set-requires : tie.Need-start-set-requires Inv-loop μ-loop
 start-set-requires c κs = search needs
 
 loop-holds : tie.Need-loop-holds Inv-loop μ-loop
-loop-holds c =
-    let s = c .before .before .before in
-    let a = s .args in
-    let g = grammarIn (a .table .now) (a .count) (a .start) in
-    let going = going-start (s .pre .0) (a .start) (s .pre .1 .1) in
-    (rw (c .start-set .ensures) going, doubts-none g (tokensOf (a .w .now)))
+loop-holds c = (rw (c .start-set .ensures) (going-start (c .before .before .before .pre)), doubts-none)
 
-ways-of-requires : tie.Need-ways-of-requires Inv-loop μ-loop
-ways-of-requires c κs = (c .before .before .before .before .before .pre .0, omega arith)
+context-at-requires : tie.Need-context-at-requires Inv-loop μ-loop
+context-at-requires c κs = let s = c .before .before .before .before .before in (s .pre .tokens, (omega arith, s .pre .matched))
+
+ways-at-requires : tie.Need-ways-at-requires Inv-loop μ-loop
+ways-at-requires c κs = c .before .before .before .before .before .before .pre .ready
 
 counted-requires : tie.Need-counted-requires Inv-loop μ-loop
-counted-requires c κs =
-    let s = c .before .before .before .before .before .before in
-    let a = s .args in
-    let l = c .before .before .loop in
-    omega (arith, s .pre .0 .tokens .few, doubts-most (grammarIn (a .table .now) (a .count) (a .start)) (tokensOf (a .w .now)) (l .p) (l .total) (l .inv .1))
+counted-requires c κs = omega (arith, c .before .before .before .before .before .before .before .pre .tokens .few, doubts-most (c .before .before .before .loop .inv .1))
 
 mul-onward : tie.Need-mul-onward Inv-loop μ-loop
 mul-onward c = search needs
@@ -51,11 +44,8 @@ element-copy-out-onward c = search needs
 
 onward-requires : tie.Need-onward-requires Inv-loop μ-loop
 onward-requires c κs =
-    let s = c .before .before .before .before .before .before .before .before .before in
-    let a = s .args in
-    let l = c .before .before .before .before .before .loop in
-    let h : l .p ≤ length (a .w .now) = omega (arith, c .before .before .before .before .loop-test .taken) in
-    (l .inv .0 .long, omega (arith, s .pre .0 .tokens .few), close-room (s .pre .0) (l .p) h)
+    let i = c .before .before .before .before .before in
+    onward-room (i .before .before .before .before .before .pre) (i .before .loop .inv .0) (omega (arith, i .loop-test .taken))
 
 add-p : tie.Need-add-p Inv-loop μ-loop
 add-p c = search needs
@@ -65,25 +55,22 @@ loop-less c = search needs
 
 loop-again : tie.Need-loop-again Inv-loop μ-loop
 loop-again c =
-    let s = c .before .before .before .before .before .before .before .before .before .before in
-    let a = s .args in
-    let l = c .before .before .before .before .before .before .loop in
-    let h : l .p ≤ length (a .w .now) = omega (arith, c .before .before .before .before .before .loop-test .taken) in
-    let g = grammarIn (a .table .now) (a .count) (a .start) in
-    let ways = c .before .before .before .before .ways-of in
-    let d = doubtful-here (s .pre .0) (a .start) (l .here) (l .p) (l .behind) (l .inv .0 .front h) _ (ways .ensures) in (
-      going-next (s .pre .0) (a .start) (l .here) (l .p) (c .onward .result) (l .behind) (c .onward .last .0) _ h (l .inv .0)
-          (ways .ensures) (c .onward .ensures .0) (c .onward .ensures .1),
-      doubts-next g (tokensOf (a .w .now)) (l .p) (l .total) (c .before .before .before .counted .result) (ways .result .held) (l .inv .1) d (c .before .before .before .counted .ensures),
+    let i = c .before .before .before .before .before .before in
+    let x = i .before .before .before .before .before .pre in
+    let l = i .before .loop in
+    let h : l .p ≤ length (i .before .before .before .before .before .args .tokens .now) = omega (arith, i .loop-test .taken) in
+    let context = c .before .before .before .before .before .context-at in
+    let ways = c .before .before .before .before .ways-at .ensures in (
+      going-next x (l .inv .0) h (context .result) (context .ensures) ways (c .onward .ensures .0) (c .onward .ensures .1),
+      doubts-next (l .inv .1) (doubtful-here x (l .inv .0) h (context .result) (context .ensures) ways) (c .before .before .before .counted .ensures),
     )
 
 returns : tie.Need-returns Inv-loop μ-loop
 returns c =
-    let s = c .before .before .before .before .before in
-    let a = s .args in
     let l = c .before .loop in
-    let e : l .p ≡ length (a .w .now) + 1 = omega arith in
-    doubts-all (grammarIn (a .table .now) (a .count) (a .start)) (tokensOf (a .w .now)) (length (a .w .now)) (l .p) (l .total) (tokens-length (a .w .now)) e (l .inv .1)
+    let tokens = c .before .before .before .before .before .args .tokens .now in
+    let e : l .p ≡ length tokens + 1 = omega (arith, l .inv .0 .within, c .loop-test .left) in
+    doubts-all (l .inv .1) (tokens-length tokens) e
 
 pub doubtful-spec : {M : Type 1} → statement M
 doubtful-spec =
@@ -94,7 +81,8 @@ doubtful-spec =
     element-copy-out-start-set
     start-set-requires
     loop-holds
-    ways-of-requires
+    context-at-requires
+    ways-at-requires
     counted-requires
     mul-onward
     element-copy-out-onward

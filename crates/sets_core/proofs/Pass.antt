@@ -1,0 +1,176 @@
+-- The pass over the positions: where it begins, one turn of it, and the set that it finds at a position.
+use Prim.Native.Nat.{ℕ, zero, suc, _*_, _+_, _<_, _≤_}
+use native.Mathlib.Numerals.{add-one}
+use native.Mathlib.Omega.{arith}
+use mathlib.Core.Path.{_≡_, refl, sym, _∙_, ap, fun-ext}
+use mathlib.Core.Bool.{Bool, true, false, cond, _&&_, _||_, or-false}
+use mathlib.Core.List.{List}
+use mathlib.Core.Option.{Option, none, some}
+use borrow.Author.Tests.{eqb-true, eqb-false, ltb-true, ltb-false, lt-ltb}
+use lib.Bits.{bitOr}
+use lib.Dec.{eqb, ltb}
+use lib.ListN.{length, getD, set, drop, replicate, getElem?, length-set}
+use lib.Seq.{ext-getD, getD-set-same, getD-set-other}
+use Rattle.bits.specs.Bit.{bit, addBit}
+use Rattle.bits.proofs.Bits.{bit-zero, bit-add, bit-or}
+use Rattle.vpg.specs.declared.Rule.{Rule}
+use Rattle.vpg.specs.declared.Token.{Token}
+use Rattle.vpg.specs.believed.Grammar.{Rules, Grammar}
+use Rattle.vpg.specs.Steps.{left}
+use Rattle.sets_theory.specs.KeptTest.{kept}
+use Rattle.sets_theory.specs.believed.Sets.{count, doubtful, listed, wordOf, setWord}
+use Rattle.sets_theory.proofs.Sets.{length-listed, getD-listed}
+use Rattle.level_theory.specs.Pending.{pendingAt, closeOf}
+use Rattle.level_theory.specs.Kept.{keeps, going, returning, passed, Front}
+use Rattle.level_theory.proofs.Kept.{front-kept, front-start, front-next}
+use Rattle.tables.specs.declared.Head.{Head}
+use Rattle.tables.specs.Table.{ruleIn}
+use Rattle.tables.specs.Ready.{rulesOf, grammarIn}
+use Rattle.tables.proofs.Tables.{length-rules, rules-at, rules-below}
+use Rattle.contexts.specs.declared.Context.{Context}
+use Rattle.history_file.specs.believed.HistoryFile.{tokenOf, tokensOf}
+use Rattle.levels.specs.Levels.{Stands, Setting}
+use Rattle.levels.proofs.Levels.{tokens-at}
+use Rattle.levels.proofs.Setting.{closing, closing-room, close-room}
+use Rattle.rule_set.specs.declared.Ways.{Ways}
+use Rattle.rule_set.specs.RuleSet.{keepsAt, waysIn, wordsIn}
+use Rattle.rule_set.specs.Words.{Held}
+use Rattle.rule_set.proofs.RuleSet.{held-count, words-held, next-going, behind-returning}
+use Rattle.rule_set.proofs.Words.{zeros, held-word}
+use Rattle.sets_core.specs.Start.{startSet}
+
+-- ── tests ──
+
+start-bit : (m s L : ℕ) → bit (startSet m s) L ≡ (eqb L s && bit m L)
+start-bit m s L = go (bit m s) refl (eqb L s) refl
+  where
+    go : (b : Bool) → bit m s ≡ b → (x : Bool) → eqb L s ≡ x → bit (cond b (addBit 0 s) 0) L ≡ (x && bit m L)
+    go true e true q = bit-add 0 s L ∙ rw (bit-zero L, q) (sym (rw (eqb-true L s q) e))
+    go true e false q = bit-add 0 s L ∙ rw (bit-zero L, q)
+    go false e true q = bit-zero L ∙ sym (rw (eqb-true L s q) e)
+    go false e false q = bit-zero L
+
+-- how many pass, of two tests that agree below n
+count-same : (n : ℕ) (f f′ : ℕ → Bool) → ((r : ℕ) → r < n → f r ≡ f′ r) → count n f ≡ count n f′
+unfolding count
+count-same zero f f′ h = refl
+count-same (suc n) f f′ h = rw (h n (omega arith), count-same n f f′ (λ r l. h r (omega arith)))
+
+-- `here` are the nonterminals that can stand at position p, and `behind` has those that can stand behind each close
+abbrev pub Fronted : List ℕ → Head → List ℕ → ℕ → ℕ → List ℕ → Type 0
+Fronted t head ts p here behind = Front (grammarIn t head) (tokensOf ts) p (bit here) (λ j. bit (getD behind j 0))
+
+-- the state of the pass before position p
+pub record Going (t : List ℕ) (head : Head) (ts : List ℕ) (p here : ℕ) (behind : List ℕ) : Type 0 where
+  pub within : p ≤ length ts + 1
+  pub long : length behind ≡ 1025
+  pub front : p ≤ length ts → Fronted t head ts p here behind
+
+module _ {t : List ℕ} {head : Head} {ts m mask : List ℕ} (x : Setting t head ts m mask) where
+  abbrev W : List Token
+  W = tokensOf ts
+
+  abbrev G : Rules
+  G = rulesOf t head
+
+  abbrev g : Grammar
+  g = grammarIn t head
+
+  abbrev n : ℕ
+  n = head .rules
+
+  pub going-start : Going t head ts 0 (startSet (getD mask 0 0) (head .start)) (replicate 1025 0)
+  going-start = record {
+    within = omega arith;
+    long = refl;
+    front = λ h.
+        front-start g W (x .balanced) _ _
+        (λ L. start-bit (getD mask 0 0) (head .start) L ∙ ap (λ (b : Bool). eqb L (head .start) && b) (x .leveled 0 (omega arith) (omega arith) L))
+        (λ j K. rw (zeros 1025 j) (bit-zero K));
+  }
+
+  module _ {here p : ℕ} {behind : List ℕ} (k : Going t head ts p here behind) (h : p ≤ length ts) where
+    pub onward-room : (length behind ≡ 1025) × (p < 1025) × (getD m p 0 < 1025)
+    onward-room = (k .long, omega (arith, x .tokens .few), close-room x p h)
+
+    module _ (context : Context) (s : Stands W mask p context) where
+      abbrev Keeps : Rule → Bool
+      Keeps = keeps G (drop p W) (bit here)
+
+      same : keepsAt here context ≡ Keeps
+      same = fun-ext (λ R. ap (λ (b : Bool). bit here (left R) && b) (s G (λ k a b. x .leveled k (omega arith) b) R))
+
+      -- ── one turn ──
+
+      module _ (r : Ways) (e : r ≡ waysIn t here context n) where
+        next-bit : (K : ℕ) → bit (r .next) K ≡ going Keeps G K
+        next-bit K = rw e (next-going t here context K n ∙ ap (λ (k : Rule → Bool). going k G K) same)
+
+        behind-bit : (K : ℕ) → bit (r .behind) K ≡ returning Keeps G K
+        behind-bit K = rw e (behind-returning t here context K n ∙ ap (λ (k : Rule → Bool). returning k G K) same)
+
+      pub going-next : {next : ℕ} {behind′ : List ℕ} {r : Ways} → r ≡ waysIn t here context n → next ≡ bitOr (getD behind p 0) (r .next) →
+          behind′ ≡ set behind (getD m p 0) (bitOr (getD behind (getD m p 0) 0) (r .behind)) → Going t head ts (p + 1) next behind′
+      going-next {next} {behind′} {r} e q q′ = record {
+        within = omega arith;
+        long = ap length q′ ∙ length-set behind (getD m p 0) (bitOr (getD behind (getD m p 0) 0) (r .behind)) ∙ k .long;
+        front = λ l. rw add-one (fronted (omega arith));
+      }
+        where
+          close : ℕ
+          close = closeOf (pendingAt W (suc p)) (length W)
+
+          is : getD m p 0 ≡ close
+          is = closing x p h
+
+          room : close < length behind
+          room = rw (k .long) (closing-room x p h)
+
+          stored : (i K : ℕ) (b : Bool) → eqb i close ≡ b → bit (getD (set behind (getD m p 0) (bitOr (getD behind (getD m p 0) 0) (r .behind))) i 0) K ≡ (bit (getD behind i 0) K || (b && returning Keeps G K))
+          stored i K true d =
+              let j : i ≡ close = eqb-true i close d in
+              rw (is, j, getD-set-same behind close (bitOr (getD behind close 0) (r .behind)) 0 room)
+              (bit-or (getD behind close 0) (r .behind) K ∙ ap (λ (b : Bool). bit (getD behind close 0) K || b) (behind-bit r e K))
+          stored i K false d =
+              rw (is, getD-set-other behind close i (bitOr (getD behind close 0) (r .behind)) 0 (eqb-false i close d))
+              (sym (or-false (bit (getD behind i 0) K)))
+
+          fronted : p < length ts → Fronted t head ts (suc p) next behind′
+          fronted l =
+              front-next g W p (length W) (tokenOf (getD ts p 0)) (tokens-at ts p l) (bit here) (λ j. bit (getD behind j 0)) (k .front h) (bit next) (λ j. bit (getD behind′ j 0))
+              (λ K. rw q (bit-or (getD behind p 0) (r .next) K ∙ ap (λ (b : Bool). bit (getD behind p 0) K || b) (next-bit r e K)))
+              (λ i K. rw q′ (stored i K (eqb i close) refl))
+
+      -- ── the set at the position ──
+
+      set-here : (r : ℕ) → kept g W p r ≡ (ltb r n && keepsAt here context (ruleIn t r))
+      set-here r = front-kept g W p (bit here) (λ j. bit (getD behind j 0)) (k .front h) r ∙ ap (λ (f : Rule → Bool). passed f (getElem? G r)) (sym same) ∙ go (ltb r n) refl
+        where
+          go : (b : Bool) → ltb r n ≡ b → passed (keepsAt here context) (getElem? G r) ≡ (b && keepsAt here context (ruleIn t r))
+          go true e = rw (rules-at t n r (ltb-true r n e))
+          go false e = past (getElem? G r) refl
+            where
+              past : (o : Option Rule) → getElem? G r ≡ o → passed (keepsAt here context) o ≡ false
+              past none q = refl
+              past (some R) q = absurd (omega (arith, rules-below t n r q, ltb-false r n e))
+
+      -- what is written has its words
+      pub words-here : {ws : List ℕ} → ws ≡ wordsIn t here context n → ws ≡ listed 4 (setWord g W p)
+      unfolding setWord
+      words-here {ws} e = ext-getD 0 ws (listed 4 (setWord g W p)) (held .0 ∙ sym (length-listed 4 (setWord g W p))) word
+        where
+          held : (length ws ≡ 4) × Held 32 n (λ q. keepsAt here context (ruleIn t q)) ws
+          held = rw e (words-held t here context n (x .ready .few))
+
+          word : (i : ℕ) → i < length ws → getD ws i 0 ≡ getD (listed 4 (setWord g W p)) i 0
+          word i l =
+              held-word 32 n (λ q. keepsAt here context (ruleIn t q)) ws (held .1) i
+              ∙ ap (wordOf 32) (fun-ext (λ b. sym (set-here (32 * i + b))))
+              ∙ sym (getD-listed 4 (setWord g W p) i 0 (rw (held .0) at l))
+
+      -- "a position is doubtful when its set holds more than one rule"
+      pub doubtful-here : {r : Ways} → r ≡ waysIn t here context n → doubtful g W p ≡ ltb 1 (r .held)
+      unfolding doubtful
+      doubtful-here {r} e =
+          let d : r .held ≡ count n (kept g W p) = rw e (held-count t here context n) ∙ sym (count-same n (kept g W p) (λ q. keepsAt here context (ruleIn t q)) (λ q l. set-here q ∙ rw (lt-ltb q n l))) in
+          rw (length-rules t n, d)
