@@ -18,7 +18,7 @@ save-requires : tie.Need-save-requires
 save-requires c κs =
     let s = c .before .before .before .before .before in
     let more = room (s .args .token) _ (s .args .top .depth) (c .before .before .token2 .given .1) (s .pre .1 .1 .0 .1) in
-    (more, s .pre .1 .1 .1 .0)
+    (omega arith, s .pre .1 .1 .1 .0)
 
 mul-names : tie.Need-mul-names
 mul-names c = search needs
