@@ -5,18 +5,20 @@ use native.Mathlib.Omega.{arith}
 use mathlib.Core.Path.{_≡_, refl, sym, _∙_, ap}
 use mathlib.Core.Logic.{⊎-elim}
 use mathlib.Core.Bool.{Bool, true, false, false≢true}
-use mathlib.Core.List.{List}
+use mathlib.Core.List.{List, _∷_}
 use mathlib.Core.Option.{Option·some-injective}
 use borrow.Author.Tests.{eqb-true, eq-eqb, ltb-true, ltb-false}
 use lib.Dec.{eqb, ltb}
-use lib.ListN.{drop}
+use lib.ListN.{length, drop}
 use Rattle.vpg.specs.declared.Token.{Token}
 use Rattle.vpg.specs.believed.Grammar.{Rules}
 use Rattle.vpg.specs.Steps.{left}
 use Rattle.laws.proofs.Bools.{and-left, and-right, both}
-use Rattle.level_theory.specs.Masks.{masks}
+use Rattle.level_theory.specs.Masks.{masks, Match}
+use Rattle.level_theory.specs.Pending.{pendingAt, closeOf, dueAt}
 use Rattle.level_theory.specs.Walk.{testAt}
 use Rattle.level_theory.proofs.Alive.{Passes, lefts-some, some-lefts}
+use Rattle.level_theory.proofs.Local.{Turn, turn}
 use Rattle.level_theory.proofs.Search.{None}
 use Rattle.level_theory.proofs.Walk.{level-test}
 use Rattle.contexts.specs.declared.Context.{Context}
@@ -78,3 +80,9 @@ module _ (t : List ℕ) (head : Head) (w : List Token) (mask : List ℕ) (p L : 
   -- and where one passes, L derives the rest of the level
   pub derives : (r : ℕ) → Passing r → masks G (drop p w) .0 L ≡ true
   derives r k = sym (level-test G (drop p w) L) ∙ some-lefts (testAt G (drop p w)) G L r (k .rule) (k .is) (k .from) (k .passes)
+
+  -- where a rule that fits leads over the token here, if what is due matches the levels
+  pub fitting-turn : (f : List ℕ) (u : Token) (here : drop p w ≡ u ∷ drop (suc p) w) → closeOf (pendingAt w (suc p)) (length w) < length f → Match (dueAt f (pendingAt w p)) (masks G (drop p w) .1) →
+      (r : ℕ) → r < head .rules → ruleFits (ruleIn t r) L context ≡ true → Turn G w (length w) f p u here L r (ruleIn t r)
+  unfolding passes
+  fitting-turn f u here room due r h q = let x = passes r h q in turn G w (length w) f p u here L r (ruleIn t r) room (derives r x, due) (x .is) (x .from) (x .passes)

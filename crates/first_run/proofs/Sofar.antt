@@ -2,10 +2,8 @@
 use Prim.Native.Nat.{ℕ, suc, _+_, _<_, _≤_}
 use native.Mathlib.Numerals.{add-one}
 use native.Mathlib.Omega.{arith}
-use borrow.Author.Tests.{eqb-true}
 use mathlib.Core.Path.{_≡_, refl, sym, _∙_, ap}
 use mathlib.Core.List.{List, [], _∷_, _++_, append-assoc, append-nil}
-use lib.Dec.{eqb}
 use lib.ListN.{length, take, drop, getD, set, length-set, drop-of-length-le}
 use lib.Seq.{take-suc-set, drop-set-lt}
 use Rattle.vpg.specs.declared.Rule.{Rule}
@@ -18,23 +16,19 @@ use Rattle.level_theory.specs.Pending.{pendingAt, closeOf, dueAt}
 use Rattle.level_theory.specs.Walk.{Run, testAt, inner, later}
 use Rattle.level_theory.proofs.Alive.{Passes}
 use Rattle.level_theory.proofs.Search.{None, end-first}
-use Rattle.level_theory.proofs.Local.{Turn, turn, first-turn}
+use Rattle.level_theory.proofs.Local.{Turn, first-turn}
 use Rattle.level_theory.proofs.Walk.{passes-end, end-passes, stored}
-use Rattle.vpg.specs.Steps.{left}
-use Rattle.laws.proofs.Bools.{and-left, and-right}
 use Rattle.contexts.specs.declared.Context.{Context}
-use Rattle.contexts.specs.Context.{appliesTo}
 use Rattle.tables.specs.declared.Head.{Head}
 use Rattle.tables.specs.Table.{ruleIn}
 use Rattle.tables.specs.Ready.{rulesOf}
-use Rattle.tables.proofs.Tables.{rules-at}
 use Rattle.history_file.specs.believed.HistoryFile.{tokenOf, tokensOf}
 use Rattle.levels.specs.Levels.{Leveled, Stands, Setting}
 use Rattle.levels.proofs.Levels.{tokens-length, tokens-at, pending-end}
 use Rattle.levels.proofs.Setting.{closing, closing-room}
 use Rattle.first_run.specs.declared.Configuration.{Configuration}
 use Rattle.first_run.specs.Fill.{Smallest, stateOf, Derives, Filled}
-use Rattle.first_run.proofs.Passing.{passes, found, least}
+use Rattle.first_run.proofs.Passing.{passes, found, least, fitting-turn}
 
 -- before position p stands the front of a run from a configuration whose rest is to be the first run from the state s
 pub record Sofar (g : Rules) (w : List Token) (from : Configuration) (s : State) (p : ℕ) (old new : List ℕ) : Type 0 where
@@ -132,9 +126,7 @@ module _ {t : List ℕ} {head : Head} {ts m mask : List ℕ} (set-up : Setting t
       inside = rw (k .room) (closing-room set-up p (omega arith))
 
       here-turn : Turn G W (length W) due p (tokenOf (getD ts p 0)) here L r (ruleIn t r)
-      here-turn =
-          turn G W (length W) due p (tokenOf (getD ts p 0)) here L r (ruleIn t r) inside (k .fits) (rules-at t (head .rules) r found-rule) (eqb-true _ _ (and-left _ _ (small .found found-rule)))
-          (sym (stands G after (ruleIn t r)) ∙ and-right (eqb (left (ruleIn t r)) L) (appliesTo (ruleIn t r) context) (small .found found-rule))
+      here-turn = fitting-turn t head W mask p L context stands after due (tokenOf (getD ts p 0)) here inside (k .fits .1) r found-rule (small .found found-rule)
 
       pub going-next : Goes (set new p r) (set due (getD m p 0) (later (ruleIn t r) (getD due (getD m p 0) 0))) (inner (ruleIn t r) (getD due p 0)) (p + 1)
       going-next =

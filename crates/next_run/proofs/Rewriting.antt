@@ -1,4 +1,4 @@
--- What is written from the place found on.
+-- What is written from the position found on.
 use Prim.Native.Nat.{ℕ, suc, _<_}
 use native.Mathlib.Omega.{arith}
 use mathlib.Core.Path.{_≡_, refl, _∙_}
@@ -10,28 +10,37 @@ use Rattle.vpg.specs.believed.Grammar.{Rules}
 use Rattle.vpg.specs.Extremes.{Least}
 use Rattle.vpg.specs.Runs.{State}
 use Rattle.level_theory.specs.Walk.{Run}
-use Rattle.first_run.specs.Fill.{Filled}
-use Rattle.next_run.specs.Next.{Follows, Rewritten}
+use Rattle.tables.specs.declared.Head.{Head}
+use Rattle.tables.specs.Ready.{rulesOf}
+use Rattle.first_run.specs.Fill.{stateOf, Filled}
+use Rattle.next_run.specs.declared.Branch.{Branch}
+use Rattle.next_run.specs.Next.{Follows, onward, Rewritten}
 
-module _ (g : Rules) (w : List Token) (s : State) (p r : ℕ) (old : List ℕ) (long : length w < length old) where
-  pub rewritten-on : (t : Token) (new : List ℕ) → p < length w → drop p w ≡ t ∷ drop (suc p) w → Filled g w s (suc p) (set old p r) new → Rewritten g w s p r old new
-  rewritten-on t new h e k = record {
+module _ (t : List ℕ) (head : Head) (w : List Token) (closes : List ℕ) (b : Branch) (old : List ℕ) (long : length w < length old) where
+  abbrev G : Rules
+  G = rulesOf t head
+
+  abbrev S : State
+  S = stateOf w (onward t closes b)
+
+  pub rewritten-on : (u : Token) (new : List ℕ) → b .position < length w → drop (b .position) w ≡ u ∷ drop (suc (b .position)) w → Filled G w (onward t closes b) (set old (b .position) (b .rule)) new → Rewritten t head w closes b old new
+  rewritten-on u new h e k = record {
     rest = k .run;
-    follows = following (drop p w) e (k .least);
-    written = k .written ∙ rw (take-suc-set old p r (omega arith), append-assoc);
-    kept = k .kept ∙ drop-set-lt (suc (length w)) old p r (omega arith);
+    follows = following (drop (b .position) w) e (k .least);
+    written = k .written ∙ rw (take-suc-set old (b .position) (b .rule) (omega arith), append-assoc);
+    kept = k .kept ∙ drop-set-lt (suc (length w)) old (b .position) (b .rule) (omega arith);
   }
     where
-      following : (v : List Token) → v ≡ t ∷ drop (suc p) w → Least (Run g s (drop (suc p) w)) (k .run) → Follows g s v (k .run)
+      following : (v : List Token) → v ≡ u ∷ drop (suc (b .position)) w → Least (Run G S (drop (suc (b .position)) w)) (k .run) → Follows G S v (k .run)
       following v q x = rw q x
 
-  pub rewritten-end : p ≡ length w → Rewritten g w s p r old (set old p r)
+  pub rewritten-end : b .position ≡ length w → Rewritten t head w closes b old (set old (b .position) (b .rule))
   rewritten-end e = record {
     rest = [];
-    follows = ended (drop p w) (drop-of-length-le w {i = p} (omega arith));
-    written = rw (← e) (take-suc-set old p r (omega arith));
-    kept = drop-set-lt (suc (length w)) old p r (omega arith);
+    follows = ended (drop (b .position) w) (drop-of-length-le w {i = b .position} (omega arith));
+    written = rw (← e) (take-suc-set old (b .position) (b .rule) (omega arith));
+    kept = drop-set-lt (suc (length w)) old (b .position) (b .rule) (omega arith);
   }
     where
-      ended : (v : List Token) → v ≡ [] → Follows g s v []
+      ended : (v : List Token) → v ≡ [] → Follows G S v []
       ended v q = rw q refl

@@ -2,16 +2,15 @@
 use Prim.Native.Nat.{ℕ, zero, suc, _+_, _-_, _<_, _≤_}
 use native.Mathlib.Nat.{eq-or-lt-of-le}
 use native.Mathlib.Omega.{arith}
-use mathlib.Core.Path.{_≡_, sym, _∙_, ap, ap₂}
+use mathlib.Core.Path.{_≡_, sym, _∙_, ap, ap₂, subst}
 use mathlib.Core.Logic.{⊎-elim}
 use mathlib.Core.Bool.{true, false, false≢true}
 use mathlib.Core.List.{List, [], _∷_, _++_}
 use mathlib.Core.Option.{Option·some-injective}
 use borrow.Author.Tests.{eqb-true, eq-eqb}
 use lib.Dec.{eqb}
-use lib.ListN.{length, take, drop, getD, set, take-append-drop, drop-of-length-le}
-use lib.Seq.{drop-cons, getD-take, length-take-le, take-take}
-use Rattle.bits.specs.Bit.{bit}
+use lib.ListN.{length, take, drop, getD, take-append-drop, drop-of-length-le}
+use lib.Seq.{drop-cons, take-take}
 use Rattle.vpg.specs.declared.Token.{Token}
 use Rattle.vpg.specs.believed.Grammar.{Rules}
 use Rattle.vpg.specs.Extremes.{Least, Next, Last}
@@ -23,61 +22,56 @@ use Rattle.vpg.proofs.Ascends.{entries-ascending}
 use Rattle.laws.proofs.Bools.{and-left, and-right, both}
 use Rattle.listing_model.proofs.Calls.{next-refused, next-written, next-no-further}
 use Rattle.vpg.proofs.Take.{end}
-use Rattle.level_theory.specs.Masks.{finishes, masks, Fits}
+use Rattle.level_theory.specs.Masks.{finishes}
 use Rattle.level_theory.specs.Pending.{pendingAt, closeOf, dueAt}
-use Rattle.level_theory.specs.Walk.{Run, testAt, inner, later}
+use Rattle.level_theory.specs.Walk.{Run, testAt}
 use Rattle.level_theory.specs.Local.{stateAt}
 use Rattle.level_theory.proofs.Alive.{Passes, run-fits}
 use Rattle.level_theory.proofs.Search.{None, end-last, end-next}
 use Rattle.level_theory.proofs.Walk.{passes-end, end-passes}
 use Rattle.level_theory.proofs.Local.{Turn, turn, RunFrom, LastFrom, NextFrom, run-left, last-left, next-here, next-all}
-use Rattle.tables.specs.Table.{ruleIn, rulesIn}
-use Rattle.tables.specs.Ready.{grammarIn}
+use Rattle.tables.specs.declared.Head.{Head}
+use Rattle.tables.specs.Table.{ruleIn}
+use Rattle.tables.specs.Ready.{rulesOf, grammarIn}
 use Rattle.tables.proofs.Tables.{rules-at, rules-below}
 use Rattle.history_file.specs.believed.HistoryFile.{tokenOf, tokensOf}
 use Rattle.levels.specs.Levels.{Setting}
 use Rattle.levels.proofs.Levels.{tokens-length, tokens-at, pending-end}
 use Rattle.levels.proofs.Setting.{closing, closing-room}
-use Rattle.replay.specs.Walked.{Reads}
-use Rattle.next_run.specs.Next.{fitsAt, NoneFrom, LastAt, Follows, Rewritten}
+use Rattle.first_run.specs.Fill.{stateOf, Derives}
+use Rattle.replay.specs.Replayed.{Reads}
+use Rattle.replay.proofs.Replaying.{number, numbers, state-start}
+use Rattle.next_run.specs.declared.Branch.{Branch}
+use Rattle.next_run.specs.Next.{fitsAt, NoneFrom, LastAt, Follows, onward, Rewritten}
 
-module _ {t : List ℕ} {n : ℕ} {ts m mask : List ℕ} (set-up : Setting t n ts m mask) (start : ℕ) (buf : List ℕ) (long : length ts < length buf) (matched : pendingAt (tokensOf ts) 0 ≡ []) where
+module _ {t : List ℕ} {head : Head} {ts m mask : List ℕ} (set-up : Setting t head ts m mask) (buf : List ℕ) (long : length ts < length buf) where
   abbrev W : List Token
   W = tokensOf ts
 
   abbrev G : Rules
-  G = rulesIn t n
+  G = rulesOf t head
 
   -- the numbers of the reading
   abbrev E : List ℕ
   E = take (suc (length ts)) buf
 
-  numbers : length E ≡ suc (length ts)
-  numbers = length-take-le (suc (length ts)) buf long
-
-  number : (p : ℕ) → p ≤ length ts → getD E p 0 ≡ getD buf p 0
-  number p h = getD-take (suc (length ts)) buf p 0 (omega arith)
-
   -- the call is made on these numbers
   on-numbers : take (suc (length W)) buf ≡ E
   on-numbers = rw tokens-length
 
-  pub none-refused : (Run G (start, []) W E → ⊥) → (refused 16, buf) ≡ callOn (overEntries (grammarIn t n start) W) next buf
-  none-refused h = sym (next-refused (entries (grammarIn t n start) W) (suc (length W)) buf (λ r. h (rw on-numbers at r)))
+  pub none-refused : (Run G (head .start, []) W E → ⊥) → (refused 16, buf) ≡ callOn (overEntries (grammarIn t head) W) next buf
+  none-refused h = sym (next-refused (entries (grammarIn t head) W) (suc (length W)) buf (λ r. h (rw on-numbers at r)))
 
-  pub start-refused : bit (getD mask 0 0) start ≡ false → (refused 16, buf) ≡ callOn (overEntries (grammarIn t n start) W) next buf
-  start-refused q = none-refused (λ r. false≢true (sym q ∙ (set-up .leveled 0 (omega arith) (omega arith) start ∙ run-fits G W start [] E r .0)))
-
-  module _ {at f : List ℕ} (k : Reads G W start E at f) where
+  module _ {at f : List ℕ} (k : Reads (grammarIn t head) W E at f) where
     -- ── what the search found, as the theory of runs asks for it ──
 
-    passes-at : (q r : ℕ) → r < n → fitsAt t n W at q r ≡ true → Passes (testAt G (drop q W)) G (getD at q 0) r
-    passes-at q r h x = record { rule = ruleIn t r; is = rules-at t n r h; from = eqb-true _ _ (and-left _ _ x); passes = and-right (eqb (left (ruleIn t r)) (getD at q 0)) _ x }
+    passes-at : (q r : ℕ) → r < head .rules → fitsAt t (head .rules) W at q r ≡ true → Passes (testAt G (drop q W)) G (getD at q 0) r
+    passes-at q r h x = record { rule = ruleIn t r; is = rules-at t (head .rules) r h; from = eqb-true _ _ (and-left _ _ x); passes = and-right (eqb (left (ruleIn t r)) (getD at q 0)) _ x }
 
-    none-at : (q : ℕ) (P : ℕ → Type 0) → ((r : ℕ) → r < n → P r → fitsAt t n W at q r ≡ false) → None (testAt G (drop q W)) G (getD at q 0) P
+    none-at : (q : ℕ) (P : ℕ → Type 0) → ((r : ℕ) → r < head .rules → P r → fitsAt t (head .rules) W at q r ≡ false) → None (testAt G (drop q W)) G (getD at q 0) P
     none-at q P h r x z =
-        let l = rules-below t n r (z .is) in
-        let e : ruleIn t r ≡ z .rule = Option·some-injective _ _ (sym (rules-at t n r l) ∙ z .is) in
+        let l = rules-below t (head .rules) r (z .is) in
+        let e : ruleIn t r ≡ z .rule = Option·some-injective _ _ (sym (rules-at t (head .rules) r l) ∙ z .is) in
         false≢true (sym (h r l x) ∙ both (eq-eqb _ _ (ap left e ∙ z .from)) (rw e (z .passes)))
 
     -- ── runs and last runs from each position ──
@@ -89,57 +83,56 @@ module _ {t : List ℕ} {n : ℕ} {ts m mask : List ℕ} (set-up : Setting t n t
     state-end = rw (pending-end W (length W) (omega arith))
 
     last-number : drop (length W) E ≡ getD E (length W) 0 ∷ []
-    last-number = drop-cons E (length W) 0 (omega (arith, numbers, tokens-length ts)) ∙ rw (drop-of-length-le E {i = suc (length W)} (omega (arith, numbers, tokens-length ts)))
+    last-number = drop-cons E (length W) 0 (omega (arith, numbers ts buf long, tokens-length ts)) ∙ rw (drop-of-length-le E {i = suc (length W)} (omega (arith, numbers ts buf long, tokens-length ts)))
 
     run-end : RunFrom G W at f E (length W)
     run-end = rw (last-number, state-end, done) (end G (k .ends))
 
     run-from : (d p : ℕ) → p + d ≡ length W → RunFrom G W at f E p
     run-from zero p e = let q : p ≡ length W = omega arith in rw q run-end
-    run-from (suc d) p e = run-left G W at f E p (k .leads p (omega arith)) (omega (arith, numbers, tokens-length ts)) (run-from d (suc p) (omega arith))
+    run-from (suc d) p e = run-left G W at f E p (k .leads p (omega arith)) (omega (arith, numbers ts buf long, tokens-length ts)) (run-from d (suc p) (omega arith))
 
-    pub is-run : Run G (start, []) W E
-    is-run = from-start (stateAt W at f 0) (rw (k .begins, matched)) (run-from (length W) 0 (omega arith))
-      where
-        from-start : (s : State) → s ≡ (start, []) → Run G s W E → Run G (start, []) W E
-        from-start s e h = rw e at h
+    -- the state at position 0 is the start, with nothing due
+    at-start : (P : State → Type 0) → P (stateAt W at f 0) → P (head .start, [])
+    at-start P x = subst P (state-start W at f (set-up .balanced) (k .begins)) x
 
-    larger-none : (p q : ℕ) → NoneFrom t n W at buf p → p ≤ q → q ≤ length W → None (testAt G (drop q W)) G (getD at q 0) (λ r. getD E q 0 < r)
-    larger-none p q x h l = none-at q (λ r. getD E q 0 < r) (λ r b a. x q h l r (rw (number q (omega (arith, tokens-length ts))) at a) b)
+    pub is-run : Run G (head .start, []) W E
+    is-run = at-start (λ s. Run G s W E) (run-from (length W) 0 (omega arith))
 
-    last-end : NoneFrom t n W at buf (length W) → LastFrom G W at f E (length W)
+    larger-none : (p q : ℕ) → NoneFrom t (head .rules) W at buf p → p ≤ q → q ≤ length W → None (testAt G (drop q W)) G (getD at q 0) (λ r. getD E q 0 < r)
+    larger-none p q x h l = none-at q (λ r. getD E q 0 < r) (λ r b a. x q h l r (rw (number ts buf q (omega (arith, tokens-length ts))) at a) b)
+
+    last-end : NoneFrom t (head .rules) W at buf (length W) → LastFrom G W at f E (length W)
     last-end x = rw (last-number, state-end, done) (end-last G (getD at (length W) 0) (getD E (length W) 0) (λ r a z. at-end (drop (length W) W) done (larger-none (length W) (length W) x (omega arith) (omega arith)) r a z))
       where
         at-end : (v : List Token) → v ≡ [] → None (testAt G v) G (getD at (length W) 0) (λ r. getD E (length W) 0 < r) → None finishes G (getD at (length W) 0) (λ r. getD E (length W) 0 < r)
         at-end v e h r a z = (rw e at h) r a (end-passes z)
 
-    last-from : (d p : ℕ) → p + d ≡ length W → NoneFrom t n W at buf p → LastFrom G W at f E p
+    last-from : (d p : ℕ) → p + d ≡ length W → NoneFrom t (head .rules) W at buf p → LastFrom G W at f E p
     last-from zero p e x = let q : p ≡ length W = omega arith in rw q (last-end (rw q at x))
     last-from (suc d) p e x =
-        last-left G W at f E p (k .leads p (omega arith)) (omega (arith, numbers, tokens-length ts)) (last-from d (suc p) (omega arith) (λ q h. x q (omega arith))) (larger-none p p x (omega arith) (omega arith))
+        last-left G W at f E p (k .leads p (omega arith)) (omega (arith, numbers ts buf long, tokens-length ts)) (last-from d (suc p) (omega arith) (λ q h. x q (omega arith))) (larger-none p p x (omega arith) (omega arith))
 
-    at-start : (P : State → Type 0) → P (stateAt W at f 0) → P (start, [])
-    at-start P x = go (stateAt W at f 0) (rw (k .begins, matched)) x
-      where
-        go : (s : State) → s ≡ (start, []) → P s → P (start, [])
-        go s e h = rw e at h
-
-    pub no-further-is : NoneFrom t n W at buf 0 → (no-further, buf) ≡ callOn (overEntries (grammarIn t n start) W) next buf
+    pub no-further-is : NoneFrom t (head .rules) W at buf 0 → (no-further, buf) ≡ callOn (overEntries (grammarIn t head) W) next buf
     no-further-is x =
-        sym (next-no-further (entries (grammarIn t n start) W) (suc (length W)) buf (entries-ascending (grammarIn t n start) W) (rw on-numbers is-run)
+        sym (next-no-further (entries (grammarIn t head) W) (suc (length W)) buf (entries-ascending (grammarIn t head) W) (rw on-numbers is-run)
         (rw on-numbers (at-start (λ s. Last (Run G s W) E) (last-from (length W) 0 (omega arith) x))))
 
-    -- ── the place and the rule found ──
+    -- ── the position and the rule found ──
 
-    module _ (p r : ℕ) (h : LastAt t n W at buf p r) where
+    module _ (p r : ℕ) (h : LastAt t (head .rules) W at buf p r) where
+      -- where the next reading leaves this one
+      abbrev B : Branch
+      B = record { position = p; rule = r; behind = f }
+
       last-behind : p < length W → LastFrom G W at f E (suc p)
       last-behind l = last-from (length W - suc p) (suc p) (omega arith) (h .last)
 
       above : getD E p 0 < r
-      above = rw (number p (omega (arith, h .position, tokens-length ts))) (h .larger)
+      above = rw (number ts buf p (omega (arith, h .position, tokens-length ts))) (h .larger)
 
       between : None (testAt G (drop p W)) G (getD at p 0) (λ s. (getD E p 0 < s) × (s < r))
-      between = none-at p (λ s. (getD E p 0 < s) × (s < r)) (λ s b a. h .least s (rw (number p (omega (arith, h .position, tokens-length ts))) at (a .0)) (a .1))
+      between = none-at p (λ s. (getD E p 0 < s) × (s < r)) (λ s b a. h .least s (rw (number ts buf p (omega (arith, h .position, tokens-length ts))) at (a .0)) (a .1))
 
       module _ (more : p < length ts) where
         here : drop p W ≡ tokenOf (getD ts p 0) ∷ drop (suc p) W
@@ -156,16 +149,16 @@ module _ {t : List ℕ} {n : ℕ} {ts m mask : List ℕ} (set-up : Setting t n t
             turn G W (length W) f p u e (getD at p 0) r (ruleIn t r) inside
             (run-fits G (drop p W) (getD at p 0) (dueAt f (pendingAt W p)) (drop p E) (run-from (length W - p) p (omega (arith, h .position)))) (x .is) (x .from) (x .passes)
 
-        pub rewrite-fits : Fits (inner (ruleIn t r) (getD f p 0)) (dueAt (set f (getD m p 0) (later (ruleIn t r) (getD f (getD m p 0) 0))) (pendingAt W (suc p))) (masks G (drop (suc p) W))
-        rewrite-fits = rw (closing set-up p (omega arith)) (found-turn (tokenOf (getD ts p 0)) here .fits)
+        pub rewrite-derives : Derives G W (onward t m B)
+        rewrite-derives = rw (closing set-up p (omega arith)) (found-turn (tokenOf (getD ts p 0)) here .fits)
 
       -- the state behind position p
       abbrev S : State
-      S = (inner (ruleIn t r) (getD f p 0), dueAt (set f (getD m p 0) (later (ruleIn t r) (getD f (getD m p 0) 0))) (pendingAt W (suc p)))
+      S = stateOf W (onward t m B)
 
       next-on : (x : List ℕ) → p < length ts → Least (Run G S (drop (suc p) W)) x → NextFrom G W at f E p (r ∷ x)
       next-on x more l =
-          next-here G W at f E p (k .leads p (rw tokens-length more)) (omega (arith, numbers)) (length W) r (ruleIn t r) x (last-behind (rw tokens-length more)) above
+          next-here G W at f E p (k .leads p (rw tokens-length more)) (omega (arith, numbers ts buf long)) (length W) r (ruleIn t r) x (last-behind (rw tokens-length more)) above
           (found-turn more (k .leads p (rw tokens-length more) .token) (k .leads p (rw tokens-length more) .here)) between (rw (closing set-up p (omega arith)) at l)
 
       next-end : p ≡ length W → NextFrom G W at f E p (r ∷ [])
@@ -192,11 +185,11 @@ module _ {t : List ℕ} {n : ℕ} {ts m mask : List ℕ} (set-up : Setting t n t
               on : (v : List Token) {u : Token} → v ≡ u ∷ drop (suc p) W → Follows G S v x → Least (Run G S (drop (suc p) W)) x
               on v q a = rw q at a
 
-      pub written-is : (new : List ℕ) → Rewritten G W S p r buf new → (written, new) ≡ callOn (overEntries (grammarIn t n start) W) next buf
+      pub written-is : (new : List ℕ) → Rewritten t head W m B buf new → (written, new) ≡ callOn (overEntries (grammarIn t head) W) next buf
       written-is new x =
-          let y : NextFrom G W at f E 0 (take p E ++ (r ∷ x .rest)) = next-all G W at f E p (r ∷ x .rest) (omega (arith, numbers, h .position, tokens-length ts)) (λ q l. k .leads q (omega (arith, h .position))) (follows-next (x .rest) (x .follows)) in
+          let y : NextFrom G W at f E 0 (take p E ++ (r ∷ x .rest)) = next-all G W at f E p (r ∷ x .rest) (omega (arith, numbers ts buf long, h .position, tokens-length ts)) (λ q l. k .leads q (omega (arith, h .position))) (follows-next (x .rest) (x .follows)) in
           let z : take p E ≡ take p buf = take-take p (suc (length ts)) buf (omega (arith, h .position, tokens-length ts)) in
           let e : new ≡ (take p E ++ (r ∷ x .rest)) ++ drop (suc (length W)) buf = sym (take-append-drop (suc (length W)) new) ∙ ap₂ _++_ (x .written ∙ ap (λ (b : List ℕ). b ++ (r ∷ x .rest)) (sym z)) (x .kept) in
           ap (λ (b : List ℕ). (written, b)) e
-          ∙ sym (next-written (entries (grammarIn t n start) W) (suc (length W)) buf (take p E ++ (r ∷ x .rest)) (entries-ascending (grammarIn t n start) W) (rw on-numbers is-run)
+          ∙ sym (next-written (entries (grammarIn t head) W) (suc (length W)) buf (take p E ++ (r ∷ x .rest)) (entries-ascending (grammarIn t head) W) (rw on-numbers is-run)
           (rw on-numbers (at-start (λ s. Next (Run G s W) E (take p E ++ (r ∷ x .rest))) y)))

@@ -1,23 +1,28 @@
--- The last place at which a larger rule still leads to a reading (document 01, "Services": "the successor differs first at the last
+-- The last position at which a larger rule still leads to a reading (document 01, "Services": "the successor differs first at the last
 -- place at which a larger rule still leads to a reading"), and what is written from there on.
 use Prim.Native.Nat.{ℕ, suc, _<_, _≤_}
 use mathlib.Core.Path.{_≡_}
 use mathlib.Core.Bool.{Bool, true, false, _&&_}
 use mathlib.Core.List.{List, [], _∷_, _++_}
 use lib.Dec.{eqb}
-use lib.ListN.{length, take, drop, getD}
+use lib.ListN.{length, take, drop, getD, set}
 use Rattle.vpg.specs.declared.Token.{Token}
 use Rattle.vpg.specs.believed.Grammar.{Rules}
 use Rattle.vpg.specs.Extremes.{Least}
 use Rattle.listing_model.specs.believed.Listing.{Answer, written, no-further, refused}
 use Rattle.vpg.specs.Runs.{State}
 use Rattle.vpg.specs.Steps.{left}
-use Rattle.level_theory.specs.Walk.{Run, testAt}
+use Rattle.level_theory.specs.Walk.{Run, testAt, inner, later}
+use Rattle.tables.specs.declared.Head.{Head}
 use Rattle.tables.specs.Table.{ruleIn, rulesIn}
+use Rattle.tables.specs.Ready.{rulesOf}
+use Rattle.first_run.specs.declared.Configuration.{Configuration}
+use Rattle.first_run.specs.Fill.{stateOf}
+use Rattle.next_run.specs.declared.Branch.{Branch}
 use Rattle.next_run.specs.declared.Found.{Found}
 use Rattle.next_run.specs.declared.NextAnswer.{NextAnswer}
 
--- rule number r is for the nonterminal at position q and can stand there
+-- rule number r is for the nonterminal at position q and can stand there; n: the number of rules
 abbrev pub fitsAt : List ℕ → ℕ → List Token → List ℕ → ℕ → ℕ → Bool
 fitsAt t n w at q r = eqb (left (ruleIn t r)) (getD at q 0) && testAt (rulesIn t n) (drop q w) (ruleIn t r)
 
@@ -38,16 +43,24 @@ abbrev pub LastPosition : List ℕ → ℕ → List Token → List ℕ → List 
 LastPosition t n w at e (Found.At p r) = LastAt t n w at e p r
 LastPosition t n w at e Found.Nothing = NoneFrom t n w at e 0
 
--- what follows rule number r at the end is nothing, and before that the first run from the state s
+-- what follows a rule at the end is nothing, and before that the first run from the state s
 abbrev pub Follows : Rules → State → List Token → List ℕ → Type 0
 Follows g s [] x = x ≡ []
 Follows g s (t ∷ v) x = Least (Run g s v) x
 
--- the buffer keeps its numbers before p, has r at p and what follows r behind it; all behind the reading is as it was
-pub record Rewritten (g : Rules) (w : List Token) (s : State) (p r : ℕ) (old new : List ℕ) : Type 0 where
+-- the configuration behind the rule of a branch
+abbrev pub onward : List ℕ → List ℕ → Branch → Configuration
+onward t closes b = record {
+  position = suc (b .position);
+  nonterminal = inner (ruleIn t (b .rule)) (getD (b .behind) (b .position) 0);
+  behind = set (b .behind) (getD closes (b .position) 0) (later (ruleIn t (b .rule)) (getD (b .behind) (getD closes (b .position) 0) 0));
+}
+
+-- the buffer keeps its numbers before the branch, has the branch's rule there and what follows it behind; all behind the reading is as it was
+pub record Rewritten (t : List ℕ) (head : Head) (w : List Token) (closes : List ℕ) (b : Branch) (old new : List ℕ) : Type 0 where
   pub rest : List ℕ
-  pub follows : Follows g s (drop p w) rest
-  pub written : take (suc (length w)) new ≡ take p old ++ (r ∷ rest)
+  pub follows : Follows (rulesOf t head) (stateOf w (onward t closes b)) (drop (b .position) w) rest
+  pub written : take (suc (length w)) new ≡ take (b .position) old ++ (b .rule ∷ rest)
   pub kept : drop (suc (length w)) new ≡ drop (suc (length w)) old
 
 -- 16: "the first n + 1 bytes handed to next reading are no reading of this history"

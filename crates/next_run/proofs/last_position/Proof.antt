@@ -1,4 +1,4 @@
--- `next_run::last_place` meets its contract.
+-- `next_run::last_position` meets its contract.
 use borrow.Author.Needs.{needs}
 use Prim.Native.Nat.{suc, _+_, _-_, _≤_, _<_}
 use mathlib.Core.Path.{_≡_, sym, _∙_}
@@ -12,16 +12,16 @@ use Rattle.next_run.proofs.last_position.Statement.{statement}
 use Rattle.next_run.proofs.last_position.Tie as tie
 
 abbrev Inv-loop : tie.InvT-loop
-Inv-loop table count w m mask at buf p context l r₀ r = (getD buf p 0 < r) × NoneBetween table (getD buf p 0) l context r
+Inv-loop table tokens closes masks at reading count p context nonterminal r₀ r = (getD reading p 0 < r) × NoneBetween table (getD reading p 0) nonterminal context r
 
 abbrev μ-loop : tie.MeasureT-loop
-μ-loop table count w m mask at buf p context l r₀ r = count - r
+μ-loop table tokens closes masks at reading count p context nonterminal r₀ r = count - r
 
 abbrev Inv-search : tie.InvT-search
-Inv-search table count w m mask at buf p₀ p = (p ≤ length w + 1) × NoneFrom table count (tokensOf w) at buf p
+Inv-search table tokens closes masks at reading count p₀ p = (p ≤ length tokens + 1) × NoneFrom table count (tokensOf tokens) at reading p
 
 abbrev μ-search : tie.MeasureT-search
-μ-search table count w m mask at buf p₀ p = p
+μ-search table tokens closes masks at reading count p₀ p = p
 
 add-p : tie.Need-add-p Inv-loop μ-loop Inv-search μ-search
 add-p c =
@@ -31,7 +31,7 @@ search-holds : tie.Need-search-holds Inv-loop μ-loop Inv-search μ-search
 search-holds c =
     let s = c .before .before in
     let a = s .args in
-    (omega arith, none-end (a .table .now) (a .count) (tokensOf (a .w .now)) (a .mask .now) (a .at .now) (a .buf .now) (s .pre .0 .leveled) (length (a .w .now) + 1) (omega (arith, tokens-length (a .w .now))))
+    (omega arith, none-end (a .table .now) (a .head .rules) (tokensOf (a .tokens .now)) (a .masks .now) (a .at .now) (a .reading .now) (s .pre .0 .leveled) (length (a .tokens .now) + 1) (omega (arith, tokens-length (a .tokens .now))))
 
 sub-p : tie.Need-sub-p Inv-loop μ-loop Inv-search μ-search
 sub-p c = search needs
@@ -42,14 +42,14 @@ context-at-requires c κs =
     let s = l .before .before .before in
     (s .pre .0 .tokens, (omega arith, s .pre .0 .matched))
 
-mul-l : tie.Need-mul-l Inv-loop μ-loop Inv-search μ-search
-mul-l c =
+mul-nonterminal : tie.Need-mul-nonterminal Inv-loop μ-loop Inv-search μ-search
+mul-nonterminal c =
     let l = c .before .before in
     let s = l .before .before .before in
     omega (arith, s .pre .0 .tokens .few)
 
-element-copy-out-l : tie.Need-element-copy-out-l Inv-loop μ-loop Inv-search μ-search
-element-copy-out-l c =
+element-copy-out-nonterminal : tie.Need-element-copy-out-nonterminal Inv-loop μ-loop Inv-search μ-search
+element-copy-out-nonterminal c =
     let l = c .before .before in
     let s = l .before .before .before in
     omega (arith, s .pre .0 .tokens .few)
@@ -81,7 +81,7 @@ search-again c =
     let q = c .before .before .before .before in
     let p = l .search .p - 1 in
     let e : suc p ≡ l .search .p = omega arith in
-    (omega arith, none-next (a .table .now) (a .count) (tokensOf (a .w .now)) (a .mask .now) (a .at .now) (a .buf .now) (s .pre .0 .leveled) p (q .context-at .result) (q .context-at .ensures) (i .loop .r) (c .loop-test .left) (i .loop .inv .1) (rw e (l .search .inv .1)))
+    (omega arith, none-next (a .table .now) (a .head .rules) (tokensOf (a .tokens .now)) (a .masks .now) (a .at .now) (a .reading .now) (s .pre .0 .leveled) p (q .context-at .result) (q .context-at .ensures) (i .loop .r) (c .loop-test .left) (i .loop .inv .1) (rw e (l .search .inv .1)))
 
 fits-requires : tie.Need-fits-requires Inv-loop μ-loop Inv-search μ-search
 fits-requires c κs =
@@ -119,7 +119,7 @@ returns-2 c =
     let p = l .search .p - 1 in
     let e : suc p ≡ l .search .p = omega arith in
     let yes = sym (c .before .fits2 .ensures) ∙ c .if2 .taken in
-    found-at (a .table .now) (a .count) (tokensOf (a .w .now)) (a .mask .now) (a .at .now) (a .buf .now) (s .pre .0 .leveled) p (q .context-at .result) (q .context-at .ensures) (i .loop .r) (omega (arith, tokens-length (a .w .now))) (i .loop .inv .0) (c .before .before .loop-test .taken)
+    found-at (a .table .now) (a .head .rules) (tokensOf (a .tokens .now)) (a .masks .now) (a .at .now) (a .reading .now) (s .pre .0 .leveled) p (q .context-at .result) (q .context-at .ensures) (i .loop .r) (omega (arith, tokens-length (a .tokens .now))) (i .loop .inv .0) (c .before .before .loop-test .taken)
     yes (i .loop .inv .1) (rw e (l .search .inv .1))
 
 pub last-position-spec : {M : Type 1} → statement M
@@ -134,8 +134,8 @@ last-position-spec =
     search-holds
     sub-p
     context-at-requires
-    mul-l
-    element-copy-out-l
+    mul-nonterminal
+    element-copy-out-nonterminal
     shared-slice-read-r
     cast-r
     add-r

@@ -1,4 +1,4 @@
--- `replay::walk` meets its contract.
+-- `replay::replay` meets its contract.
 use borrow.Author.Needs.{needs}
 use Prim.Native.Nat.{suc, _-_}
 use mathlib.Core.Path.{sym, _∙_}
@@ -6,15 +6,15 @@ use native.Mathlib.Omega.{arith}
 use Rattle.tables.specs.Table.{ruleIn}
 use lib.ListN.{length, take}
 use Rattle.levels.proofs.Setting.{close-room}
-use Rattle.replay.proofs.Walking.{Walking, walking-start, walking-refused, rule-below, walking-next, walking-last}
-use Rattle.replay.proofs.walk.Statement.{statement}
-use Rattle.replay.proofs.walk.Tie as tie
+use Rattle.replay.proofs.Replaying.{Replaying, replaying-start, replaying-refused, rule-below, replaying-next, replaying-last}
+use Rattle.replay.proofs.replay.Statement.{statement}
+use Rattle.replay.proofs.replay.Tie as tie
 
 abbrev Inv-loop : tie.InvT-loop
-Inv-loop table count start w m mask buf at₀ behind₀ p₀ at behind p = Walking table count w start (take (suc (length w)) buf) at behind p
+Inv-loop table head tokens closes masks reading at₀ behind₀ p₀ at behind p = Replaying table head tokens (take (suc (length tokens)) reading) at behind p
 
 abbrev μ-loop : tie.MeasureT-loop
-μ-loop table count start w m mask buf at₀ behind₀ p₀ at behind p = length w - p
+μ-loop table head tokens closes masks reading at₀ behind₀ p₀ at behind p = length tokens - p
 
 array-write-at : tie.Need-array-write-at Inv-loop μ-loop
 array-write-at c = search needs
@@ -23,7 +23,7 @@ loop-holds : tie.Need-loop-holds Inv-loop μ-loop
 loop-holds c =
     let s = c .before .before in
     let a = s .args in
-    walking-start (s .pre .0) (a .start) (a .buf .now) (s .pre .1 .0 .0) (s .pre .1 .0 .1) (s .pre .1 .1)
+    replaying-start (s .pre .0) (a .reading .now) (s .pre .1)
 
 shared-slice-read-r : tie.Need-shared-slice-read-r Inv-loop μ-loop
 shared-slice-read-r c = search needs
@@ -60,7 +60,7 @@ six-in-requires c κs =
     let l = c .before .before .before .before .before in
     let s = l .before .before .before in
     let a = s .args in
-    omega (arith, s .pre .0 .ready .few, rule-below (s .pre .0) (a .start) (a .buf .now) (s .pre .1 .0 .0) (s .pre .1 .0 .1) (l .loop .inv) (c .before .before .context-at .result) (c .before .before .context-at .ensures) (sym (c .before .stands .ensures) ∙ c .if1 .taken))
+    omega (arith, s .pre .0 .ready .few, rule-below (s .pre .0) (a .reading .now) (s .pre .1) (l .loop .inv) (c .before .before .context-at .result) (c .before .before .context-at .ensures) (sym (c .before .stands .ensures) ∙ c .if1 .taken))
 
 mul-j : tie.Need-mul-j Inv-loop μ-loop
 mul-j c = search needs
@@ -120,14 +120,14 @@ loop-again c =
     let a = s .args in
     let context = c .before .before .before .before .before .before .before .context-at in
     rw (c .store-later .ensures, c .before .before .inner-of .ensures, c .before .before .before .before .six-in .ensures)
-    (walking-next (s .pre .0) (a .start) (a .buf .now) (s .pre .1 .0 .0) (s .pre .1 .0 .1) (l .loop .inv) (context .result) (context .ensures) (sym (c .before .before .before .before .before .before .stands .ensures) ∙ c .before .before .before .before .before .if1 .taken) (c .before .before .before .before .before .before .before .before .before .loop-test .taken))
+    (replaying-next (s .pre .0) (a .reading .now) (s .pre .1) (l .loop .inv) (context .result) (context .ensures) (sym (c .before .before .before .before .before .before .stands .ensures) ∙ c .before .before .before .before .before .if1 .taken) (c .before .before .before .before .before .before .before .before .before .loop-test .taken))
 
 returns : tie.Need-returns Inv-loop μ-loop
 returns c =
     let l = c .before .before .before .before .before in
     let s = l .before .before .before in
     let a = s .args in
-    walking-refused (s .pre .0) (a .start) (a .buf .now) (s .pre .1 .0 .0) (s .pre .1 .0 .1) (l .loop .inv) (c .before .before .context-at .result) (c .before .before .context-at .ensures) (sym (c .before .stands .ensures) ∙ c .if1 .left)
+    replaying-refused (s .pre .0) (a .reading .now) (s .pre .1) (l .loop .inv) (c .before .before .context-at .result) (c .before .before .context-at .ensures) (sym (c .before .stands .ensures) ∙ c .if1 .left)
 
 context-at-requires-2 : tie.Need-context-at-requires-2 Inv-loop μ-loop
 context-at-requires-2 c κs =
@@ -164,10 +164,10 @@ returns-2 c =
     let l = c .before .before .before .before in
     let s = l .before .before .before in
     let a = s .args in
-    walking-last (s .pre .0) (a .start) (a .buf .now) (s .pre .1 .0 .0) (s .pre .1 .0 .1) (l .loop .inv) (c .before .before .context-at2 .result) (c .before .before .context-at2 .ensures) (c .stands2 .result) (c .stands2 .ensures) (omega arith)
+    replaying-last (s .pre .0) (a .reading .now) (s .pre .1) (l .loop .inv) (c .before .before .context-at2 .result) (c .before .before .context-at2 .ensures) (c .stands2 .result) (c .stands2 .ensures) (omega arith)
 
-pub walk-spec : {M : Type 1} → statement M
-walk-spec =
+pub replay-spec : {M : Type 1} → statement M
+replay-spec =
     tie.close
     (tie.spec
     Inv-loop
