@@ -2,7 +2,7 @@
 use Prim.Native.Nat.{ℕ, _+_, _*_, _^_, _<_, _≤_}
 use native.Mathlib.Nat.{mul-le-mul}
 use native.Mathlib.Omega.{arith}
-use mathlib.Core.Path.{_≡_, sym}
+use mathlib.Core.Path.{_≡_, refl, sym}
 use mathlib.Core.List.{List}
 use borrow.Author.Tests.{lt-ltb, le-ltb}
 use lib.ListN.{length, take}
@@ -35,6 +35,11 @@ module _ (each size : ℕ) (history : List ℕ) where
   pub history-fits : (numbers : List ℕ) (n : ℕ) → HistoryIs history numbers n → each * (n + 1) ≤ size → Numbers each size history n numbers
   history-fits numbers n k room =
       record { is = k .is; count = k .count; long = k .room; room = room; tokens = k .tokens; wellformed = k .wellformed }
+
+-- where no room is asked for, the files alone decide
+pub nothing-asked : (files : Files) → opened 0 0 files ≡ files
+nothing-asked (refused e) = refl
+nothing-asked (accepted g ts) = rw (le-ltb 0 (0 * (length ts + 1)) (omega arith))
 
 -- the two answers of the opening are apart
 apart : {A : Type 0} {head : Head} {n e : ℕ} → Opened.Files head n ≡ Opened.Refused e → A

@@ -1,22 +1,16 @@
 -- `sets::doubtful_count` meets its contract.
-use mathlib.Core.Path.{sym, _∙_, ap}
-use native.Mathlib.Omega.{arith}
-use lib.ListN.{length}
-use Rattle.sets_theory.specs.believed.Sets.{doubtfulCount}
-use Rattle.service.specs.believed.Frame.{filesIn}
-use Rattle.service.proofs.Passed.{files-refused, files-passed}
-use Rattle.service.proofs.Served.{served-refused, served-on}
-use Rattle.sets.specs.believed.Sets.{counted, refused}
-use Rattle.sets.proofs.SameSets.{same-count}
+use mathlib.Core.Path.{sym, _∙_}
+use Rattle.service.specs.believed.Opened.{filesIn}
+use Rattle.service.proofs.Opens.{nothing-asked}
 use borrow.Author.Needs.{needs}
 use Rattle.sets.proofs.doubtful_count.Statement.{statement}
 use Rattle.sets.proofs.doubtful_count.Tie as tie
 
-read-files-requires : tie.Need-read-files-requires
-read-files-requires c κs = search needs
+open-files-requires : tie.Need-open-files-requires
+open-files-requires c κs = search needs
 
-enum-known-answer : tie.Need-enum-known-answer
-enum-known-answer c = search needs
+enum-known-opened : tie.Need-enum-known-opened
+enum-known-opened c = search needs
 
 enum-told : tie.Need-enum-told
 enum-told c = search needs
@@ -26,55 +20,43 @@ refusal-of-requires c κs = search needs
 
 returns : tie.Need-returns
 returns c =
-    let s = c .before .before .before .before .before .before in
-    let a = s .args in
-    rw (c .refusal-of .ensures, c .before .enum-told .given .1, served-refused refused (λ g w. counted (doubtfulCount g w)) (λ n. 0) 0 (filesIn (a .grammar .now) (a .history .now)) _ (files-refused (a .grammar .now) (a .history .now) (c .before .before .before .read-files .ensures) _ (c .before .enum-told .given .1)))
-
-cast-n : tie.Need-cast-n
-cast-n c = search needs
-
-cast-doubtful-on : tie.Need-cast-doubtful-on
-cast-doubtful-on c = search needs
+    let o = c .before .before .before .open-files .ensures in
+    let q = c .before .enum-told .given .1 in
+    let a = c .before .before .before .before .before .before .before .before .args in
+    rw (c .refusal-of .ensures, q, sym (nothing-asked (filesIn (a .grammar .now) (a .history .now))) ∙ o .refuses _ q)
 
 array-share-prefix-tokens : tie.Need-array-share-prefix-tokens
 array-share-prefix-tokens c =
-    let s = c .before .before .before .before .before .before .before .before .before in
-    let a = s .args in
-    let k = files-passed (a .grammar .now) (a .history .now) (c .before .before .before .before .before .before .read-files .ensures) _ _ _ _ (c .before .before .before .before .answer .given .1) in
-    k .room
+    let o = c .before .before .before .before .open-files .ensures in
+    o .passes _ _ (c .before .before .opened .given .1) .long
 
 slice-aggregate-doubtful-on : tie.Need-slice-aggregate-doubtful-on
 slice-aggregate-doubtful-on c =
-    let s = c .before .before .before .before .before .before .before .before .before .before in
-    let a = s .args in
-    let k = files-passed (a .grammar .now) (a .history .now) (c .before .before .before .before .before .before .before .read-files .ensures) _ _ _ _ (c .before .before .before .before .before .answer .given .1) in
-    sym (ap length (k .numbers-are) ∙ k .count-is)
+    let o = c .before .before .before .before .before .open-files .ensures in
+    sym (o .passes _ _ (c .before .before .before .opened .given .1) .count)
 
 doubtful-on-requires : tie.Need-doubtful-on-requires
 doubtful-on-requires c κs =
-    let s = c .before .before .before .before .before .before .before .before .before .before in
-    let a = s .args in
-    let k = files-passed (a .grammar .now) (a .history .now) (c .before .before .before .before .before .before .before .read-files .ensures) _ _ _ _ (c .before .before .before .before .before .answer .given .1) in
-    (k .ready, (rw (k .numbers-are) (k .tokens), (k .start-small, rw (k .numbers-are) (k .top))))
+    let o = c .before .before .before .before .before .open-files .ensures in
+    let k = o .passes _ _ (c .before .before .before .opened .given .1) in
+    (k .ready, (k .tokens, k .balanced))
 
 returns-2 : tie.Need-returns-2
 returns-2 c =
-    let s = c .before .before .before .before .before .before .before .before .before .before .before in
-    let a = s .args in
-    let k = files-passed (a .grammar .now) (a .history .now) (c .before .before .before .before .before .before .before .before .read-files .ensures) _ _ _ _ (c .before .before .before .before .before .before .answer .given .1) in
-    ap counted (c .doubtful-on .ensures ∙ same-count (a .grammar .now) (a .history .now) _ _ _ _ k) ∙ sym (served-on refused (λ g w. counted (doubtfulCount g w)) (λ n. 0) 0 (filesIn (a .grammar .now) (a .history .now)) (k .g) (k .ts) (k .is) (omega arith))
+    let o = c .before .before .before .before .before .before .open-files .ensures in
+    let k = o .passes _ _ (c .before .before .before .before .opened .given .1) in
+    let a = c .before .before .before .before .before .before .before .before .before .before .before .args in
+    rw (sym (nothing-asked (filesIn (a .grammar .now) (a .history .now))) ∙ k .is, c .doubtful-on .ensures)
 
 pub doubtful-count-spec : {M : Type 1} → statement M
 doubtful-count-spec =
     tie.close
     (tie.spec
-    read-files-requires
-    enum-known-answer
+    open-files-requires
+    enum-known-opened
     enum-told
     refusal-of-requires
     returns
-    cast-n
-    cast-doubtful-on
     array-share-prefix-tokens
     slice-aggregate-doubtful-on
     doubtful-on-requires

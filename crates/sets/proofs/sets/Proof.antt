@@ -1,24 +1,17 @@
 -- `sets::sets` meets its contract.
-use Prim.Native.Nat.{ℕ, _+_}
-use mathlib.Core.Path.{sym, _∙_, ap}
-use mathlib.Core.List.{List, _++_}
+use mathlib.Core.Path.{sym, ap}
+use lib.ListN.{take, length-map}
 use native.Mathlib.Omega.{arith}
-use lib.ListN.{length, drop}
-use Rattle.sets_theory.specs.believed.Sets.{setWords}
-use Rattle.service.specs.believed.Frame.{filesIn}
-use Rattle.service.proofs.Passed.{files-refused, files-passed}
-use Rattle.service.proofs.Served.{served-refused, served-short, served-on}
-use Rattle.sets.specs.believed.Sets.{Given, written, refused, wordsFor}
-use Rattle.sets.proofs.SameSets.{same-sets}
+use Rattle.history_file.specs.believed.HistoryFile.{tokenOf}
 use borrow.Author.Needs.{needs}
 use Rattle.sets.proofs.sets.Statement.{statement}
 use Rattle.sets.proofs.sets.Tie as tie
 
-read-files-requires : tie.Need-read-files-requires
-read-files-requires c κs = search needs
+open-files-requires : tie.Need-open-files-requires
+open-files-requires c κs = search needs
 
-enum-known-answer : tie.Need-enum-known-answer
-enum-known-answer c = search needs
+enum-known-opened : tie.Need-enum-known-opened
+enum-known-opened c = search needs
 
 enum-told : tie.Need-enum-told
 enum-told c = search needs
@@ -28,76 +21,46 @@ refusal-of-requires c κs = search needs
 
 returns : tie.Need-returns
 returns c =
-    let s = c .before .before .before .before .before .before .before in
-    let a = s .args in
-    rw (c .refusal-of .ensures, c .before .enum-told .given .1, served-refused {A = Given × List ℕ} (λ e. (refused e, a .words .now)) (λ g w. (written, setWords g w ++ drop (wordsFor (length w)) (a .words .now))) wordsFor (length (a .words .now)) (filesIn (a .grammar .now) (a .history .now)) _ (files-refused (a .grammar .now) (a .history .now) (c .before .before .before .read-files .ensures) _ (c .before .enum-told .given .1)))
-
-cast-n : tie.Need-cast-n
-cast-n c = search needs
-
-add-if1 : tie.Need-add-if1
-add-if1 c = search needs
-
-mul-if1 : tie.Need-mul-if1
-mul-if1 c = search needs
-
-returns-2 : tie.Need-returns-2
-returns-2 c =
-    let s = c .before .before .before .before .before .before .before .before in
-    let a = s .args in
-    let k = files-passed (a .grammar .now) (a .history .now) (c .before .before .before .before .read-files .ensures) _ _ _ _ (c .before .before .answer .given .1) in
-    rw (served-short {A = Given × List ℕ} (λ e. (refused e, a .words .now)) (λ g w. (written, setWords g w ++ drop (wordsFor (length w)) (a .words .now))) wordsFor (length (a .words .now)) (filesIn (a .grammar .now) (a .history .now)) (k .g) (k .ts) (k .is) (omega (arith, k .count-is)))
-
-cast-sets-on : tie.Need-cast-sets-on
-cast-sets-on c = search needs
+    let o = c .before .before .before .open-files .ensures in
+    let q = c .before .enum-told .given .1 in
+    rw (c .refusal-of .ensures, q, o .refuses _ q)
 
 array-share-prefix-tokens : tie.Need-array-share-prefix-tokens
 array-share-prefix-tokens c =
-    let s = c .before .before .before .before .before .before .before .before .before .before .before in
-    let a = s .args in
-    let k = files-passed (a .grammar .now) (a .history .now) (c .before .before .before .before .before .before .before .read-files .ensures) _ _ _ _ (c .before .before .before .before .before .answer .given .1) in
-    k .room
+    let o = c .before .before .before .before .open-files .ensures in
+    o .passes _ _ (c .before .before .opened .given .1) .long
 
 slice-aggregate-sets-on : tie.Need-slice-aggregate-sets-on
 slice-aggregate-sets-on c =
-    let s = c .before .before .before .before .before .before .before .before .before .before .before .before in
-    let a = s .args in
-    let k = files-passed (a .grammar .now) (a .history .now) (c .before .before .before .before .before .before .before .before .read-files .ensures) _ _ _ _ (c .before .before .before .before .before .before .answer .given .1) in
-    sym (ap length (k .numbers-are) ∙ k .count-is)
+    let o = c .before .before .before .before .before .open-files .ensures in
+    sym (o .passes _ _ (c .before .before .before .opened .given .1) .count)
 
 sets-on-requires : tie.Need-sets-on-requires
 sets-on-requires c κs =
-    let s = c .before .before .before .before .before .before .before .before .before .before .before .before .before in
-    let a = s .args in
-    let k = files-passed (a .grammar .now) (a .history .now) (c .before .before .before .before .before .before .before .before .before .read-files .ensures) _ _ _ _ (c .before .before .before .before .before .before .before .answer .given .1) in
-    (k .ready, (rw (k .numbers-are) (k .tokens), (k .start-small, rw (k .numbers-are) (k .top), rw (k .numbers-are) (omega (arith, k .count-is)))))
+    let o = c .before .before .before .before .before .before .open-files .ensures in
+    let k = o .passes _ _ (c .before .before .before .before .opened .given .1) in
+    (k .ready, ((k .tokens, k .balanced), omega (arith, k .room, k .count)))
 
 same-length : tie.Need-same-length
 same-length c = search needs
 
-returns-3 : tie.Need-returns-3
-returns-3 c =
-    let s = c .before .before .before .before .before .before .before .before .before .before .before .before .before .before .before .before in
-    let a = s .args in
-    let k = files-passed (a .grammar .now) (a .history .now) (c .before .before .before .before .before .before .before .before .before .before .before .before .read-files .ensures) _ _ _ _ (c .before .before .before .before .before .before .before .before .before .before .answer .given .1) in
-    ap (λ (x : List ℕ). (written, x)) (c .before .before .sets-on .ensures ∙ same-sets (a .grammar .now) (a .history .now) _ _ _ _ k (a .words .now)) ∙ sym (served-on {A = Given × List ℕ} (λ e. (refused e, a .words .now)) (λ g w. (written, setWords g w ++ drop (wordsFor (length w)) (a .words .now))) wordsFor (length (a .words .now)) (filesIn (a .grammar .now) (a .history .now)) (k .g) (k .ts) (k .is) (omega (arith, k .count-is)))
+returns-2 : tie.Need-returns-2
+returns-2 c =
+    let o = c .before .before .before .before .before .before .before .before .before .open-files .ensures in
+    let k = o .passes _ _ (c .before .before .before .before .before .before .before .opened .given .1) in
+    rw (k .is, length-map (take _ _) tokenOf, c .before .before .sets-on .ensures)
 
 pub sets-spec : {M : Type 1} → statement M
 sets-spec =
     tie.close
     (tie.spec
-    read-files-requires
-    enum-known-answer
+    open-files-requires
+    enum-known-opened
     enum-told
     refusal-of-requires
     returns
-    cast-n
-    add-if1
-    mul-if1
-    returns-2
-    cast-sets-on
     array-share-prefix-tokens
     slice-aggregate-sets-on
     sets-on-requires
     same-length
-    returns-3)
+    returns-2)
