@@ -1,7 +1,8 @@
 -- `rules::rule_at` meets its contract.
 use borrow.Author.Needs.{needs}
-use borrow.Author.Tests.{eq-eqb, ne-eqb}
+use mathlib.Core.Path.{refl, _∙_}
 use Rattle.rules.specs.believed.Rule.{ruleAt}
+use Rattle.rules.proofs.Pairs.{refusal-stands, first-form, other-form}
 use Rattle.rules.proofs.rule_at.Statement.{statement}
 use Rattle.rules.proofs.rule_at.Tie as tie
 
@@ -19,18 +20,20 @@ pair-refusal-requires c κs = search needs
 
 returns : tie.Need-returns
 unfolding ruleAt
-returns c = simp (c .pair-refusal .ensures, ← (c .before .before .before .pair-at .ensures), c .before .enum-told .given .1)
+returns c = refusal-stands (c .before .before .before .pair-at .ensures) _ (c .before .enum-told .given .1) (c .pair-refusal .ensures)
 
 body-at-requires : tie.Need-body-at-requires
 body-at-requires c κs = search needs
 
 returns-2 : tie.Need-returns-2
 unfolding ruleAt
-returns-2 c = simp (← (c .before .before .before .before .pair-at .ensures), c .before .before .read .given .1, eq-eqb _ _ (c .if1 .taken))
+returns-2 c = first-form (c .before .before .before .before .pair-at .ensures) (c .before .before .read .given .1) _ _ _ refl (c .if1 .taken)
 
 returns-3 : tie.Need-returns-3
 unfolding ruleAt
-returns-3 c = simp (c .body-at .ensures, ← (c .before .before .before .before .before .pair-at .ensures), c .before .before .before .read .given .1, ne-eqb _ _ (c .before .if1 .left))
+returns-3 c =
+    c .body-at .ensures
+    ∙ other-form (c .before .before .before .before .before .pair-at .ensures) (c .before .before .before .read .given .1) _ _ _ refl (c .before .if1 .left)
 
 pub rule-at-spec : {M : Type 1} → statement M
 rule-at-spec =

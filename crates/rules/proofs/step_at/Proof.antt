@@ -1,6 +1,7 @@
 -- `rules::step_at` meets its contract.
 use borrow.Author.Needs.{needs}
 use Rattle.rules.specs.believed.Rule.{stepAt}
+use Rattle.rules.proofs.Pairs.{refusal-stands, rest-follows}
 use Rattle.rules.proofs.step_at.Statement.{statement}
 use Rattle.rules.proofs.step_at.Tie as tie
 
@@ -18,11 +19,11 @@ pair-refusal-requires c κs = search needs
 
 returns : tie.Need-returns
 unfolding stepAt
-returns c = simp (c .pair-refusal .ensures, ← (c .before .before .before .pair-at .ensures), c .before .enum-told .given .1)
+returns c = refusal-stands (c .before .before .before .pair-at .ensures) _ (c .before .enum-told .given .1) (c .pair-refusal .ensures)
 
 returns-2 : tie.Need-returns-2
 unfolding stepAt
-returns-2 c = simp (← (c .before .before .before .pair-at .ensures), c .before .read .given .1)
+returns-2 c = rest-follows (c .before .before .before .pair-at .ensures) _ (c .before .read .given .1)
 
 pub step-at-spec : {M : Type 1} → statement M
 step-at-spec =
