@@ -13,10 +13,11 @@ use Rattle.listing_model.specs.believed.Listing.{Call, Answer, Subject, due, Sh
 use Rattle.listing_model.specs.Calls.{callOn, overEntries}
 use Rattle.listing_model.proofs.Listing.{Proper, listing, start-agrees, entries-proper}
 use Rattle.files.specs.believed.Files.{Files, accepted, refused}
-use Rattle.service.specs.believed.Frame.{filesIn, served}
+use Rattle.service.specs.believed.Opened.{filesIn, opened, served}
+use Rattle.service.specs.believed.Given as service
 use Rattle.history_file.specs.believed.HistoryFile.{tokensOf}
 use Rattle.readings.specs.believed.Answers.{subject}
-use Rattle.calls.specs.believed.CallList.{codeOf, callOf, callsOf, coded, final, modelAnswers, modelBuffer, made, refused-by, callsDue}
+use Rattle.calls.specs.believed.CallList.{codeOf, callOf, callsOf, coded, final, modelAnswers, modelBuffer, callsDue}
 
 -- the answers and the last buffer, call by call
 abbrev pub answersBy : Subject → List Call → List ℕ → List ℕ
@@ -47,15 +48,16 @@ module _ (x : Subject) (p : Proper x) (cs : List Call) (buf : List ℕ) where
 
 -- the files and the buffer's length give a list of entries, or a refusal
 pub subject-proper : (grammar history : List ℕ) (size : ℕ) → Proper (subject grammar history size)
-subject-proper grammar history size = go (filesIn grammar history)
+subject-proper grammar history size = go (opened 1 size (filesIn grammar history))
   where
-    go : (f : Files) → Proper (served due overEntries suc size f)
+    go : (f : Files) → Proper (served due overEntries f)
     go (refused e) = tt
-    go (accepted g ts) = pass (ltb size (suc (length ts)))
-      where
-        pass : (b : Bool) → Proper (cond b (due 15) (overEntries g (tokensOf ts)))
-        pass true = tt
-        pass false = entries-proper g (tokensOf ts)
+    go (accepted g ts) = entries-proper g (tokensOf ts)
+
+-- the calls of first reading and next reading, one by one, give what the model gives
+pub subject-listing : (grammar history buf : List ℕ) (cs : List Call) → let x = subject grammar history (length buf) in
+    trace (callOn x) cs buf ≡ map (λ m. (m .0, shows x buf (m .1))) (trace (model x) cs (start x buf))
+subject-listing grammar history buf cs = listing (subject grammar history (length buf)) (subject-proper grammar history (length buf)) buf cs
 
 -- ── the loop ──
 
@@ -95,7 +97,7 @@ module _ (grammar history kinds answers₀ buf₀ : List ℕ) (room : length kin
         kept = drop-set-lt (length kinds) answers i r h ∙ k .kept;
       })
 
-  pub calling-end : {answers buf : List ℕ} {i : ℕ} → Calling grammar history kinds answers₀ buf₀ answers buf i → i ≡ length kinds → (made, answers, buf) ≡ callsDue X kinds answers₀ buf₀
+  pub calling-end : {answers buf : List ℕ} {i : ℕ} → Calling grammar history kinds answers₀ buf₀ answers buf i → i ≡ length kinds → (service.written, answers, buf) ≡ callsDue X kinds answers₀ buf₀
   calling-end {answers} {buf} {i} k e =
       let none : drop i (callsOf kinds) ≡ [] = drop-of-length-le (callsOf kinds) {i = i} (rw (length-map kinds callOf) (omega arith)) in
       let a : take (length kinds) answers ≡ answersBy X (callsOf kinds) buf₀ = rw (← e) (sym (append-nil (take i answers)) ∙ rw none at (k .said)) in
@@ -106,5 +108,5 @@ module _ (grammar history kinds answers₀ buf₀ : List ℕ) (room : length kin
       let d : buf ≡ modelBuffer X (callsOf kinds) buf₀ = b ∙ buffer-model X p (callsOf kinds) buf₀ in
       rw (le-ltb (length answers₀) (length kinds) room, ← c, ← d)
 
-pub calls-short : (x : Subject) (kinds answers buf : List ℕ) → length answers < length kinds → (refused-by 15, answers, buf) ≡ callsDue x kinds answers buf
+pub calls-short : (x : Subject) (kinds answers buf : List ℕ) → length answers < length kinds → (service.refused 15, answers, buf) ≡ callsDue x kinds answers buf
 calls-short x kinds answers buf h = rw (lt-ltb (length answers) (length kinds) h)

@@ -10,7 +10,7 @@ use Rattle.vpg.specs.Runs.{entries}
 use Rattle.sets_theory.specs.believed.Sets.{doubtfulCount, stopMarks}
 use Rattle.files.specs.believed.Files.{Files}
 use Rattle.files.specs.believed.Files
-use Rattle.service.specs.believed.Frame.{filesIn}
+use Rattle.service.specs.believed.Opened.{filesIn}
 use Rattle.readings.specs.believed.Answers.{subject}
 use Rattle.grammar_file.specs.believed.GrammarFile.{GrammarFile, grammarOf}
 use Rattle.grammar_file.specs.believed.GrammarFile
