@@ -14,8 +14,8 @@ use Rattle.vpg.specs.declared.Token.{Token}
 use Rattle.vpg.specs.believed.Grammar.{Grammar}
 use Rattle.vpg.specs.believed.Order.{Ascending}
 use Rattle.vpg.specs.Runs.{entries}
-use Rattle.listing_model.specs.believed.Listing.{Call, first, next, Answer, written, no-further, Subject, due, over, Shown, find, entry, start, modelFirst, onward, model, shows, trace}
-use Rattle.listing_model.specs.Calls.{firstOn, successor, nextOn, callOn, overEntries}
+use Rattle.listing_model.specs.believed.Listing.{Call, first, next, Answer, written, no-further, Subject, due, over, Shown, find, entry, start, modelFirst, onward, model, shows, trace, overEntries}
+use Rattle.listing_model.specs.Calls.{firstOn, successor, nextOn, callOn}
 use Rattle.vpg.proofs.Ascends.{entries-ascending}
 use Rattle.vpg.proofs.Entries.{entry-length}
 use Rattle.listing_model.proofs.Find.{at-mem, find-at, find-found}

@@ -5,18 +5,17 @@ use native.Mathlib.Omega.{arith}
 use mathlib.Core.Path.{_≡_, refl, sym, _∙_, ap, subst}
 use mathlib.Core.Bool.{Bool, true, false, not, false≢true}
 use mathlib.Core.List.{List, [], _++_}
-use borrow.Author.Tests.{ltb-true, ltb-false}
+use borrow.Author.Tests.{ltb-true, ltb-false, le-ltb}
 use lib.Dec.{ltb}
 use lib.ListN.{length, take, drop, getD, length-map, drop-of-length-le}
 use lib.Seq.{drop-cons, take-at}
-use Rattle.listing_model.specs.believed.Listing.{Subject, due, over, next}
-use Rattle.listing_model.specs.Calls.{callOn, successor, overEntries}
+use Rattle.listing_model.specs.believed.Listing.{Subject, due, over, next, overEntries}
+use Rattle.listing_model.specs.Calls.{callOn, successor}
 use Rattle.listing_model.proofs.Find.{at-mem, find-at}
 use Rattle.listing_model.proofs.Listing.{Proper, entries-proper}
 use Rattle.history_file.specs.believed.HistoryFile.{tokenOf, tokensOf}
 use Rattle.files.specs.believed.Files.{accepted}
-use Rattle.service.specs.believed.Frame.{filesIn}
-use Rattle.service.proofs.Served.{served-on}
+use Rattle.service.specs.believed.Opened.{filesIn}
 use Rattle.readings.specs.believed.Answers.{subject}
 use Rattle.lines.specs.Laid.{Laid, laid}
 use Rattle.lines.specs.declared.Cursor.{Cursor}
@@ -43,8 +42,7 @@ module _ (grammar history : List ℕ) (n : ℕ) (k : Passing grammar history n) 
   entries-are = rw (k .grammar-is, k .history-is, length-map (k .ts) tokenOf, k .count-is)
 
   pub subject-is : (size : ℕ) → n < size → subject grammar history size ≡ over (entriesOf grammar history) (suc n)
-  subject-is size h =
-      served-on due overEntries suc size (filesIn grammar history) (k .g) (k .ts) files-are (omega (arith, k .count-is)) ∙ entries-are
+  subject-is size h = rw (files-are, k .count-is, le-ltb size (1 * (n + 1)) (omega arith)) entries-are
 
   pub entries-in-order : Proper (over (entriesOf grammar history) (suc n))
   entries-in-order = subst (λ (x : Subject). Proper x) entries-are (entries-proper (k .g) (tokensOf (k .ts)))
