@@ -10,7 +10,7 @@ use Rattle.numbers.specs.believed.Number.{bytes}
 use Rattle.history_file.specs.declared.HistoryAnswer.{HistoryAnswer}
 use Rattle.history_file.specs.declared.HistoryAnswer.the-variants.{Accepted, Refused}
 use Rattle.history_file.specs.believed.HistoryFile.{HistoryFile, accepted, refused, historyOf}
-use Rattle.history_file.specs.HistoryTokens.{padded, historyRead, Tokens}
+use Rattle.history_file.specs.HistoryTokens.{historyRead, Tokens}
 use Rattle.history_file.specs.Wellformed.{Wellformed}
 use Rattle.history_file.proofs.Accepted.{history-wellformed}
 
