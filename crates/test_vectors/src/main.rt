@@ -58,10 +58,15 @@ fn compare_short(grammar: &[u8], history: &[u8], rules: &[u8], tokens: &[u8], wi
     }
 }
 
-// A case whose files pass, with its rules and tokens.
-fn compare_read(
+// What is shown of a case, and for how many bytes of readings there is room.
+struct Wanted {
     what: u8,
     limit: u16,
+}
+
+// A case whose files pass, with its rules and tokens.
+fn compare_read(
+    wanted: Wanted,
     grammar: &[u8],
     history: &[u8],
     rules: &[u8],
@@ -71,11 +76,12 @@ fn compare_read(
 )
     requires { ⌜ length (now tokens) ≤ 1024 ⌝ }
 {
+    let what = wanted.what;
     let mut list_space = io::large_buffer();
     let list: &mut [u8] = &mut list_space;
     let mut answers_space = [compare::FILLER; 300];
     let answers: &mut [u8] = &mut answers_space;
-    let entries = entries::enumerate(rules, tokens, limit, list);
+    let entries = entries::enumerate(rules, tokens, wanted.limit, list);
     shown::say_count(entries);
     tell(b"list", listed::same_list(grammar, history, list, entries));
     compare_short(grammar, history, rules, tokens, what / 2 % 2 == 1);
@@ -102,8 +108,7 @@ fn compare_case(
     let rules = test_enumerator::rules_of(grammar);
     let tokens = test_enumerator::tokens_of(history);
     compare_read(
-        what,
-        limit,
+        Wanted { what, limit },
         grammar,
         history,
         &rules[..size],
