@@ -2,7 +2,7 @@
 use borrow.Author.Needs.{needs}
 use mathlib.Core.Path.{_∙_, ap}
 use Rattle.tables.proofs.Tables.{rule-empty, rule-mark, rule-step}
-use Rattle.contexts.specs.Context.{isClose}
+use Rattle.level_theory.specs.Masks.{isClose}
 use Rattle.contexts.proofs.applies.Statement.{statement}
 use Rattle.contexts.proofs.applies.Tie as tie
 
