@@ -9,7 +9,7 @@ ghost use mathlib.Core.Path.{_≡_};
 ghost use mathlib.Core.Bool.{_&&_};
 ghost use Prim.Native.Nat.{_<_};
 ghost use Rattle.bits.specs.Bit.{bit};
-ghost use Rattle.level_theory.specs.Masks.{isMark, isOpen, isClose};
+ghost use Rattle.vpg.specs.Tests.{isMark, isOpen, anyClose};
 ghost use Rattle.tables.specs.Table.{ruleIn};
 ghost use Rattle.tables.specs.Ready.{Below, Ready};
 ghost use Rattle.contexts.specs.Context.{tokenHere, afterClose, appliesTo, withLeft, levelIn};
@@ -32,7 +32,7 @@ fn token_of(context: Context) -> Token
 }
 
 fn is_close(token: Token) -> bool
-    ensures { λ r. ⌜ r ≡ isClose token ⌝ }
+    ensures { λ r. ⌜ r ≡ anyClose token ⌝ }
 {
     match token {
         Token::Mark(_) => false,

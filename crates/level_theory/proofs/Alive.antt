@@ -9,17 +9,17 @@ use borrow.Author.Tests.{eqb-true, eq-eqb}
 use lib.Dec.{eqb}
 use lib.ListN.{getElem?}
 use Rattle.laws.proofs.Any.{any-some, some-any}
-use Rattle.vpg.specs.declared.MarkName.{MarkName}
-use Rattle.vpg.specs.declared.OpenName.{OpenName}
 use Rattle.vpg.specs.declared.CloseName.{CloseName}
 use Rattle.vpg.specs.declared.Rule.{Rule}
 use Rattle.vpg.specs.declared.Token.{Token}
 use Rattle.vpg.specs.believed.Grammar.{Rules}
 use Rattle.vpg.specs.Runs.{Stack, runs}
 use Rattle.vpg.specs.Steps.{left}
+use Rattle.vpg.specs.Tests.{isMark, isOpen}
 use Rattle.laws.proofs.Bools.{and-left, and-right, both}
-use Rattle.vpg.proofs.Take.{Move, by-empty, by-mark, by-step, taken, take, ended, end, name-mark, name-open, name-close}
-use Rattle.level_theory.specs.Masks.{Nonterminals, Outer, Masks, behind, isMark, isOpen, isClose, applies, finishes, lefts, outer, masks, Match, Fits}
+use Rattle.vpg.proofs.Take.{Move, by-empty, by-mark, by-step, taken, take, ended, end}
+use Rattle.vpg.proofs.Tests.{name-close, mark-is, open-is, any-close-is}
+use Rattle.level_theory.specs.Masks.{Nonterminals, Outer, Masks, behind, applies, finishes, lefts, outer, masks, Match, Fits}
 
 -- rule number r is for L and passes
 pub record Passes (p : Rule → Bool) (g : Rules) (L r : ℕ) : Type 0 where
@@ -45,28 +45,12 @@ pub record Goes (m : Masks) (R : Rule) (L : ℕ) (s : Stack) (t : Token) : Type 
   pub goes : Move R L s t nonterminal due
   pub fits : Fits nonterminal due m
 
--- the token that a test is about
-mark-is : (c : MarkName) (t : Token) → isMark c t ≡ true → Token.Mark c ≡ t
-mark-is c (Token.Mark c′) q = ap Token.Mark (name-mark (eqb-true _ _ q))
-mark-is c (Token.Open a) q = absurd (false≢true q)
-mark-is c (Token.Close b) q = absurd (false≢true q)
-
-open-is : (a : OpenName) (t : Token) → isOpen a t ≡ true → Token.Open a ≡ t
-open-is a (Token.Mark c) q = absurd (false≢true q)
-open-is a (Token.Open a′) q = ap Token.Open (name-open (eqb-true _ _ q))
-open-is a (Token.Close b) q = absurd (false≢true q)
-
-close-is : (t : Token) → isClose t ≡ true → (b : CloseName) × (Token.Close b ≡ t)
-close-is (Token.Mark c) q = absurd (false≢true q)
-close-is (Token.Open a) q = absurd (false≢true q)
-close-is (Token.Close b) q = (b, refl)
-
 close-goes : {M : ℕ} {b : CloseName} {d : CloseName × ℕ} {s : Stack} → d .0 ≡ b → Move (Rule.Empty M) M (d ∷ s) (Token.Close b) (d .1) s
 close-goes q = rw (← q) by-empty
 
 -- a rule that applies goes on, whatever is due
 pub applies-goes : (m : Masks) (t : Token) (R : Rule) (s : Stack) → Match s (outer t m) → applies m t R ≡ true → Goes m R (left R) s t
-applies-goes m t (Rule.Empty M) s f q = let b = close-is t q in subst (λ (t : Token). Match s (outer t m) → Goes m (Rule.Empty M) M s t) (b .1) (closes (b .0) s) f
+applies-goes m t (Rule.Empty M) s f q = let b = any-close-is t q in subst (λ (t : Token). Match s (outer t m) → Goes m (Rule.Empty M) M s t) (b .1) (closes (b .0) s) f
   where
     closes : (b : CloseName) (s : Stack) → Match s (outer (Token.Close b) m) → Goes m (Rule.Empty M) M s (Token.Close b)
     closes b [] f = absurd f

@@ -5,14 +5,13 @@ use mathlib.Core.Bool.{Bool, true, false, _&&_, _||_}
 use mathlib.Core.List.{List, [], _∷_}
 use lib.Dec.{eqb}
 use Rattle.laws.specs.Any.{any}
-use Rattle.vpg.specs.declared.MarkName.{MarkName}
-use Rattle.vpg.specs.declared.OpenName.{OpenName}
 use Rattle.vpg.specs.declared.CloseName.{CloseName}
 use Rattle.vpg.specs.declared.Rule.{Rule}
 use Rattle.vpg.specs.declared.Token.{Token}
 use Rattle.vpg.specs.believed.Grammar.{Rules}
 use Rattle.vpg.specs.Runs.{Stack}
 use Rattle.vpg.specs.Steps.{left}
+use Rattle.vpg.specs.Tests.{isMark, isOpen, anyClose}
 
 -- a set of nonterminals
 abbrev pub Nonterminals : Type 0
@@ -31,26 +30,10 @@ abbrev pub behind : Outer → CloseName → Nonterminals
 behind [] b L = false
 behind (d ∷ ms) b L = eqb (b .0) (d .0 .0) && d .1 L
 
--- is it this mark, this open, a close
-abbrev pub isMark : MarkName → Token → Bool
-isMark c (Token.Mark c′) = eqb (c .0) (c′ .0)
-isMark c (Token.Open a) = false
-isMark c (Token.Close b) = false
-
-abbrev pub isOpen : OpenName → Token → Bool
-isOpen a (Token.Mark c) = false
-isOpen a (Token.Open a′) = eqb (a .0) (a′ .0)
-isOpen a (Token.Close b) = false
-
-abbrev pub isClose : Token → Bool
-isClose (Token.Mark c) = false
-isClose (Token.Open a) = false
-isClose (Token.Close b) = true
-
 -- can R stand at the token, whatever nonterminal it is for; inside: what derives the rest of the level behind the token, after b: what
 -- derives the rest of the level behind its close, which is b
 abbrev pub stands : Nonterminals → (CloseName → Nonterminals) → Token → Rule → Bool
-stands inside after t (Rule.Empty M) = isClose t
+stands inside after t (Rule.Empty M) = anyClose t
 stands inside after t (Rule.Mark M c M₁) = isMark c t && inside M₁
 stands inside after t (Rule.Step M a M₁ b M₂) = isOpen a t && (inside M₁ && after b M₂)
 
