@@ -51,14 +51,6 @@ open-to n a S L₃ R q =
     let e = and-right (anyBelow n (λ L₁. S L₁ (left R))) _ (r .passes) in
     record { current = left R; close = r .close; next = r .next; is = r .is ∙ rw (name-open {x = r .name} {y = a} (eqb-true _ _ (and-left _ _ e)), eqb-true (r .inside) L₃ (and-right (eqb (r .name .0) (a .0)) _ e)) }
 
-record EndsFrom (S : PairState) (L₃ : ℕ) (R : Rule) : Type 0 where
-  current : ℕ
-  is : R ≡ Rule.Empty current
-  pair : S L₃ current ≡ true
-
-ends-from : (S : PairState) (L₃ : ℕ) (R : Rule) → endsFrom S L₃ R ≡ true → EndsFrom S L₃ R
-ends-from S L₃ R q = let r = if-empty (S L₃) R q in record { current = left R; is = r .0; pair = r .1 }
-
 record CloseTo (g : Grammar) (b : CloseName) (S S₁ : PairState) (a : OpenName) (L₁ L₅ : ℕ) (R : Rule) : Type 0 where
   current : ℕ
   inside : ℕ
@@ -317,8 +309,8 @@ module _ (g : Grammar) where
           let s = any-some (closeTo g b S S₁ a (h .context) (h .current)) (g .rules) (h .pair) in
           let m = close-to g b S S₁ a (h .context) (h .current) (s .element) (s .passes) in
           let s′ = any-some (endsFrom S (m .inside)) (g .rules) (m .ends) in
-          let m′ = ends-from S (m .inside) (s′ .element) (s′ .passes) in
-          in-step (h .context) (s .number) (m′ .pair) (by-empty (rw (m′ .is) at (s′ .is))) (m .pair) (rw (m .is) at (s .is)) (h .takes)
+          let m′ = if-empty (S (m .inside)) (s′ .element) (s′ .passes) in
+          in-step (h .context) (s .number) (m′ .1) (by-empty (rw (m′ .0) at (s′ .is))) (m .pair) (rw (m .is) at (s .is)) (h .takes)
 
   -- with no step open, no close is taken
   no-close-at-bottom : (b : CloseName) (S : PairState) (w : List Token) → Takes (g .rules) S [] (Token.Close b ∷ w) → ⊥
@@ -385,8 +377,8 @@ module _ (g : Grammar) where
       accepting [] q =
           let b = below-some (g .nonterminals) (finished g (x .0)) q in
           let s = any-some (endsFrom (x .0) (b .number)) (g .rules) (b .passes) in
-          let m = ends-from (x .0) (b .number) (s .element) (s .passes) in
-          at-bottom (b .number) (m .pair) (by-empty (rw (m .is) at (s .is)))
+          let m = if-empty (x .0 (b .number)) (s .element) (s .passes) in
+          at-bottom (b .number) (m .1) (by-empty (rw (m .0) at (s .is)))
       accepting (d ∷ T) q = absurd (false≢true q)
 
       accepted : (T : PairStack) → Split (g .rules) (x .0) T [] → (bottom T && anyBelow (g .nonterminals) (finished g (x .0))) ≡ true

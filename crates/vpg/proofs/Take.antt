@@ -17,7 +17,7 @@ use Rattle.vpg.specs.declared.Token.{Token}
 use Rattle.vpg.specs.believed.Grammar.{Rules}
 use Rattle.vpg.specs.Runs.{Stack, State, only, move, ends, collect, once, follow, runs}
 use Rattle.vpg.specs.Tests.{isMark, isOpen, isClose}
-use Rattle.vpg.proofs.Tests.{mark-is, open-is, close-is, if-empty}
+use Rattle.vpg.proofs.Tests.{mark-is, open-is, close-is, empty-is}
 
 -- ── collect ──
 
@@ -117,7 +117,7 @@ pub record Ended (g : Rules) (L : ℕ) (s : Stack) (e : List ℕ) : Type 0 where
   pub shape : e ≡ number ∷ []
 
 pub ends-true : (R : Rule) (L : ℕ) (s : Stack) → ends R L s ≡ true → (R ≡ Rule.Empty L) × (s ≡ [])
-ends-true R L [] p = let h = if-empty (λ M. eqb M L) R p in (h .0 ∙ ap Rule.Empty (eqb-true _ _ (h .1)), refl)
+ends-true R L [] p = (empty-is L R p, refl)
 ends-true R L (d ∷ s) p = absurd (false≢true p)
 
 once-mem : {e : List ℕ} (b : Bool) → List·Memᴰ e (once b) → (b ≡ true) × (e ≡ [])

@@ -1,8 +1,9 @@
 -- What a token or a rule that passes a test is.
 use Prim.Native.Nat.{ℕ}
-use mathlib.Core.Path.{_≡_, refl, ap}
+use mathlib.Core.Path.{_≡_, refl, _∙_, ap}
 use mathlib.Core.Bool.{Bool, true, false, false≢true}
 use borrow.Author.Tests.{eqb-true}
+use lib.Dec.{eqb}
 use Rattle.vpg.specs.declared.MarkName.{MarkName}
 use Rattle.vpg.specs.declared.OpenName.{OpenName}
 use Rattle.vpg.specs.declared.CloseName.{CloseName}
@@ -50,6 +51,9 @@ pub if-empty : (test : ℕ → Bool) (R : Rule) → ifEmpty test R ≡ true → 
 if-empty test (Rule.Empty L) q = (refl, q)
 if-empty test (Rule.Mark L c L₁) q = absurd (false≢true q)
 if-empty test (Rule.Step L a L₁ b L₂) q = absurd (false≢true q)
+
+pub empty-is : (L : ℕ) (R : Rule) → ifEmpty (λ M. eqb M L) R ≡ true → R ≡ Rule.Empty L
+empty-is L R q = let r = if-empty (λ M. eqb M L) R q in r .0 ∙ ap Rule.Empty (eqb-true _ _ (r .1))
 
 pub record MarkRule (test : ℕ → MarkName → ℕ → Bool) (R : Rule) : Type 0 where
   pub name : MarkName
