@@ -9,8 +9,8 @@ use borrow.Author.Tests.{lt-ltb, le-ltb}
 use lib.Dec.{ltb}
 use lib.ListN.{length, take, drop, getD, set, length-set, length-map, take-append-drop, drop-of-length-le}
 use lib.Seq.{take-suc-set, drop-set-lt}
-use Rattle.listing_model.specs.believed.Listing.{Call, Answer, Subject, due, Shown, start, model, shows, trace}
-use Rattle.listing_model.specs.Calls.{callOn, overEntries}
+use Rattle.listing_model.specs.believed.Listing.{Call, Answer, Subject, due, Shown, start, model, shows, trace, overEntries}
+use Rattle.listing_model.specs.Calls.{callOn}
 use Rattle.listing_model.proofs.Listing.{Proper, listing, start-agrees, entries-proper}
 use Rattle.files.specs.believed.Files.{Files, accepted, refused}
 use Rattle.service.specs.believed.Opened.{filesIn, opened, served}

@@ -11,8 +11,8 @@ use Rattle.vpg.specs.believed.Grammar.{Grammar}
 use Rattle.vpg.specs.Extremes.{Least}
 use Rattle.vpg.specs.Runs.{Stack, entries}
 use Rattle.vpg.proofs.Ascends.{entries-ascending}
-use Rattle.listing_model.specs.believed.Listing.{first, written, no-reading}
-use Rattle.listing_model.specs.Calls.{callOn, overEntries}
+use Rattle.listing_model.specs.believed.Listing.{first, written, no-reading, overEntries}
+use Rattle.listing_model.specs.Calls.{callOn}
 use Rattle.listing_model.proofs.Calls.{first-written, first-nothing}
 use Rattle.level_theory.specs.Masks.{Outer, masks, Match}
 use Rattle.level_theory.specs.Pending.{pendingAt, dueAt}

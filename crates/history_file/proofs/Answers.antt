@@ -1,25 +1,21 @@
 -- What the answer of `read_history` tells of the history file.
-use Prim.Native.Nat.{ℕ, zero, suc, _-_, _<_, _≤_}
+use Prim.Native.Nat.{ℕ, _-_, _≤_}
 use mathlib.Core.Path.{_≡_, refl, ap}
-use mathlib.Core.List.{List, [], _∷_, List·Memᴰ, List·Memᴰ·head, List·Memᴰ·tail}
+use mathlib.Core.List.{List}
 use native.Mathlib.Omega.{arith}
 use lib.ListN.{length, take, getD, replicate, length-append, length-replicate}
 use lib.Seq.{take-append-seam}
+use Rattle.laws.proofs.Lists.{at-member}
 use Rattle.numbers.specs.believed.Number.{bytes}
 use Rattle.history_file.specs.declared.HistoryAnswer.{HistoryAnswer}
 use Rattle.history_file.specs.declared.HistoryAnswer.the-variants.{Accepted, Refused}
 use Rattle.history_file.specs.believed.HistoryFile.{HistoryFile, accepted, refused, historyOf}
-use Rattle.history_file.specs.HistoryTokens.{padded, historyRead, Tokens}
+use Rattle.history_file.specs.HistoryTokens.{historyRead, Tokens}
 use Rattle.history_file.specs.Wellformed.{Wellformed}
 use Rattle.history_file.proofs.Accepted.{history-wellformed}
 
-at-member : (ts : List ℕ) (i : ℕ) → i < length ts → List·Memᴰ (getD ts i 0) ts
-at-member [] i h = absurd (omega arith)
-at-member (t ∷ ts) zero h = List·Memᴰ·head refl
-at-member (t ∷ ts) (suc i) h = List·Memᴰ·tail (at-member ts i (omega arith))
-
 wellformed-tokens : (ts : List ℕ) → Wellformed ts → Tokens ts
-wellformed-tokens ts w = record { few = w .few; small = λ i h. omega (arith, w .tokens (getD ts i 0) (at-member ts i h) .small) }
+wellformed-tokens ts w = record { few = w .few; small = λ i h. omega (arith, w .tokens (getD ts i 0) (at-member ts i 0 h) .small) }
 
 -- what an accepted file says: the first n of the numbers
 pub record HistoryIs (s numbers : List ℕ) (n : ℕ) : Type 0 where

@@ -1,5 +1,5 @@
 -- What a caller learns of a token that was read, and one turn of the loop over the tokens, of which k of n are read.
-use Prim.Native.Nat.{ℕ, suc, _+_, _-_, _<_, _≤_}
+use Prim.Native.Nat.{ℕ, _+_, _-_, _<_, _≤_}
 use mathlib.Core.Path.{_≡_, refl}
 use mathlib.Core.Logic.{_≢_}
 use mathlib.Core.Bool.{Bool, true, false, cond, _&&_, _||_}
@@ -12,6 +12,7 @@ use Rattle.numbers.specs.declared.NumberRead.{NumberRead}
 use Rattle.numbers.specs.declared.NumberRead.the-variants.{Number, Refused as NumberRefused}
 use Rattle.numbers.specs.believed.Number.{Source}
 use Rattle.laws.proofs.Bools.{chose-second}
+use Rattle.laws.proofs.Lists.{one-due}
 use Rattle.history_file.specs.declared.TokenRead.the-variants.{Token as TokenIs, Refused as TokenRefused}
 use Rattle.history_file.specs.believed.HistoryFile.{kind, tokenJudged, judged, tokenAt, depthAfter, refused, tokensFrom}
 
@@ -86,14 +87,11 @@ depth-most r depth t next j h = go (eqb (kind t) 1) refl (eqb (kind t) 2)
     go false p false = h
 
 module _ (x : Source) (n k at depth : ℕ) (ts : List ℕ) (more : k < n) where
-  one-due : n - k ≡ suc (n - (k + 1))
-  one-due = omega arith
-
   pub turn-refused : (e : ℕ) → tokenAt (x .number) at depth ≡ TokenRefused e → tokensFrom x (n - k) at depth ts ≡ refused e
   unfolding tokensFrom
-  turn-refused e h = rw (one-due, h)
+  turn-refused e h = rw (one-due n k more, h)
 
   pub turn-next : (t next : ℕ) → tokenAt (x .number) at depth ≡ TokenIs t next →
       tokensFrom x (n - k) at depth ts ≡ tokensFrom x (n - (k + 1)) next (depthAfter t depth) (ts ++ (t ∷ []))
   unfolding tokensFrom
-  turn-next t next h = rw (one-due, h)
+  turn-next t next h = rw (one-due n k more, h)

@@ -157,7 +157,7 @@ fn tokens_at(s: &[u8], from: usize, due: usize, tokens: &mut TokenNumbers) -> Hi
     HistoryAnswer::Accepted(due)
 }
 
-// Reads the file into zeros that the caller lends, which stand behind the tokens; a refused file leaves zeros alone.
+// Reads the file into zeros that the caller lends, which stay behind the tokens; a refused file leaves zeros.
 pub fn read_history(s: &[u8], tokens: &mut TokenNumbers) -> HistoryAnswer
     requires { ⌜ now tokens ≡ replicate 1024 0 ⌝ }
     ensures { λ r. ⌜ (r, now (tokens .exit)) ≡ historyRead (historyOf (now (s .entry))) ⌝ }

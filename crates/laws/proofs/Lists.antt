@@ -1,15 +1,15 @@
--- Laws of lists: their first element and the rest, the element at a position; and of two numbers one is smaller.
-use Prim.Native.Nat.{ℕ, zero, suc, _+_, _<_}
+-- Laws of lists: their first element and the rest, the element at a position; and of numbers: one of two is smaller, how many are left.
+use Prim.Native.Nat.{ℕ, zero, suc, _+_, _-_, _<_}
 use native.Mathlib.Nat.{zero-add, suc-add}
 use native.Mathlib.Omega.{arith}
 use mathlib.Core.Path.{_≡_, refl}
 use mathlib.Core.Logic.{_⊎_, inl, inr, ⊎-elim}
 use mathlib.Core.Bool.{Bool, true, false}
-use mathlib.Core.List.{List, [], _∷_, _++_}
+use mathlib.Core.List.{List, [], _∷_, _++_, List·Memᴰ, List·Memᴰ·head, List·Memᴰ·tail}
 use mathlib.Core.Option.{some, Option·none-ne-some}
 use borrow.Author.Tests.{ltb-true, ltb-false}
 use lib.Dec.{ltb}
-use lib.ListN.{length, drop, getElem?}
+use lib.ListN.{length, drop, getD, getElem?}
 
 pub trichotomy : (x y : ℕ) → (x ≡ y) ⊎ ((x < y) ⊎ (y < x))
 trichotomy x y = go (ltb x y) refl (ltb y x) refl
@@ -18,6 +18,10 @@ trichotomy x y = go (ltb x y) refl (ltb y x) refl
     go true p b q = inr (inl (ltb-true x y p))
     go false p true q = inr (inr (ltb-true y x q))
     go false p false q = inl (omega (arith, ltb-false))
+
+-- of n that are due, k are done
+pub one-due : (n k : ℕ) → k < n → n - k ≡ suc (n - (k + 1))
+one-due n k more = omega arith
 
 module _ {A : Type 0} where
   pub heads : {a b : A} {s t : List A} → a ∷ s ≡ b ∷ t → a ≡ b
@@ -49,3 +53,8 @@ module _ {A : Type 0} where
   at-below {x} [] p h = absurd (Option·none-ne-some x h)
   at-below (y ∷ s) zero h = omega arith
   at-below (y ∷ s) (suc p) h = omega (arith, at-below s p h)
+
+  pub at-member : (s : List A) (p : ℕ) (d : A) → p < length s → List·Memᴰ (getD s p d) s
+  at-member [] p d h = absurd (omega arith)
+  at-member (y ∷ s) zero d h = List·Memᴰ·head refl
+  at-member (y ∷ s) (suc p) d h = List·Memᴰ·tail (at-member s p d (omega arith))

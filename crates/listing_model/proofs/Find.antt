@@ -9,6 +9,7 @@ use mathlib.Core.Option.{Option, none, some, Option·none-ne-some}
 use borrow.Author.Tests.{eqb-true, eq-eqb}
 use lib.Dec.{eqb}
 use lib.ListN.{getD, length}
+use Rattle.laws.proofs.Lists.{at-member}
 use Rattle.vpg.specs.believed.Order.{Ascending}
 use Rattle.listing_model.specs.believed.Listing.{same, found, find}
 use Rattle.laws.proofs.Bools.{and-left, and-right}
@@ -31,16 +32,11 @@ same-ne e f h = go (same e f) refl
     go true p = absurd (h (same-eq e f p))
     go false p = p
 
-pub at-mem : (l : List (List ℕ)) (j : ℕ) → j < length l → List·Memᴰ (getD l j []) l
-at-mem [] j h = absurd (not-suc-le-zero h)
-at-mem (e ∷ l) zero h = List·Memᴰ·head refl
-at-mem (e ∷ l) (suc j) h = List·Memᴰ·tail (at-mem l j (le-of-suc-le-suc h))
-
 pub find-at : (l : List (List ℕ)) (j : ℕ) → Ascending l → j < length l → find (getD l j []) l ≡ some (suc j)
 find-at [] j p h = absurd (not-suc-le-zero h)
 find-at (e ∷ l) zero p h = rw (same-refl e)
 find-at (e ∷ l) (suc j) p h =
-    let ne = same-ne (getD l j []) e (λ q. before-irreflexive e (rw q at (p .0 (getD l j []) (at-mem l j (le-of-suc-le-suc h))))) in
+    let ne = same-ne (getD l j []) e (λ q. before-irreflexive e (rw q at (p .0 (getD l j []) (at-member l j [] (le-of-suc-le-suc h))))) in
     rw (ne, find-at l j (p .1) (le-of-suc-le-suc h))
 
 -- e is the entry number k

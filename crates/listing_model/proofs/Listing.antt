@@ -10,15 +10,16 @@ use borrow.Author.Tests.{ltb-true, ltb-false, lt-ltb, le-ltb}
 use lib.Dec.{ltb}
 use lib.ListN.{getD, take, drop, length, take-append-drop, drop-of-length-le, replicate}
 use lib.Seq.{drop-cons, take-at, drop-at, length-front, length-take-le}
+use Rattle.laws.proofs.Lists.{at-member}
 use Rattle.vpg.specs.declared.Token.{Token}
 use Rattle.vpg.specs.believed.Grammar.{Grammar}
 use Rattle.vpg.specs.believed.Order.{Ascending}
 use Rattle.vpg.specs.Runs.{entries}
-use Rattle.listing_model.specs.believed.Listing.{Call, first, next, Answer, written, no-further, Subject, due, over, Shown, find, entry, start, modelFirst, onward, model, shows, trace}
-use Rattle.listing_model.specs.Calls.{firstOn, successor, nextOn, callOn, overEntries}
+use Rattle.listing_model.specs.believed.Listing.{Call, first, next, Answer, written, no-further, Subject, due, over, Shown, find, entry, start, modelFirst, onward, model, shows, trace, overEntries}
+use Rattle.listing_model.specs.Calls.{firstOn, successor, nextOn, callOn}
 use Rattle.vpg.proofs.Ascends.{entries-ascending}
 use Rattle.vpg.proofs.Entries.{entry-length}
-use Rattle.listing_model.proofs.Find.{at-mem, find-at, find-found}
+use Rattle.listing_model.proofs.Find.{find-at, find-found}
 
 -- entries stand in ascending order, and have n numbers each
 abbrev pub Proper : Subject → Type 0
@@ -55,10 +56,10 @@ onward-agrees l n buf j h p false e = (rw (drop-of-length-le l (ltb-false (suc j
 
 module _ (l : List (List ℕ)) (n : ℕ) (long : (e : List ℕ) → List·Memᴰ e l → length e ≡ n) where
   take-entry : (j : ℕ) (x : List ℕ) → j < length l → take n (getD l j [] ++ x) ≡ getD l j []
-  take-entry j x h = take-at (getD l j []) x n (long (getD l j []) (at-mem l j h))
+  take-entry j x h = take-at (getD l j []) x n (long (getD l j []) (at-member l j [] h))
 
   drop-entry : (j : ℕ) (x : List ℕ) → j < length l → drop n (getD l j [] ++ x) ≡ x
-  drop-entry j x h = drop-at (getD l j []) x n (long (getD l j []) (at-mem l j h))
+  drop-entry j x h = drop-at (getD l j []) x n (long (getD l j []) (at-member l j [] h))
 
   -- the rest of the buffer stays as it was first lent
   rest-kept : (buf : List ℕ) (s : Shown) → Occurs (over l n) buf s → drop n (shows (over l n) buf s) ≡ drop n buf

@@ -1,22 +1,22 @@
 -- The loop over the readings: each turn lists the reading in the buffer and goes on to the next one.
-use Prim.Native.Nat.{ℕ, zero, suc, _+_, _-_, _<_, _≤_}
+use Prim.Native.Nat.{ℕ, zero, suc, _+_, _*_, _-_, _<_, _≤_}
 use native.Mathlib.Numerals.{add-one}
 use native.Mathlib.Omega.{arith}
 use mathlib.Core.Path.{_≡_, refl, sym, _∙_, ap, subst}
 use mathlib.Core.Bool.{Bool, true, false, not, false≢true}
 use mathlib.Core.List.{List, [], _++_}
-use borrow.Author.Tests.{ltb-true, ltb-false}
+use borrow.Author.Tests.{ltb-true, ltb-false, le-ltb}
 use lib.Dec.{ltb}
 use lib.ListN.{length, take, drop, getD, length-map, drop-of-length-le}
 use lib.Seq.{drop-cons, take-at}
-use Rattle.listing_model.specs.believed.Listing.{Subject, due, over, next}
-use Rattle.listing_model.specs.Calls.{callOn, successor, overEntries}
-use Rattle.listing_model.proofs.Find.{at-mem, find-at}
+use Rattle.listing_model.specs.believed.Listing.{Subject, due, over, next, overEntries}
+use Rattle.listing_model.specs.Calls.{callOn, successor}
+use Rattle.laws.proofs.Lists.{at-member}
+use Rattle.listing_model.proofs.Find.{find-at}
 use Rattle.listing_model.proofs.Listing.{Proper, entries-proper}
 use Rattle.history_file.specs.believed.HistoryFile.{tokenOf, tokensOf}
 use Rattle.files.specs.believed.Files.{accepted}
-use Rattle.service.specs.believed.Frame.{filesIn}
-use Rattle.service.proofs.Served.{served-on}
+use Rattle.service.specs.believed.Opened.{filesIn}
 use Rattle.readings.specs.believed.Answers.{subject}
 use Rattle.lines.specs.Laid.{Laid, laid}
 use Rattle.lines.specs.declared.Cursor.{Cursor}
@@ -43,8 +43,7 @@ module _ (grammar history : List ℕ) (n : ℕ) (k : Passing grammar history n) 
   entries-are = rw (k .grammar-is, k .history-is, length-map (k .ts) tokenOf, k .count-is)
 
   pub subject-is : (size : ℕ) → n < size → subject grammar history size ≡ over (entriesOf grammar history) (suc n)
-  subject-is size h =
-      served-on due overEntries suc size (filesIn grammar history) (k .g) (k .ts) files-are (omega (arith, k .count-is)) ∙ entries-are
+  subject-is size h = rw (files-are, k .count-is, le-ltb size (1 * (n + 1)) (omega arith)) entries-are
 
   pub entries-in-order : Proper (over (entriesOf grammar history) (suc n))
   entries-in-order = subst (λ (x : Subject). Proper x) entries-are (entries-proper (k .g) (tokensOf (k .ts)))
@@ -66,7 +65,7 @@ module _ (l : List (List ℕ)) (n : ℕ) (p : Proper (over l (suc n))) (k : ℕ)
       go true f =
           let more = ltb-true (suc k) (length l) f in
           let is : _≡_ {A = Bool × List ℕ} (b, new) (true, getD l (suc k) [] ++ drop (suc n) buf) = q ∙ ap told next-is ∙ rw (drop-cons l (suc k) [] more) in
-          let text = take-at (getD l (suc k) []) (drop (suc n) buf) (suc n) (p .1 (getD l (suc k) []) (at-mem l (suc k) more)) in
+          let text = take-at (getD l (suc k) []) (drop (suc n) buf) (suc n) (p .1 (getD l (suc k) []) (at-member l (suc k) [] more)) in
           found b new (ap (λ (x : Bool × List ℕ). x .0) is) (ap (λ (x : Bool × List ℕ). x .1) is) more text
         where
           found : (b : Bool) (new : List ℕ) → b ≡ true → new ≡ getD l (suc k) [] ++ drop (suc n) buf → suc k < length l →

@@ -22,10 +22,8 @@ use Rattle.files.specs.believed.Checks.{grammarSaid, grammarDue, historySaid, h
 use Rattle.files.specs.believed.Checks as checks
 use Rattle.files.specs.declared.GrammarCheck.{GrammarCheck}
 use Rattle.files.specs.declared.HistoryCheck.{HistoryCheck}
-use Rattle.service.specs.believed.Frame.{filesIn}
-use Rattle.service.proofs.Served.{served-on}
 use Rattle.readings.specs.believed.Answers.{subject}
-use Rattle.sets.specs.believed.Sets.{counted, refused, countDue}
+use Rattle.sets.specs.believed.Sets.{countDue}
 use Rattle.lines.specs.Laid.{Laid, laid}
 use Rattle.lines.proofs.Laying.{laid-both}
 use Rattle.lines.specs.believed.Text.{tokensLine, doubtfulLine, noneLine, refusedGrammarLine, refusedHistoryLine}
@@ -70,7 +68,7 @@ module _ (grammar history : List ℕ) (n : ℕ) (k : Passing grammar history n) 
   -- ── the whole text ──
 
   count-is : countIn (countDue grammar history) ≡ doubtfulCount (k .g) (tokensOf (k .ts))
-  count-is = ap countIn (served-on refused (λ g w. counted (doubtfulCount g w)) (λ n. 0) 0 (filesIn grammar history) (k .g) (k .ts) (files-are grammar history n k) (omega arith))
+  count-is = rw (files-are grammar history n k)
 
   pub listing-is : listing grammar history ≡ tokensLine n ++ readingsListed (countIn (countDue grammar history)) L
   listing-is = rw (count-is) (rw (k .grammar-is, k .history-is, k .count-is))

@@ -11,8 +11,8 @@ use Rattle.grammar_file.specs.believed.GrammarFile.{GrammarFile, grammarOf}
 use Rattle.grammar_file.specs.believed.GrammarFile
 use Rattle.history_file.specs.believed.HistoryFile.{HistoryFile, historyOf, tokensOf}
 use Rattle.history_file.specs.believed.HistoryFile
-use Rattle.sets.specs.believed.Sets.{Given, counted}
-use Rattle.sets.specs.believed.Sets as sets-given
+use Rattle.service.specs.believed.Given.{Given, given}
+use Rattle.service.specs.believed.Given as service
 
 -- both files pass, and the history has n tokens
 pub record Passing (grammar history : List ℕ) (n : ℕ) : Type 0 where
@@ -49,7 +49,6 @@ abbrev pub told : Answer × List ℕ → Bool × List ℕ
 told p = (isWritten (p .0), p .1)
 
 -- the count, 0 where a file is refused
-abbrev pub countIn : Given → ℕ
-countIn sets-given.written = 0
-countIn (counted n) = n
-countIn (sets-given.refused k) = 0
+abbrev pub countIn : Given ℕ → ℕ
+countIn (given n) = n
+countIn (service.refused k) = 0

@@ -14,8 +14,8 @@ use lib.Seq.{drop-cons, take-take}
 use Rattle.vpg.specs.declared.Token.{Token}
 use Rattle.vpg.specs.believed.Grammar.{Rules}
 use Rattle.vpg.specs.Extremes.{Least, Next, Last}
-use Rattle.listing_model.specs.believed.Listing.{next, written, no-further, refused}
-use Rattle.listing_model.specs.Calls.{callOn, overEntries}
+use Rattle.listing_model.specs.believed.Listing.{next, written, no-further, refused, overEntries}
+use Rattle.listing_model.specs.Calls.{callOn}
 use Rattle.vpg.specs.Runs.{State, entries}
 use Rattle.vpg.specs.Steps.{left}
 use Rattle.vpg.proofs.Ascends.{entries-ascending}

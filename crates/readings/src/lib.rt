@@ -7,12 +7,14 @@ use tables::Table;
 ghost use mathlib.Core.Path.{_≡_};
 ghost use Prim.Native.Nat.{_<_};
 ghost use lib.ListN.{length};
-ghost use Rattle.listing_model.specs.believed.Listing.{first, next};
-ghost use Rattle.listing_model.specs.Calls.{callOn, overEntries};
+ghost use Rattle.listing_model.specs.believed.Listing.{first, next, overEntries};
+ghost use Rattle.listing_model.specs.Calls.{callOn};
 ghost use Rattle.level_theory.specs.Pending.{WellMatched};
 ghost use Rattle.tables.specs.Ready.{Ready, grammarIn};
 ghost use Rattle.history_file.specs.believed.HistoryFile.{tokensOf};
 ghost use Rattle.history_file.specs.HistoryTokens.{Tokens};
+ghost use Rattle.service.specs.Opening.{refusalOf};
+ghost use Rattle.readings.specs.declared.Answer.{Answer};
 ghost use Rattle.readings.specs.believed.Answers.{said, subject};
 
 // What first reading and next reading answer: a reading was written, there is none, there is no further one, or document 01's number
@@ -22,6 +24,13 @@ pub enum Answer {
     NoReading,
     NoFurther,
     Refused(u8),
+}
+
+// A refusal of the opening, as an answer.
+fn refused(opened: Opened) -> Answer
+    ensures { λ r. ⌜ r ≡ Answer.Refused (refusalOf opened) ⌝ }
+{
+    Answer::Refused(service::refusal_of(opened))
 }
 
 fn first_on(table: &Table, head: Head, tokens: &[u32], reading: &mut [u8]) -> Answer
@@ -63,7 +72,7 @@ pub fn first_reading(grammar: &[u8], history: &[u8], reading: &mut [u8]) -> Answ
     let mut tokens = [0u32; 1024];
     let opened = service::open_files(grammar, history, 1, reading.len(), &mut table, &mut tokens);
     let Opened::Files(head, n) = opened else {
-        return Answer::Refused(service::refusal_of(opened));
+        return refused(opened);
     };
     first_on(&table, head, &tokens[..n], reading)
 }
@@ -76,7 +85,7 @@ pub fn next_reading(grammar: &[u8], history: &[u8], reading: &mut [u8]) -> Answe
     let mut tokens = [0u32; 1024];
     let opened = service::open_files(grammar, history, 1, reading.len(), &mut table, &mut tokens);
     let Opened::Files(head, n) = opened else {
-        return Answer::Refused(service::refusal_of(opened));
+        return refused(opened);
     };
     next_on(&table, head, &tokens[..n], reading)
 }

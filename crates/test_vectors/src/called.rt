@@ -3,7 +3,7 @@ use crate::compare::FILLER;
 use crate::compare::copy_from;
 use crate::compare::same;
 use crate::entries::Entries;
-use calls::CallsAnswer;
+use service::Outcome;
 ghost use Prim.Native.Nat.{_≤_, _<_};
 
 // The plain listing's state: the place behind the entry in the list, 0 for no entry; and its last answer.
@@ -109,8 +109,8 @@ fn make(
 ) -> bool {
     let made = calls::run_calls(grammar, history, kinds, answers, buffer);
     match made {
-        CallsAnswer::Made => true,
-        CallsAnswer::Refused(_) => false,
+        Outcome::Done => true,
+        Outcome::Refused(_) => false,
     }
 }
 

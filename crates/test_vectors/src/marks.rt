@@ -2,7 +2,7 @@
 use crate::compare::FILLER;
 use crate::compare::untouched;
 use crate::entries::readable;
-use stop_marks::MarksAnswer;
+use service::Outcome;
 
 // Whether the mark at position i is 1 where the first i tokens have a reading, and else 0.
 fn right_mark(rules: &[u8], tokens: &[u8], marks: &[u8], i: usize) -> bool {
@@ -15,7 +15,7 @@ pub(crate) fn same_marks(grammar: &[u8], history: &[u8], rules: &[u8], tokens: &
     let mut space = [FILLER; 1028];
     let marks: &mut [u8] = &mut space;
     let answer = stop_marks::stop_marks(grammar, history, marks);
-    let MarksAnswer::Written = answer else {
+    let Outcome::Done = answer else {
         return false;
     };
     right_marks(rules, tokens, marks)

@@ -1,8 +1,6 @@
 // Refusals: every service answers the number that is due, and leaves what it was lent.
-use calls::CallsAnswer;
+use service::Outcome;
 use sets::CountAnswer;
-use sets::SetsAnswer;
-use stop_marks::MarksAnswer;
 ghost use Prim.Native.Nat.{_≤_};
 
 fn call_refused(grammar: &[u8], history: &[u8], kind: u8, buffer: &mut [u8], due: u8) -> bool {
@@ -11,7 +9,7 @@ fn call_refused(grammar: &[u8], history: &[u8], kind: u8, buffer: &mut [u8], due
 
 fn sets_refused(grammar: &[u8], history: &[u8], buffer: &mut [u32], due: u8) -> bool {
     let answer = sets::sets(grammar, history, buffer);
-    let SetsAnswer::Refused(number) = answer else {
+    let Outcome::Refused(number) = answer else {
         return false;
     };
     number == due && crate::kept_rules::untouched(buffer, 0)
@@ -27,7 +25,7 @@ fn count_refused(grammar: &[u8], history: &[u8], due: u8) -> bool {
 
 fn marks_refused(grammar: &[u8], history: &[u8], buffer: &mut [u8], due: u8) -> bool {
     let answer = stop_marks::stop_marks(grammar, history, buffer);
-    let MarksAnswer::Refused(number) = answer else {
+    let Outcome::Refused(number) = answer else {
         return false;
     };
     number == due && crate::compare::untouched(buffer, 0)
@@ -81,7 +79,7 @@ pub(crate) fn calls_refused(grammar: &[u8], history: &[u8]) -> bool {
     let mut answers = [crate::compare::FILLER; 2];
     let mut buffer = [crate::compare::FILLER; 1028];
     let answer = calls::run_calls(grammar, history, b"\x00\x01\x01", &mut answers, &mut buffer);
-    let CallsAnswer::Refused(number) = answer else {
+    let Outcome::Refused(number) = answer else {
         return false;
     };
     if !crate::compare::untouched(&answers, 0) {

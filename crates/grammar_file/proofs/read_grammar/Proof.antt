@@ -69,13 +69,13 @@ unfolding grammarFrom
 returns-3 c =
     let d = c .before .before .before .before .before in
     let p = d .before in
-    c .rules-at .ensures
-    ∙ rw (
+    rw (
       ← (p .before .before .before .count-at .ensures),
       p .before .first .given .1,
       ← (d .count-at2 .ensures),
       c .before .before .before .second .given .1,
     )
+    (c .rules-at .ensures)
 
 pub read-grammar-spec : {M : Type 1} → statement M
 read-grammar-spec =

@@ -5,6 +5,9 @@ use mathlib.Core.List.{List, [], _∷_, _++_}
 use mathlib.Core.Option.{Option, none, some}
 use lib.Dec.{eqb, ltb}
 use lib.ListN.{getD, take, drop, length}
+use Rattle.vpg.specs.declared.Token.{Token}
+use Rattle.vpg.specs.believed.Grammar.{Grammar}
+use Rattle.vpg.specs.Runs.{entries}
 
 -- "the calls first reading and next reading"
 pub data Call : Type 0 where
@@ -19,6 +22,10 @@ pub data Answer : Type 0 where
 pub data Subject : Type 0 where
   due : ℕ → Subject
   over : List (List ℕ) → ℕ → Subject
+
+-- both files pass and the buffer is long enough: g is the grammar, w are the history's tokens
+abbrev pub overEntries : Grammar → List Token → Subject
+overEntries g w = over (entries g w) (suc (length w))
 
 -- "an entry number k, or no entry"; entries are "numbered 1 to m"
 abbrev pub Shown : Type 0

@@ -14,14 +14,14 @@ enum-known-opened c = search needs
 enum-told : tie.Need-enum-told
 enum-told c = search needs
 
-refusal-of-requires : tie.Need-refusal-of-requires
-refusal-of-requires c κs = search needs
+refused-requires : tie.Need-refused-requires
+refused-requires c κs = search needs
 
 returns : tie.Need-returns
 returns c =
     let o = c .before .before .before .open-files .ensures in
     let q = c .before .enum-told .given .1 in
-    rw (c .refusal-of .ensures, q, o .refuses _ q)
+    rw (c .refused .ensures, q, o .refuses _ q)
 
 array-share-prefix-tokens : tie.Need-array-share-prefix-tokens
 array-share-prefix-tokens c =
@@ -55,7 +55,7 @@ next-reading-spec =
     open-files-requires
     enum-known-opened
     enum-told
-    refusal-of-requires
+    refused-requires
     returns
     array-share-prefix-tokens
     slice-aggregate-next-on

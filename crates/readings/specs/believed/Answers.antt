@@ -1,9 +1,8 @@
 -- What first reading and next reading answer, and what a list of their calls is about.
 use Prim.Native.Nat.{ℕ, suc}
 use mathlib.Core.List.{List}
-use Rattle.listing_model.specs.believed.Listing.{written, no-reading, no-further, Subject, due}
+use Rattle.listing_model.specs.believed.Listing.{written, no-reading, no-further, Subject, due, overEntries}
 use Rattle.listing_model.specs.believed.Listing as model
-use Rattle.listing_model.specs.Calls.{overEntries}
 use Rattle.service.specs.believed.Opened.{filesIn, opened, served}
 use Rattle.readings.specs.declared.Answer.{Answer}
 

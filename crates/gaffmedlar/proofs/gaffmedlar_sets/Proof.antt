@@ -1,0 +1,21 @@
+-- `gaffmedlar::gaffmedlar_sets` meets its contract.
+use mathlib.Core.Path.{ap}
+use Rattle.gaffmedlar.specs.believed.Wire.{outcomeWire}
+use borrow.Author.Needs.{needs}
+use Rattle.gaffmedlar.proofs.gaffmedlar_sets.Statement.{statement}
+use Rattle.gaffmedlar.proofs.gaffmedlar_sets.Tie as tie
+
+sets-requires : tie.Need-sets-requires
+sets-requires c κs = search needs
+
+outcome-code-requires : tie.Need-outcome-code-requires
+outcome-code-requires c κs = search needs
+
+same-length : tie.Need-same-length
+same-length c = search needs
+
+returns : tie.Need-returns
+returns c = rw (c .outcome-code .ensures) (ap outcomeWire (c .before .before .before .sets .ensures))
+
+pub gaffmedlar-sets-spec : {M : Type 1} → statement M
+gaffmedlar-sets-spec = tie.close (tie.spec sets-requires outcome-code-requires same-length returns)
