@@ -1,47 +1,28 @@
 -- What stands at a position, in words and names, and which rules can stand there.
 use Prim.Native.Nat.{ℕ, zero, suc}
-use mathlib.Core.Bool.{Bool, true, false, cond, _&&_}
+use mathlib.Core.Bool.{Bool, cond, _&&_}
 use mathlib.Core.List.{List}
 use lib.Dec.{eqb}
 use Rattle.bits.specs.Bit.{bit, addBit}
-use Rattle.vpg.specs.declared.MarkName.{MarkName}
-use Rattle.vpg.specs.declared.OpenName.{OpenName}
 use Rattle.vpg.specs.declared.CloseName.{CloseName}
 use Rattle.vpg.specs.declared.Rule.{Rule}
 use Rattle.vpg.specs.declared.Token.{Token}
 use Rattle.vpg.specs.Steps.{left}
+use Rattle.level_theory.specs.Masks.{Nonterminals, stands}
 use Rattle.tables.specs.Table.{ruleIn}
 use Rattle.history_file.specs.believed.HistoryFile.{tokenWith}
 use Rattle.contexts.specs.declared.Context.{Context}
 
-abbrev pub isClose : Token → Bool
-isClose (Token.Mark c) = false
-isClose (Token.Open a) = false
-isClose (Token.Close b) = true
+abbrev pub tokenHere : Context → Token
+tokenHere p = tokenWith (p .kind) (p .name)
 
-abbrev pub markHere : MarkName → ℕ → Token → ℕ → Bool
-markHere name to (Token.Mark c) x = eqb (name .0) (c .0) && bit x to
-markHere name to (Token.Open a) x = false
-markHere name to (Token.Close b) x = false
+-- is L a nonterminal that derives what follows the close, and the close is b
+abbrev pub afterClose : Context → CloseName → Nonterminals
+afterClose p b L = eqb (b .0) (p .close .0) && bit (p .after) L
 
-abbrev pub markApplies : MarkName → ℕ → Context → Bool
-markApplies name to p = markHere name to (tokenWith (p .kind) (p .name)) (p .inside)
-
-abbrev pub stepHere : OpenName → ℕ → CloseName → ℕ → Token → ℕ → CloseName → ℕ → Bool
-stepHere a to b last (Token.Mark c) x d y = false
-stepHere a to b last (Token.Open c) x d y = eqb (a .0) (c .0) && (bit x to && (eqb (b .0) (d .0) && bit y last))
-stepHere a to b last (Token.Close c) x d y = false
-
-abbrev pub stepApplies : OpenName → ℕ → CloseName → ℕ → Context → Bool
-stepApplies a to b last p = stepHere a to b last (tokenWith (p .kind) (p .name)) (p .inside) (p .close) (p .after)
-
-abbrev pub appliesHere : Rule → Token → ℕ → CloseName → ℕ → Bool
-appliesHere (Rule.Empty M) t x d y = isClose t
-appliesHere (Rule.Mark M c M₁) t x d y = markHere c M₁ t x
-appliesHere (Rule.Step M a M₁ b M₂) t x d y = stepHere a M₁ b M₂ t x d y
-
+-- can the rule stand here
 abbrev pub appliesTo : Rule → Context → Bool
-appliesTo R p = appliesHere R (tokenWith (p .kind) (p .name)) (p .inside) (p .close) (p .after)
+appliesTo R p = stands (bit (p .inside)) (afterClose p) (tokenHere p) R
 
 -- what stands at the end: a close, whose name no rule asks for
 abbrev pub endContext : Context

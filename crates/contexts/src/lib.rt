@@ -6,11 +6,13 @@ use vpg::MarkName;
 use vpg::OpenName;
 use vpg::Token;
 ghost use mathlib.Core.Path.{_≡_};
+ghost use mathlib.Core.Bool.{_&&_};
 ghost use Prim.Native.Nat.{_<_};
+ghost use Rattle.bits.specs.Bit.{bit};
+ghost use Rattle.vpg.specs.Tests.{isMark, isOpen, anyClose};
 ghost use Rattle.tables.specs.Table.{ruleIn};
 ghost use Rattle.tables.specs.Ready.{Below, Ready};
-ghost use Rattle.history_file.specs.believed.HistoryFile.{tokenWith};
-ghost use Rattle.contexts.specs.Context.{isClose, markApplies, stepApplies, appliesTo, withLeft, levelIn};
+ghost use Rattle.contexts.specs.Context.{tokenHere, afterClose, appliesTo, withLeft, levelIn};
 
 // What stands at a position: the kind and the name of the token, the nonterminals that derive what follows it, and for an open the name of
 // its close and the nonterminals that derive what follows that. At the end stands a close. A place is made at one of three points, so it has
@@ -24,13 +26,13 @@ pub struct Context {
 }
 
 fn token_of(context: Context) -> Token
-    ensures { λ r. ⌜ r ≡ tokenWith (context .kind) (context .name) ⌝ }
+    ensures { λ r. ⌜ r ≡ tokenHere context ⌝ }
 {
     history_file::token_with(context.kind, context.name)
 }
 
 fn is_close(token: Token) -> bool
-    ensures { λ r. ⌜ r ≡ isClose token ⌝ }
+    ensures { λ r. ⌜ r ≡ anyClose token ⌝ }
 {
     match token {
         Token::Mark(_) => false,
@@ -42,7 +44,7 @@ fn is_close(token: Token) -> bool
 // Whether a form 1 rule's mark stands here and what follows can be derived.
 fn mark_applies(name: MarkName, to: u16, context: Context) -> bool
     requires { ⌜ to < 32 ⌝ }
-    ensures { λ r. ⌜ r ≡ markApplies name to context ⌝ }
+    ensures { λ r. ⌜ r ≡ (isMark name (tokenHere context) && bit (context .inside) to) ⌝ }
 {
     let token = token_of(context);
     match token {
@@ -59,7 +61,7 @@ fn mark_applies(name: MarkName, to: u16, context: Context) -> bool
 // Whether a form 2 rule's open and close stand here, and the inside and what follows the close can be derived.
 fn step_applies(a: OpenName, to: u16, b: CloseName, last: u16, context: Context) -> bool
     requires { ⌜ (to < 32) × (last < 32) ⌝ }
-    ensures { λ r. ⌜ r ≡ stepApplies a to b last context ⌝ }
+    ensures { λ r. ⌜ r ≡ (isOpen a (tokenHere context) && (bit (context .inside) to && afterClose context b last)) ⌝ }
 {
     let token = token_of(context);
     let close = context.close;

@@ -1,24 +1,24 @@
 -- `masks` says which nonterminals and stacks have a run.
-use Prim.Native.Nat.{ℕ, zero, suc}
-use mathlib.Core.Path.{_≡_, refl, ap}
+use Prim.Native.Nat.{ℕ}
+use mathlib.Core.Path.{_≡_, refl, ap, subst}
 use mathlib.Core.Logic.{_↔_}
-use mathlib.Core.Bool.{Bool, true, false, _&&_, _||_, or-true, false≢true}
+use mathlib.Core.Bool.{Bool, true, false, _&&_, false≢true}
 use mathlib.Core.List.{List, [], _∷_, List·Memᴰ, List·Memᴰ·head, List·Memᴰ·not-nil}
-use mathlib.Core.Option.{some, Option·none-ne-some, Option·some-injective}
+use mathlib.Core.Option.{some}
 use borrow.Author.Tests.{eqb-true, eq-eqb}
 use lib.Dec.{eqb}
 use lib.ListN.{getElem?}
 use Rattle.laws.proofs.Any.{any-some, some-any}
-use Rattle.vpg.specs.declared.MarkName.{MarkName}
-use Rattle.vpg.specs.declared.OpenName.{OpenName}
 use Rattle.vpg.specs.declared.CloseName.{CloseName}
 use Rattle.vpg.specs.declared.Rule.{Rule}
 use Rattle.vpg.specs.declared.Token.{Token}
 use Rattle.vpg.specs.believed.Grammar.{Rules}
 use Rattle.vpg.specs.Runs.{Stack, runs}
 use Rattle.vpg.specs.Steps.{left}
+use Rattle.vpg.specs.Tests.{isMark, isOpen}
 use Rattle.laws.proofs.Bools.{and-left, and-right, both}
-use Rattle.vpg.proofs.Take.{Move, by-empty, by-mark, by-step, taken, take, ended, end, name-mark, name-open, name-close}
+use Rattle.vpg.proofs.Take.{Move, by-empty, by-mark, by-step, taken, take, ended, end}
+use Rattle.vpg.proofs.Tests.{name-close, mark-is, open-is, any-close-is}
 use Rattle.level_theory.specs.Masks.{Nonterminals, Outer, Masks, behind, applies, finishes, lefts, outer, masks, Match, Fits}
 
 -- rule number r is for L and passes
@@ -45,43 +45,29 @@ pub record Goes (m : Masks) (R : Rule) (L : ℕ) (s : Stack) (t : Token) : Type 
   pub goes : Move R L s t nonterminal due
   pub fits : Fits nonterminal due m
 
-mark-goes : {M M₁ : ℕ} {c c′ : MarkName} {s : Stack} → c′ ≡ c → Move (Rule.Mark M c′ M₁) M s (Token.Mark c) M₁ s
-mark-goes q = rw q by-mark
-
-open-goes : {M M₁ M₂ : ℕ} {a a′ : OpenName} {b : CloseName} {s : Stack} → a′ ≡ a → Move (Rule.Step M a′ M₁ b M₂) M s (Token.Open a) M₁ ((b, M₂) ∷ s)
-open-goes q = rw q by-step
-
 close-goes : {M : ℕ} {b : CloseName} {d : CloseName × ℕ} {s : Stack} → d .0 ≡ b → Move (Rule.Empty M) M (d ∷ s) (Token.Close b) (d .1) s
 close-goes q = rw (← q) by-empty
 
 -- a rule that applies goes on, whatever is due
 pub applies-goes : (m : Masks) (t : Token) (R : Rule) (s : Stack) → Match s (outer t m) → applies m t R ≡ true → Goes m R (left R) s t
-applies-goes m (Token.Mark c) (Rule.Empty M) s f q = absurd (false≢true q)
-applies-goes m (Token.Mark c) (Rule.Mark M c′ M₁) s f q = record {
-  nonterminal = M₁;
-  due = s;
-  goes = mark-goes (name-mark (eqb-true _ _ (and-left (eqb (c′ .0) (c .0)) (m .0 M₁) q)));
-  fits = (and-right (eqb (c′ .0) (c .0)) (m .0 M₁) q, f);
-}
-applies-goes m (Token.Mark c) (Rule.Step M a M₁ b M₂) s f q = absurd (false≢true q)
-applies-goes m (Token.Open a) (Rule.Empty M) s f q = absurd (false≢true q)
-applies-goes m (Token.Open a) (Rule.Mark M c M₁) s f q = absurd (false≢true q)
-applies-goes m (Token.Open a) (Rule.Step M a′ M₁ b M₂) s f q =
-    let h = and-right (eqb (a′ .0) (a .0)) (m .0 M₁ && behind (m .1) b M₂) q in
-    record {
-      nonterminal = M₁;
-      due = (b, M₂) ∷ s;
-      goes = open-goes (name-open (eqb-true _ _ (and-left (eqb (a′ .0) (a .0)) _ q)));
-      fits = (and-left (m .0 M₁) _ h, fit (m .1) f (and-right (m .0 M₁) _ h));
-    }
+applies-goes m t (Rule.Empty M) s f q = let b = any-close-is t q in subst (λ (t : Token). Match s (outer t m) → Goes m (Rule.Empty M) M s t) (b .1) (closes (b .0) s) f
+  where
+    closes : (b : CloseName) (s : Stack) → Match s (outer (Token.Close b) m) → Goes m (Rule.Empty M) M s (Token.Close b)
+    closes b [] f = absurd f
+    closes b (d ∷ s) f = record { nonterminal = d .1; due = s; goes = close-goes (f .0); fits = (f .1, f .2) }
+applies-goes m t (Rule.Mark M c M₁) s f q =
+    subst (λ (t : Token). Match s (outer t m) → Goes m (Rule.Mark M c M₁) M s t) (mark-is c t (and-left (isMark c t) (m .0 M₁) q))
+    (λ f. record { nonterminal = M₁; due = s; goes = by-mark; fits = (and-right (isMark c t) (m .0 M₁) q, f) })
+    f
+applies-goes m t (Rule.Step M a M₁ b M₂) s f q =
+    let h = and-right (isOpen a t) (m .0 M₁ && behind (m .1) b M₂) q in
+    subst (λ (t : Token). Match s (outer t m) → Goes m (Rule.Step M a M₁ b M₂) M s t) (open-is a t (and-left (isOpen a t) _ q))
+    (λ f. record { nonterminal = M₁; due = (b, M₂) ∷ s; goes = by-step; fits = (and-left (m .0 M₁) _ h, fit (m .1) f (and-right (m .0 M₁) _ h)) })
+    f
   where
     fit : (ms : Outer) → Match s (outer (Token.Open a) (m .0, ms)) → behind ms b M₂ ≡ true → Match ((b, M₂) ∷ s) ms
     fit [] f n = absurd (false≢true n)
     fit (d ∷ ms) f n = (name-close (eqb-true _ _ (and-left (eqb (b .0) (d .0 .0)) _ n)), and-right (eqb (b .0) (d .0 .0)) _ n, f)
-applies-goes m (Token.Close b) (Rule.Empty M) [] f q = absurd f
-applies-goes m (Token.Close b) (Rule.Empty M) (d ∷ s) f q = record { nonterminal = d .1; due = s; goes = close-goes (f .0); fits = (f .1, f .2) }
-applies-goes m (Token.Close b) (Rule.Mark M c M₁) s f q = absurd (false≢true q)
-applies-goes m (Token.Close b) (Rule.Step M a M₁ b′ M₂) s f q = absurd (false≢true q)
 
 -- a rule that goes on applies, and what is due matches the levels before the token
 pub record Applied (m : Masks) (R : Rule) (L : ℕ) (s : Stack) (t : Token) : Type 0 where

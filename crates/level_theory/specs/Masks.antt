@@ -1,7 +1,7 @@
 -- Which nonterminals derive the rest of each open level, computed from right to left.
 use Prim.Native.Nat.{ℕ}
 use mathlib.Core.Path.{_≡_}
-use mathlib.Core.Bool.{Bool, true, false, _&&_, _||_}
+use mathlib.Core.Bool.{Bool, true, false, _&&_}
 use mathlib.Core.List.{List, [], _∷_}
 use lib.Dec.{eqb}
 use Rattle.laws.specs.Any.{any}
@@ -11,6 +11,7 @@ use Rattle.vpg.specs.declared.Token.{Token}
 use Rattle.vpg.specs.believed.Grammar.{Rules}
 use Rattle.vpg.specs.Runs.{Stack}
 use Rattle.vpg.specs.Steps.{left}
+use Rattle.vpg.specs.Tests.{isMark, isOpen, anyClose}
 
 -- a set of nonterminals
 abbrev pub Nonterminals : Type 0
@@ -29,23 +30,20 @@ abbrev pub behind : Outer → CloseName → Nonterminals
 behind [] b L = false
 behind (d ∷ ms) b L = eqb (b .0) (d .0 .0) && d .1 L
 
--- can R stand at the token, whatever nonterminal it is for; m: the masks behind the token
-abbrev pub applies : Masks → Token → Rule → Bool
-applies m (Token.Mark c) (Rule.Empty M) = false
-applies m (Token.Mark c) (Rule.Mark M c′ M₁) = eqb (c′ .0) (c .0) && m .0 M₁
-applies m (Token.Mark c) (Rule.Step M a M₁ b M₂) = false
-applies m (Token.Open a) (Rule.Empty M) = false
-applies m (Token.Open a) (Rule.Mark M c M₁) = false
-applies m (Token.Open a) (Rule.Step M a′ M₁ b M₂) = eqb (a′ .0) (a .0) && (m .0 M₁ && behind (m .1) b M₂)
-applies m (Token.Close b) (Rule.Empty M) = true
-applies m (Token.Close b) (Rule.Mark M c M₁) = false
-applies m (Token.Close b) (Rule.Step M a M₁ b′ M₂) = false
+-- can R stand at the token, whatever nonterminal it is for; inside: what derives the rest of the level behind the token, after b: what
+-- derives the rest of the level behind its close, which is b
+abbrev pub stands : Nonterminals → (CloseName → Nonterminals) → Token → Rule → Bool
+stands inside after t (Rule.Empty M) = anyClose t
+stands inside after t (Rule.Mark M c M₁) = isMark c t && inside M₁
+stands inside after t (Rule.Step M a M₁ b M₂) = isOpen a t && (inside M₁ && after b M₂)
 
--- can R stand where no token is left
+-- m: the masks behind the token
+abbrev pub applies : Masks → Token → Rule → Bool
+applies m t R = stands (m .0) (behind (m .1)) t R
+
+-- can R stand where no token is left: as before a close, with nothing behind it
 abbrev pub finishes : Rule → Bool
-finishes (Rule.Empty M) = true
-finishes (Rule.Mark M c M₁) = false
-finishes (Rule.Step M a M₁ b M₂) = false
+finishes R = stands (λ L. false) (λ b L. false) (Token.Close (record { 0 = 0 })) R
 
 -- the nonterminals of which a rule passes
 abbrev pub lefts : (Rule → Bool) → Rules → Nonterminals

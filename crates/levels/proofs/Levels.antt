@@ -2,7 +2,7 @@
 use Prim.Native.Nat.{ℕ, zero, suc, _-_, _/_, _<_, _≤_}
 use native.Mathlib.Nat.{le-of-suc-le-suc, not-suc-le-zero, eq-or-lt-of-le}
 use native.Mathlib.Omega.{arith}
-use mathlib.Core.Path.{_≡_, refl, sym, _∙_, ap, fun-ext}
+use mathlib.Core.Path.{_≡_, refl, sym, _∙_, ap, ap₂, fun-ext}
 use mathlib.Core.Logic.{⊎-elim}
 use mathlib.Core.Bool.{Bool, true, false, cond, _&&_, and-false}
 use mathlib.Core.List.{List, [], _∷_, map, List·Memᴰ, List·Memᴰ·head}
@@ -16,13 +16,13 @@ use Rattle.vpg.specs.declared.CloseName.{CloseName}
 use Rattle.vpg.specs.declared.Rule.{Rule}
 use Rattle.vpg.specs.declared.Token.{Token}
 use Rattle.vpg.specs.believed.Grammar.{Rules}
-use Rattle.level_theory.specs.Masks.{Masks, behind, applies, lefts, masks}
+use Rattle.level_theory.specs.Masks.{Nonterminals, behind, stands, lefts, masks}
 use Rattle.level_theory.specs.Pending.{Closes, rest, pending, pendingAt, closeOf}
 use Rattle.level_theory.specs.Walk.{testAt}
 use Rattle.level_theory.proofs.Walk.{level-test}
 use Rattle.level_theory.proofs.Pending.{pending-from, pending-next, pending-close, pending-rest, masks-outer}
 use Rattle.contexts.specs.declared.Context.{Context}
-use Rattle.contexts.specs.Context.{appliesTo, appliesHere, endContext, levelIn}
+use Rattle.contexts.specs.Context.{tokenHere, endContext, levelIn}
 use Rattle.contexts.proofs.Contexts.{level-bit}
 use Rattle.tables.specs.declared.Head.{Head}
 use Rattle.tables.specs.Ready.{rulesOf}
@@ -97,27 +97,14 @@ top-next w i (Token.Open a) v top beyond e p q = rw (pending-next w i e) (go (pe
 
 -- ── what stands at a position ──
 
--- words and names that say what masks say
-applies-words : (m : Masks) (t : Token) (x : ℕ) (b : CloseName) (y : ℕ) → ((L : ℕ) → bit x L ≡ m .0 L) → ((c : CloseName) (L : ℕ) → (eqb (c .0) (b .0) && bit y L) ≡ behind (m .1) c L) →
-    (R : Rule) → appliesHere R t x b y ≡ applies m t R
-applies-words m (Token.Mark c) x b y h k (Rule.Empty M) = refl
-applies-words m (Token.Mark c) x b y h k (Rule.Mark M c′ M₁) = rw (h M₁)
-applies-words m (Token.Mark c) x b y h k (Rule.Step M a M₁ b′ M₂) = refl
-applies-words m (Token.Open a) x b y h k (Rule.Empty M) = refl
-applies-words m (Token.Open a) x b y h k (Rule.Mark M c M₁) = refl
-applies-words m (Token.Open a) x b y h k (Rule.Step M a′ M₁ b′ M₂) = rw (h M₁, k b′ M₂)
-applies-words m (Token.Close c) x b y h k (Rule.Empty M) = refl
-applies-words m (Token.Close c) x b y h k (Rule.Mark M c′ M₁) = refl
-applies-words m (Token.Close c) x b y h k (Rule.Step M a M₁ b′ M₂) = refl
+-- the same nonterminals behind the token and behind the close: the same rules can stand
+same-stands : {x y : Nonterminals} {after after′ : CloseName → Nonterminals} (t : Token) → ((L : ℕ) → x L ≡ y L) → ((c : CloseName) (L : ℕ) → after c L ≡ after′ c L) →
+    (R : Rule) → stands x after t R ≡ stands y after′ t R
+same-stands t h k R = ap₂ (λ (x : Nonterminals) (after : CloseName → Nonterminals). stands x after t R) (fun-ext h) (fun-ext (λ c. fun-ext (k c)))
 
 pub stands-end : (w : List Token) (mask : List ℕ) (p : ℕ) → length w ≤ p → Stands w mask p endContext
 unfolding testAt tokenWith
-stands-end w mask p h g l R = rw (drop-of-length-le w h) (go R)
-  where
-    go : (R : Rule) → appliesTo R endContext ≡ testAt g [] R
-    go (Rule.Empty M) = refl
-    go (Rule.Mark M c M₁) = refl
-    go (Rule.Step M a M₁ b M₂) = refl
+stands-end w mask p h g l R = rw (drop-of-length-le w h) (same-stands (tokenHere endContext) bit-zero (λ c L. rw (bit-zero L) (and-false (eqb (c .0) 0))) R)
 
 module _ (ts mask : List ℕ) (p : ℕ) (here : p < length ts) where
   abbrev W : List Token
@@ -126,16 +113,14 @@ module _ (ts mask : List ℕ) (p : ℕ) (here : p < length ts) where
   abbrev Closing : ℕ
   Closing = closeOf (pendingAt W (suc p)) (length W)
 
-  stands : (b : CloseName) (y : ℕ) → ((g : Rules) → Leveled g W mask (suc p) → (c : CloseName) (L : ℕ) → (eqb (c .0) (b .0) && bit y L) ≡ behind (masks g (drop (suc p) W) .1) c L) →
+  stands-with : (b : CloseName) (y : ℕ) → ((g : Rules) → Leveled g W mask (suc p) → (c : CloseName) (L : ℕ) → (eqb (c .0) (b .0) && bit y L) ≡ behind (masks g (drop (suc p) W) .1) c L) →
       Stands W mask p (record { kind = kind (getD ts p 0); name = getD ts p 0 / 4; inside = getD mask (suc p) 0; close = b; after = y })
   unfolding testAt tokenOf
-  stands b y k g l R =
-      rw (tokens-at ts p here)
-      (applies-words (masks g (drop (suc p) W)) (tokenOf (getD ts p 0)) (getD mask (suc p) 0) b y (l (suc p) (omega arith) (rw tokens-length here)) (k g l) R)
+  stands-with b y k g l R = rw (tokens-at ts p here) (same-stands (tokenOf (getD ts p 0)) (l (suc p) (omega arith) (rw tokens-length here)) (k g l) R)
 
   pub stands-closed : (b : CloseName) → Closing < length ts → b .0 ≡ getD ts Closing 0 / 4 →
       Stands W mask p (record { kind = kind (getD ts p 0); name = getD ts p 0 / 4; inside = getD mask (suc p) 0; close = b; after = getD mask (suc Closing) 0 })
-  stands-closed b h e = stands b (getD mask (suc Closing) 0) (λ g l c L. rw (masks-outer g W (suc p)) (go g l (pendingAt W (suc p)) refl c L))
+  stands-closed b h e = stands-with b (getD mask (suc Closing) 0) (λ g l c L. rw (masks-outer g W (suc p)) (go g l (pendingAt W (suc p)) refl c L))
     where
       go : (g : Rules) → Leveled g W mask (suc p) → (q : Closes) → pendingAt W (suc p) ≡ q → (c : CloseName) (L : ℕ) →
           (eqb (c .0) (b .0) && bit (getD mask (suc Closing) 0) L) ≡ behind (map (λ d. (d .0, masks g (drop (suc (d .1)) W) .0)) q) c L
@@ -151,7 +136,7 @@ module _ (ts mask : List ℕ) (p : ℕ) (here : p < length ts) where
           after f = omega (arith, pending-from (drop (suc p) W) (suc p) d (rw f (List·Memᴰ·head refl)))
 
   pub stands-open : (b : CloseName) → length ts ≤ Closing → Stands W mask p (record { kind = kind (getD ts p 0); name = getD ts p 0 / 4; inside = getD mask (suc p) 0; close = b; after = 0 })
-  stands-open b h = stands b 0 (λ g l c L. rw (masks-outer g W (suc p)) (go g (pendingAt W (suc p)) refl c L))
+  stands-open b h = stands-with b 0 (λ g l c L. rw (masks-outer g W (suc p)) (go g (pendingAt W (suc p)) refl c L))
     where
       go : (g : Rules) (q : Closes) → pendingAt W (suc p) ≡ q → (c : CloseName) (L : ℕ) →
           (eqb (c .0) (b .0) && bit 0 L) ≡ behind (map (λ d. (d .0, masks g (drop (suc (d .1)) W) .0)) q) c L

@@ -2,7 +2,7 @@
 use Prim.Native.Nat.{ℕ, _^_, _<_}
 use native.Mathlib.Nat.{lt-of-le-of-lt}
 use mathlib.Core.Path.{_≡_, refl, sym, _∙_, ap}
-use mathlib.Core.Bool.{Bool, true, false, _&&_, false≢true}
+use mathlib.Core.Bool.{Bool, true, false, _&&_}
 use mathlib.Core.List.{List}
 use borrow.Author.Tests.{eqb-true, eq-eqb}
 use lib.Bits.{bitAnd, and-le-r}
@@ -16,6 +16,9 @@ use Rattle.vpg.specs.declared.CloseName.{CloseName}
 use Rattle.vpg.specs.declared.Rule.{Rule}
 use Rattle.laws.specs.Any.{any, anyBelow}
 use Rattle.vpg.specs.believed.Grammar.{Grammar}
+use Rattle.vpg.specs.Steps.{left}
+use Rattle.vpg.specs.Tests.{ifEmpty}
+use Rattle.vpg.proofs.Tests.{if-empty, empty-is}
 use Rattle.pair_theory.specs.Pairs.{PairState, single, markTo, overMark, openTo, overOpen, endsFrom, finished, closeTo, overClose}
 use Rattle.laws.proofs.Any.{below-some, some-below}
 use Rattle.laws.proofs.Bools.{both, eqb-refl, and-left, and-right, same-test}
@@ -78,19 +81,12 @@ close-rule g b a row done S S₁ L₁ L₅ (Rule.Step M a′ M₁ b′ M₂) h x
 
 -- the rule is L → ε
 abbrev emptyOf : ℕ → Rule → Bool
-emptyOf L (Rule.Empty M) = eqb M L
-emptyOf L (Rule.Mark M c M₁) = false
-emptyOf L (Rule.Step M a M₁ b M₂) = false
+emptyOf L = ifEmpty (λ M. eqb M L)
 
 empty-rule : (L : ℕ) (R : Rule) → Below 32 R → (passes Pattern.Empty 4294967295 0 R && eqb (followsBy Pattern.Empty R) L) ≡ emptyOf L R
-empty-rule L (Rule.Empty M) h = rw (bit-all 32 M h)
+empty-rule L (Rule.Empty M) h = rw (bit-all 32 M (h .0))
 empty-rule L (Rule.Mark M c M₁) h = nowhere (bit 4294967295 M) (eqb M₁ L)
 empty-rule L (Rule.Step M a M₁ b M₂) h = nowhere (bit 4294967295 M) (eqb M₁ L)
-
-empty-of : (L : ℕ) (R : Rule) → emptyOf L R ≡ true → R ≡ Rule.Empty L
-empty-of L (Rule.Empty M) q = ap Rule.Empty (eqb-true M L q)
-empty-of L (Rule.Mark M c M₁) q = absurd (false≢true q)
-empty-of L (Rule.Step M a M₁ b M₂) q = absurd (false≢true q)
 
 record Ends (S : PairState) (L₃ : ℕ) (R : Rule) : Type 0 where
   current : ℕ
@@ -99,9 +95,9 @@ record Ends (S : PairState) (L₃ : ℕ) (R : Rule) : Type 0 where
   passes : emptyOf current R ≡ true
 
 ends : (S : PairState) (L₃ : ℕ) (R : Rule) → Below 32 R → endsFrom S L₃ R ≡ true → Ends S L₃ R
-ends S L₃ (Rule.Empty M) h q = record { current = M; small = h; pair = q; passes = eqb-refl M }
-ends S L₃ (Rule.Mark M c M₁) h q = absurd (false≢true q)
-ends S L₃ (Rule.Step M a M₁ b M₂) h q = absurd (false≢true q)
+ends S L₃ R h q =
+    let r = if-empty (S L₃) R q in
+    record { current = left R; small = h .0; pair = r .1; passes = ap (emptyOf (left R)) (r .0) ∙ eqb-refl (left R) }
 
 -- the one number that passes
 below-at : (n : ℕ) (p : ℕ → Bool) (L : ℕ) → L < n → anyBelow n (λ k. p k && eqb k L) ≡ p L
@@ -177,7 +173,7 @@ module _ (t : List ℕ) (head : Head) (ready : Ready t head) where
           let r = below-some n (λ r. emptyOf (s .number) (ruleIn t r)) (sym e ∙ sym (bit-empties (s .number)) ∙ and-right (bit a (s .number)) _ (s .passes)) in
           let pair : S L₃ (s .number) ≡ true = sym (x (s .number) (s .small)) ∙ and-left (bit a (s .number)) _ (s .passes) in
           any-rules (endsFrom S L₃) t n
-          ∙ some-below n (λ r. endsFrom S L₃ (ruleIn t r)) (r .number) (r .small) (ap (endsFrom S L₃) (empty-of (s .number) (ruleIn t (r .number)) (r .passes)) ∙ pair)
+          ∙ some-below n (λ r. endsFrom S L₃ (ruleIn t r)) (r .number) (r .small) (ap (endsFrom S L₃) (empty-is (s .number) (ruleIn t (r .number)) (r .passes)) ∙ pair)
 
       back : finished g S L₃ ≡ true → meets a (emptiesOf t head) ≡ true
       back q =

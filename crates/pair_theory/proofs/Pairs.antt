@@ -16,6 +16,7 @@ use Rattle.vpg.specs.declared.OpenName.{OpenName}
 use Rattle.vpg.specs.declared.CloseName.{CloseName}
 use Rattle.vpg.specs.declared.Rule.{Rule}
 use Rattle.vpg.specs.declared.Token.{Token}
+use Rattle.vpg.specs.Steps.{left}
 use Rattle.laws.specs.Any.{anyBelow}
 use Rattle.vpg.specs.believed.Grammar.{Rules, Grammar, Tree, code, Derives, by-empty, by-mark, by-step, Reading}
 use Rattle.pair_theory.specs.Pairs.{PairState, PairStack, Configuration, single, begin, markTo, overMark, openTo, overOpen, endsFrom, finished, closeTo, overClose, closed, derivative, after, bottom, accepts, marksFrom, Takes, at-bottom, in-step, Proper, Contexts, Stacked, Within}
@@ -23,7 +24,7 @@ use Rattle.sets_theory.specs.believed.Sets.{one, stopMark, listed, stopMarks}
 use Rattle.laws.proofs.Any.{any-some, some-any, below-some, some-below}
 use Rattle.laws.proofs.Bools.{both, eqb-refl, and-left, and-right}
 use Rattle.sets_theory.proofs.Sets.{stop-mark-is, listed-cong}
-use Rattle.vpg.proofs.Take.{name-mark, name-open, name-close}
+use Rattle.vpg.proofs.Tests.{name-mark, name-open, name-close, if-empty, if-mark, if-step}
 
 -- ── the tests ──
 
@@ -33,11 +34,10 @@ record MarkTo (c : MarkName) (S : PairState) (L₁ L₃ : ℕ) (R : Rule) : Type
   pair : S L₁ current ≡ true
 
 mark-to : (c : MarkName) (S : PairState) (L₁ L₃ : ℕ) (R : Rule) → markTo c S L₁ L₃ R ≡ true → MarkTo c S L₁ L₃ R
-mark-to c S L₁ L₃ (Rule.Empty M) q = absurd (false≢true q)
-mark-to c S L₁ L₃ (Rule.Mark M c′ M₁) q =
-    let e = and-right (S L₁ M) _ q in
-    record { current = M; is = rw (name-mark {x = c′} {y = c} (eqb-true _ _ (and-left _ _ e)), eqb-true M₁ L₃ (and-right (eqb (c′ .0) (c .0)) _ e)); pair = and-left _ _ q }
-mark-to c S L₁ L₃ (Rule.Step M a M₁ b M₂) q = absurd (false≢true q)
+mark-to c S L₁ L₃ R q =
+    let r = if-mark _ R q in
+    let e = and-right (S L₁ (left R)) _ (r .passes) in
+    record { current = left R; is = r .is ∙ rw (name-mark {x = r .name} {y = c} (eqb-true _ _ (and-left _ _ e)), eqb-true (r .next) L₃ (and-right (eqb (r .name .0) (c .0)) _ e)); pair = and-left _ _ (r .passes) }
 
 record OpenTo (n : ℕ) (a : OpenName) (S : PairState) (L₃ : ℕ) (R : Rule) : Type 0 where
   current : ℕ
@@ -46,21 +46,10 @@ record OpenTo (n : ℕ) (a : OpenName) (S : PairState) (L₃ : ℕ) (R : Rule) :
   is : R ≡ Rule.Step current a L₃ close next
 
 open-to : (n : ℕ) (a : OpenName) (S : PairState) (L₃ : ℕ) (R : Rule) → openTo n a S L₃ R ≡ true → OpenTo n a S L₃ R
-open-to n a S L₃ (Rule.Empty M) q = absurd (false≢true q)
-open-to n a S L₃ (Rule.Mark M c M₁) q = absurd (false≢true q)
-open-to n a S L₃ (Rule.Step M a′ M₁ b M₂) q =
-    let e = and-right (anyBelow n (λ L₁. S L₁ M)) _ q in
-    record { current = M; close = b; next = M₂; is = rw (name-open {x = a′} {y = a} (eqb-true _ _ (and-left _ _ e)), eqb-true M₁ L₃ (and-right (eqb (a′ .0) (a .0)) _ e)) }
-
-record EndsFrom (S : PairState) (L₃ : ℕ) (R : Rule) : Type 0 where
-  current : ℕ
-  is : R ≡ Rule.Empty current
-  pair : S L₃ current ≡ true
-
-ends-from : (S : PairState) (L₃ : ℕ) (R : Rule) → endsFrom S L₃ R ≡ true → EndsFrom S L₃ R
-ends-from S L₃ (Rule.Empty M) q = record { current = M; is = refl; pair = q }
-ends-from S L₃ (Rule.Mark M c M₁) q = absurd (false≢true q)
-ends-from S L₃ (Rule.Step M a M₁ b M₂) q = absurd (false≢true q)
+open-to n a S L₃ R q =
+    let r = if-step _ R q in
+    let e = and-right (anyBelow n (λ L₁. S L₁ (left R))) _ (r .passes) in
+    record { current = left R; close = r .close; next = r .next; is = r .is ∙ rw (name-open {x = r .name} {y = a} (eqb-true _ _ (and-left _ _ e)), eqb-true (r .inside) L₃ (and-right (eqb (r .name .0) (a .0)) _ e)) }
 
 record CloseTo (g : Grammar) (b : CloseName) (S S₁ : PairState) (a : OpenName) (L₁ L₅ : ℕ) (R : Rule) : Type 0 where
   current : ℕ
@@ -70,17 +59,16 @@ record CloseTo (g : Grammar) (b : CloseName) (S S₁ : PairState) (a : OpenName)
   ends : finished g S inside ≡ true
 
 close-to : (g : Grammar) (b : CloseName) (S S₁ : PairState) (a : OpenName) (L₁ L₅ : ℕ) (R : Rule) → closeTo g b S S₁ a L₁ L₅ R ≡ true → CloseTo g b S S₁ a L₁ L₅ R
-close-to g b S S₁ a L₁ L₅ (Rule.Empty M) q = absurd (false≢true q)
-close-to g b S S₁ a L₁ L₅ (Rule.Mark M c M₁) q = absurd (false≢true q)
-close-to g b S S₁ a L₁ L₅ (Rule.Step M a′ M₁ b′ M₂) q =
-    let e = and-right (S₁ L₁ M) _ q in
-    let f = and-right (finished g S M₁) _ e in
-    let h = and-right (eqb (a′ .0) (a .0)) _ f in
+close-to g b S S₁ a L₁ L₅ R q =
+    let r = if-step _ R q in
+    let e = and-right (S₁ L₁ (left R)) _ (r .passes) in
+    let f = and-right (finished g S (r .inside)) _ e in
+    let h = and-right (eqb (r .name .0) (a .0)) _ f in
     record {
-      current = M;
-      inside = M₁;
-      is = rw (name-open {x = a′} {y = a} (eqb-true _ _ (and-left _ _ f)), name-close {x = b′} {y = b} (eqb-true _ _ (and-left _ _ h)), eqb-true M₂ L₅ (and-right (eqb (b′ .0) (b .0)) _ h));
-      pair = and-left _ _ q;
+      current = left R;
+      inside = r .inside;
+      is = r .is ∙ rw (name-open {x = r .name} {y = a} (eqb-true _ _ (and-left _ _ f)), name-close {x = r .close} {y = b} (eqb-true _ _ (and-left _ _ h)), eqb-true (r .next) L₅ (and-right (eqb (r .close .0) (b .0)) _ h));
+      pair = and-left _ _ (r .passes);
       ends = and-left _ _ e;
     }
 
@@ -321,8 +309,8 @@ module _ (g : Grammar) where
           let s = any-some (closeTo g b S S₁ a (h .context) (h .current)) (g .rules) (h .pair) in
           let m = close-to g b S S₁ a (h .context) (h .current) (s .element) (s .passes) in
           let s′ = any-some (endsFrom S (m .inside)) (g .rules) (m .ends) in
-          let m′ = ends-from S (m .inside) (s′ .element) (s′ .passes) in
-          in-step (h .context) (s .number) (m′ .pair) (by-empty (rw (m′ .is) at (s′ .is))) (m .pair) (rw (m .is) at (s .is)) (h .takes)
+          let m′ = if-empty (S (m .inside)) (s′ .element) (s′ .passes) in
+          in-step (h .context) (s .number) (m′ .1) (by-empty (rw (m′ .0) at (s′ .is))) (m .pair) (rw (m .is) at (s .is)) (h .takes)
 
   -- with no step open, no close is taken
   no-close-at-bottom : (b : CloseName) (S : PairState) (w : List Token) → Takes (g .rules) S [] (Token.Close b ∷ w) → ⊥
@@ -389,8 +377,8 @@ module _ (g : Grammar) where
       accepting [] q =
           let b = below-some (g .nonterminals) (finished g (x .0)) q in
           let s = any-some (endsFrom (x .0) (b .number)) (g .rules) (b .passes) in
-          let m = ends-from (x .0) (b .number) (s .element) (s .passes) in
-          at-bottom (b .number) (m .pair) (by-empty (rw (m .is) at (s .is)))
+          let m = if-empty (x .0 (b .number)) (s .element) (s .passes) in
+          at-bottom (b .number) (m .1) (by-empty (rw (m .0) at (s .is)))
       accepting (d ∷ T) q = absurd (false≢true q)
 
       accepted : (T : PairStack) → Split (g .rules) (x .0) T [] → (bottom T && anyBelow (g .nonterminals) (finished g (x .0))) ≡ true

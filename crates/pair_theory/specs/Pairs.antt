@@ -13,6 +13,7 @@ use Rattle.vpg.specs.declared.Rule.{Rule}
 use Rattle.vpg.specs.declared.Token.{Token}
 use Rattle.laws.specs.Any.{any, anyBelow}
 use Rattle.vpg.specs.believed.Grammar.{Rules, Grammar, Tree, Derives}
+use Rattle.vpg.specs.Tests.{ifEmpty, ifMark, ifStep}
 use Rattle.sets_theory.specs.believed.Sets.{one}
 
 -- ── Definition 4.1 ──
@@ -41,27 +42,21 @@ begin g = (single (g .start) (g .start), [])
 
 -- (1) the rule is L₂ → c L₃, and (L₁, L₂) is in S
 abbrev pub markTo : MarkName → PairState → ℕ → ℕ → Rule → Bool
-markTo c S L₁ L₃ (Rule.Empty L₂) = false
-markTo c S L₁ L₃ (Rule.Mark L₂ c′ L₃′) = S L₁ L₂ && (eqb (c′ .0) (c .0) && eqb L₃′ L₃)
-markTo c S L₁ L₃ (Rule.Step L₂ a M b M′) = false
+markTo c S L₁ L₃ = ifMark (λ L₂ c′ L₃′. S L₁ L₂ && (eqb (c′ .0) (c .0) && eqb L₃′ L₃))
 
 abbrev pub overMark : Grammar → MarkName → PairState → PairState
 overMark g c S L₁ L₃ = any (markTo c S L₁ L₃) (g .rules)
 
 -- (2) the rule is L₂ → ⟨a L₃ b⟩ L₄, and (L₁, L₂) is in S for some L₁ of V; n: how many nonterminals V has
 abbrev pub openTo : ℕ → OpenName → PairState → ℕ → Rule → Bool
-openTo n a S L₃ (Rule.Empty L₂) = false
-openTo n a S L₃ (Rule.Mark L₂ c M) = false
-openTo n a S L₃ (Rule.Step L₂ a′ L₃′ b L₄) = anyBelow n (λ L₁. S L₁ L₂) && (eqb (a′ .0) (a .0) && eqb L₃′ L₃)
+openTo n a S L₃ = ifStep (λ L₂ a′ L₃′ b L₄. anyBelow n (λ L₁. S L₁ L₂) && (eqb (a′ .0) (a .0) && eqb L₃′ L₃))
 
 abbrev pub overOpen : Grammar → OpenName → PairState → PairState
 overOpen g a S L₃ L₃′ = eqb L₃ L₃′ && any (openTo (g .nonterminals) a S L₃) (g .rules)
 
 -- the rule is L₄ → ε, and (L₃, L₄) is in S
 abbrev pub endsFrom : PairState → ℕ → Rule → Bool
-endsFrom S L₃ (Rule.Empty L₄) = S L₃ L₄
-endsFrom S L₃ (Rule.Mark L₄ c M) = false
-endsFrom S L₃ (Rule.Step L₄ a M b M′) = false
+endsFrom S L₃ = ifEmpty (S L₃)
 
 -- the part of a level that began with L₃ may be finished: some (L₃, L₄) is in S, and L₄ → ε is a rule
 abbrev pub finished : Grammar → PairState → ℕ → Bool
@@ -69,10 +64,8 @@ finished g S L₃ = any (endsFrom S L₃) (g .rules)
 
 -- (3) the rule is L₂ → ⟨a L₃ b⟩ L₅, (L₁, L₂) is in S₁, and the inside from L₃ may be finished
 abbrev pub closeTo : Grammar → CloseName → PairState → PairState → OpenName → ℕ → ℕ → Rule → Bool
-closeTo g b S S₁ a L₁ L₅ (Rule.Empty L₂) = false
-closeTo g b S S₁ a L₁ L₅ (Rule.Mark L₂ c M) = false
-closeTo g b S S₁ a L₁ L₅ (Rule.Step L₂ a′ L₃ b′ L₅′) =
-    S₁ L₁ L₂ && (finished g S L₃ && (eqb (a′ .0) (a .0) && (eqb (b′ .0) (b .0) && eqb L₅′ L₅)))
+closeTo g b S S₁ a L₁ L₅ =
+    ifStep (λ L₂ a′ L₃ b′ L₅′. S₁ L₁ L₂ && (finished g S L₃ && (eqb (a′ .0) (a .0) && (eqb (b′ .0) (b .0) && eqb L₅′ L₅))))
 
 abbrev pub overClose : Grammar → CloseName → PairState → PairState → OpenName → PairState
 overClose g b S S₁ a L₁ L₅ = any (closeTo g b S S₁ a L₁ L₅) (g .rules)

@@ -2,12 +2,14 @@
 use Prim.Native.Nat.{ℕ, zero, suc}
 use mathlib.Core.Bool.{Bool, true, false, cond, _&&_}
 use mathlib.Core.List.{List}
+use mathlib.Core.Option.{Option, none, some}
 use lib.Dec.{eqb}
 use Rattle.bits.specs.Bit.{bit, addBit}
 use Rattle.vpg.specs.declared.MarkName.{MarkName}
 use Rattle.vpg.specs.declared.OpenName.{OpenName}
 use Rattle.vpg.specs.declared.CloseName.{CloseName}
 use Rattle.vpg.specs.declared.Rule.{Rule}
+use Rattle.vpg.specs.Parts.{onward, beyond}
 use Rattle.vpg.specs.Steps.{left}
 use Rattle.tables.specs.Table.{ruleIn}
 use Rattle.pair_words.specs.declared.Pattern.{Pattern}
@@ -43,10 +45,13 @@ stepFollows (Pattern.Mark c) L₁ L₂ = L₁
 stepFollows (Pattern.Open a) L₁ L₂ = L₁
 stepFollows (Pattern.Step a b) L₁ L₂ = L₂
 
+abbrev pub nextBy : Pattern → ℕ → Option ℕ → Option ℕ → ℕ
+nextBy p L none L₂ = L
+nextBy p L (some L₁) none = L₁
+nextBy p L (some L₁) (some L₂) = stepFollows p L₁ L₂
+
 abbrev pub followsBy : Pattern → Rule → ℕ
-followsBy p (Rule.Empty L) = L
-followsBy p (Rule.Mark L c L₁) = L₁
-followsBy p (Rule.Step L a L₁ b L₂) = stepFollows p L₁ L₂
+followsBy p R = nextBy p (left R) (onward R) (beyond R)
 
 -- the rule is for a nonterminal of the row, and is one of those looked for
 abbrev pub passes : Pattern → ℕ → ℕ → Rule → Bool

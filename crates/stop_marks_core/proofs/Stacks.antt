@@ -19,7 +19,7 @@ use Rattle.pair_theory.specs.Depth.{openAfter}
 use Rattle.pair_theory.specs.Pairs.{PairState, PairStack, Configuration, overMark, overOpen, overClose, closed, bottom, accepts}
 use Rattle.sets_theory.specs.believed.Sets.{one}
 use Rattle.sets_theory.proofs.Sets.{listed-cong, getD-listed}
-use Rattle.vpg.proofs.Take.{name-open}
+use Rattle.vpg.proofs.Tests.{name-open}
 use Rattle.tables.specs.declared.Head.{Head}
 use Rattle.tables.specs.Ready.{Ready}
 use Rattle.pair_states.specs.Encodes.{Encodes}

@@ -16,7 +16,6 @@ use Rattle.vpg.specs.declared.Rule.{Rule}
 use Rattle.vpg.specs.Steps.{left}
 use Rattle.laws.proofs.Lists.{at-left, at-below}
 use Rattle.tables.specs.declared.Six.{Six}
-use Rattle.tables.specs.Ready.{Below}
 use Rattle.tables.specs.Table.{sixOf, sixIn, ruleFrom, ruleIn, rulesIn, putSix, fill, tableOf}
 
 -- what stands before the place of a store, and what stands at it
@@ -99,12 +98,6 @@ pub rule-step : (t : List ℕ) (k : ℕ) (v : Six) → v ≡ sixIn t (k * 6) →
     → ruleIn t k ≡ Rule.Step (v .1) (record { 0 = v .2 }) (v .3) (record { 0 = v .4 }) (v .5)
 unfolding ruleIn
 rule-step t k v e y z = sym (ap ruleFrom e) ∙ rw (ne-eqb (v .0) 0 y, ne-eqb (v .0) 1 z)
-
--- where all nonterminals of a rule are below n, so is the one that it is for
-pub below-left : (n : ℕ) (r : Rule) → Below n r → left r < n
-below-left n (Rule.Empty l) h = h
-below-left n (Rule.Mark l c l1) h = h .0
-below-left n (Rule.Step l a l1 b l2) h = h .0
 
 pub left-of-six : (r : Rule) → sixOf r .1 ≡ left r
 left-of-six (Rule.Empty l) = refl

@@ -1,17 +1,23 @@
 -- What the layers above may take for granted of a table of rules.
 use Prim.Native.Nat.{ℕ, _<_, _≤_}
 use mathlib.Core.List.{List}
+use mathlib.Core.Option.{Option, none, some}
 use lib.ListN.{length}
 use Rattle.vpg.specs.declared.Rule.{Rule}
 use Rattle.vpg.specs.believed.Grammar.{Rules, Grammar}
+use Rattle.vpg.specs.Parts.{onward, beyond}
+use Rattle.vpg.specs.Steps.{left}
 use Rattle.tables.specs.declared.Head.{Head}
 use Rattle.tables.specs.Table.{ruleIn, rulesIn}
 
+-- the nonterminal, where there is one, is below n
+abbrev pub Small : ℕ → Option ℕ → Type 0
+Small n none = Unit
+Small n (some L) = L < n
+
 -- every nonterminal of the rule is below n
 abbrev pub Below : ℕ → Rule → Type 0
-Below n (Rule.Empty l) = l < n
-Below n (Rule.Mark l c l1) = (l < n) × (l1 < n)
-Below n (Rule.Step l a l1 b l2) = (l < n) × (l1 < n) × (l2 < n)
+Below n R = (left R < n) × Small n (onward R) × Small n (beyond R)
 
 -- at most 128 rules, whose nonterminals are below 32, and so is the start
 pub record Ready (table : List ℕ) (head : Head) : Type 0 where

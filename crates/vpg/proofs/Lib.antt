@@ -6,3 +6,4 @@ pub mod Positions
 pub mod Sound
 pub mod Steps
 pub mod Take
+pub mod Tests

@@ -1,7 +1,7 @@
 -- What a member of `runs` begins with: a rule, by which the tokens end or one token is taken.
 use Prim.Native.Nat.{ℕ, zero, suc, _+_}
 use native.Mathlib.Nat.{zero-add, suc-add, add-suc, add-zero}
-use mathlib.Core.Path.{_≡_, refl, sym, _∙_, ap, subst}
+use mathlib.Core.Path.{_≡_, refl, sym, _∙_, subst}
 use mathlib.Core.Logic.{_⊎_, inl, inr}
 use mathlib.Core.Bool.{Bool, true, false, _&&_, false≢true}
 use mathlib.Core.List.{List, [], _∷_, map, List·Memᴰ, List·Memᴰ·head, List·Memᴰ·not-nil, List·Memᴰ·append-cases, List·Memᴰ·eq-of-singleton, Memᴰ·append-left, Memᴰ·append-right, Memᴰ·map, Memᴰ·of-map, Memᴰ·cast}
@@ -16,7 +16,8 @@ use Rattle.vpg.specs.declared.Rule.{Rule}
 use Rattle.vpg.specs.declared.Token.{Token}
 use Rattle.vpg.specs.believed.Grammar.{Rules}
 use Rattle.vpg.specs.Runs.{Stack, State, only, move, ends, collect, once, follow, runs}
-use Rattle.laws.proofs.Bools.{and-left, and-right}
+use Rattle.vpg.specs.Tests.{isMark, isOpen, isClose}
+use Rattle.vpg.proofs.Tests.{mark-is, open-is, close-is, empty-is}
 
 -- ── collect ──
 
@@ -49,57 +50,34 @@ unhit k n (R′ ∷ g) (suc r) R e p m = Memᴰ·append-right (map (λ e. n ∷ 
 
 -- ── move ──
 
-pub name-mark : {x y : MarkName} → x .0 ≡ y .0 → x ≡ y
-name-mark p = λ i. record { 0 = p i }
-
-pub name-open : {x y : OpenName} → x .0 ≡ y .0 → x ≡ y
-name-open p = λ i. record { 0 = p i }
-
-pub name-close : {x y : CloseName} → x .0 ≡ y .0 → x ≡ y
-name-close p = λ i. record { 0 = p i }
-
 -- `move`, as a relation
 pub data Move : Rule → ℕ → Stack → Token → ℕ → Stack → Type 0 where
   by-empty : {L M : ℕ} {b : CloseName} {s : Stack} → Move (Rule.Empty L) L ((b, M) ∷ s) (Token.Close b) M s
   by-mark : {L L₁ : ℕ} {c : MarkName} {s : Stack} → Move (Rule.Mark L c L₁) L s (Token.Mark c) L₁ s
   by-step : {L L₁ L₂ : ℕ} {a : OpenName} {b : CloseName} {s : Stack} → Move (Rule.Step L a L₁ b L₂) L s (Token.Open a) L₁ ((b, L₂) ∷ s)
 
--- a test that passed
-only-some : (b : Bool) (x y : State) → only b x ≡ some y → (b ≡ true) × (x ≡ y)
-only-some true x y p = (refl, Option·some-injective x y p)
-only-some false x y p = absurd (Option·none-ne-some y p)
+-- the tests that a move passed
+only-some : (b : Bool) (M L : ℕ) (x y : State) → only (b && eqb M L) x ≡ some y → (b ≡ true) × (M ≡ L) × (x ≡ y)
+only-some b M L x y p = go b (eqb M L) refl p
+  where
+    go : (b e : Bool) → eqb M L ≡ e → only (b && e) x ≡ some y → (b ≡ true) × (M ≡ L) × (x ≡ y)
+    go true true f p = (refl, eqb-true M L f, Option·some-injective x y p)
+    go true false f p = absurd (Option·none-ne-some y p)
+    go false e f p = absurd (Option·none-ne-some y p)
 
 pub moved : (R : Rule) (L : ℕ) (s : Stack) (t : Token) (y : State) → move R L s t ≡ some y → Move R L s t (y .0) (y .1)
-moved (Rule.Empty M) L s (Token.Mark c) y p = absurd (Option·none-ne-some y p)
-moved (Rule.Empty M) L s (Token.Open a) y p = absurd (Option·none-ne-some y p)
-moved (Rule.Empty M) L [] (Token.Close b) y p = absurd (Option·none-ne-some y p)
-moved (Rule.Empty M) L (d ∷ s) (Token.Close b) y p =
-    let h = only-some (eqb M L && eqb (d .0 .0) (b .0)) _ y p in
-    let eL = eqb-true M L (and-left _ _ (h .0)) in
-    let en = eqb-true (d .0 .0) (b .0) (and-right (eqb M L) _ (h .0)) in
-    rw (← (h .1), ← eL, ← name-close en) by-empty
-moved (Rule.Mark M c M₁) L s (Token.Mark c′) y p =
-    let h = only-some (eqb M L && eqb (c .0) (c′ .0)) _ y p in
-    let eL = eqb-true M L (and-left _ _ (h .0)) in
-    let en = eqb-true (c .0) (c′ .0) (and-right (eqb M L) _ (h .0)) in
-    rw (← (h .1), ← eL, ← name-mark en) by-mark
-moved (Rule.Mark M c M₁) L s (Token.Open a) y p = absurd (Option·none-ne-some y p)
-moved (Rule.Mark M c M₁) L s (Token.Close b) y p = absurd (Option·none-ne-some y p)
-moved (Rule.Step M a M₁ b M₂) L s (Token.Mark c) y p = absurd (Option·none-ne-some y p)
-moved (Rule.Step M a M₁ b M₂) L s (Token.Open a′) y p =
-    let h = only-some (eqb M L && eqb (a .0) (a′ .0)) _ y p in
-    let eL = eqb-true M L (and-left _ _ (h .0)) in
-    let en = eqb-true (a .0) (a′ .0) (and-right (eqb M L) _ (h .0)) in
-    rw (← (h .1), ← eL, ← name-open en) by-step
-moved (Rule.Step M a M₁ b M₂) L s (Token.Close b′) y p = absurd (Option·none-ne-some y p)
+moved (Rule.Empty M) L [] t y p = absurd (Option·none-ne-some y p)
+moved (Rule.Empty M) L (d ∷ s) t y p = let h = only-some (isClose (d .0) t) M L _ y p in rw (← (h .2), ← (h .1), ← close-is (d .0) t (h .0)) by-empty
+moved (Rule.Mark M c M₁) L s t y p = let h = only-some (isMark c t) M L _ y p in rw (← (h .2), ← (h .1), ← mark-is c t (h .0)) by-mark
+moved (Rule.Step M a M₁ b M₂) L s t y p = let h = only-some (isOpen a t) M L _ y p in rw (← (h .2), ← (h .1), ← open-is a t (h .0)) by-step
 
 only-true : (a b : Bool) (x : State) → a ≡ true → b ≡ true → only (a && b) x ≡ some x
 only-true a b x p q = rw (p, q)
 
 pub moves : {R : Rule} {L : ℕ} {s : Stack} {t : Token} {L′ : ℕ} {s′ : Stack} → Move R L s t L′ s′ → move R L s t ≡ some (L′, s′)
-moves (by-empty {L} {b}) = only-true _ _ _ (eq-eqb L L refl) (eq-eqb (b .0) (b .0) refl)
-moves (by-mark {L} {c}) = only-true _ _ _ (eq-eqb L L refl) (eq-eqb (c .0) (c .0) refl)
-moves (by-step {L} {a}) = only-true _ _ _ (eq-eqb L L refl) (eq-eqb (a .0) (a .0) refl)
+moves (by-empty {L} {b}) = only-true _ _ _ (eq-eqb (b .0) (b .0) refl) (eq-eqb L L refl)
+moves (by-mark {L} {c}) = only-true _ _ _ (eq-eqb (c .0) (c .0) refl) (eq-eqb L L refl)
+moves (by-step {L} {a}) = only-true _ _ _ (eq-eqb (a .0) (a .0) refl) (eq-eqb L L refl)
 
 -- ── runs ──
 
@@ -139,10 +117,8 @@ pub record Ended (g : Rules) (L : ℕ) (s : Stack) (e : List ℕ) : Type 0 where
   pub shape : e ≡ number ∷ []
 
 pub ends-true : (R : Rule) (L : ℕ) (s : Stack) → ends R L s ≡ true → (R ≡ Rule.Empty L) × (s ≡ [])
-ends-true (Rule.Empty M) L [] p = (ap Rule.Empty (eqb-true M L p), refl)
-ends-true (Rule.Empty M) L (d ∷ s) p = absurd (false≢true p)
-ends-true (Rule.Mark M c M₁) L s p = absurd (false≢true p)
-ends-true (Rule.Step M a M₁ b M₂) L s p = absurd (false≢true p)
+ends-true R L [] p = (empty-is L R p, refl)
+ends-true R L (d ∷ s) p = absurd (false≢true p)
 
 once-mem : {e : List ℕ} (b : Bool) → List·Memᴰ e (once b) → (b ≡ true) × (e ≡ [])
 once-mem true m = (refl, List·Memᴰ·eq-of-singleton m)

@@ -4,3 +4,4 @@ pub mod Parts
 pub mod Positions
 pub mod Runs
 pub mod Steps
+pub mod Tests

@@ -11,6 +11,7 @@ use Rattle.vpg.specs.declared.CloseName.{CloseName}
 use Rattle.vpg.specs.declared.Rule.{Rule}
 use Rattle.vpg.specs.declared.Token.{Token}
 use Rattle.vpg.specs.believed.Grammar.{Rules, Grammar}
+use Rattle.vpg.specs.Tests.{isMark, isOpen, isClose, ifEmpty}
 
 -- what is due once the current nonterminal is done: for each open step, innermost first, its close and the nonterminal after it
 abbrev pub Stack : Type 0
@@ -25,23 +26,15 @@ only false s = none
 
 -- where rule R leads from nonterminal L with s due, over one token
 abbrev pub move : Rule → ℕ → Stack → Token → Option State
-move (Rule.Empty M) L s (Token.Mark c) = none
-move (Rule.Empty M) L s (Token.Open a) = none
-move (Rule.Empty M) L [] (Token.Close b) = none
-move (Rule.Empty M) L (d ∷ s) (Token.Close b) = only (eqb M L && eqb (d .0 .0) (b .0)) (d .1, s)
-move (Rule.Mark M c M₁) L s (Token.Mark c′) = only (eqb M L && eqb (c .0) (c′ .0)) (M₁, s)
-move (Rule.Mark M c M₁) L s (Token.Open a) = none
-move (Rule.Mark M c M₁) L s (Token.Close b) = none
-move (Rule.Step M a M₁ b M₂) L s (Token.Mark c) = none
-move (Rule.Step M a M₁ b M₂) L s (Token.Open a′) = only (eqb M L && eqb (a .0) (a′ .0)) (M₁, (b, M₂) ∷ s)
-move (Rule.Step M a M₁ b M₂) L s (Token.Close b′) = none
+move (Rule.Empty M) L [] t = none
+move (Rule.Empty M) L (d ∷ s) t = only (isClose (d .0) t && eqb M L) (d .1, s)
+move (Rule.Mark M c M₁) L s t = only (isMark c t && eqb M L) (M₁, s)
+move (Rule.Step M a M₁ b M₂) L s t = only (isOpen a t && eqb M L) (M₁, (b, M₂) ∷ s)
 
 -- may the tokens end by rule R at nonterminal L with s due
 abbrev pub ends : Rule → ℕ → Stack → Bool
-ends (Rule.Empty M) L [] = eqb M L
-ends (Rule.Empty M) L (d ∷ s) = false
-ends (Rule.Mark M c M₁) L s = false
-ends (Rule.Step M a M₁ b M₂) L s = false
+ends R L [] = ifEmpty (λ M. eqb M L) R
+ends R L (d ∷ s) = false
 
 -- the lists that k gives for each rule, with the rule's number in front; the first rule's number is n
 abbrev pub collect : (Rule → List (List ℕ)) → ℕ → Rules → List (List ℕ)

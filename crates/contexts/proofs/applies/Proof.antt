@@ -2,7 +2,7 @@
 use borrow.Author.Needs.{needs}
 use mathlib.Core.Path.{_∙_, ap}
 use Rattle.tables.proofs.Tables.{rule-empty, rule-mark, rule-step}
-use Rattle.contexts.specs.Context.{isClose}
+use Rattle.vpg.specs.Tests.{anyClose}
 use Rattle.contexts.proofs.applies.Statement.{statement}
 use Rattle.contexts.proofs.applies.Tie as tie
 
@@ -19,7 +19,7 @@ returns : tie.Need-returns
 returns c =
     let s = c .before .before .before .before in
     let a = s .before .args in
-    rw (rule-empty (a .table .now) (a .r) _ (s .six-in .ensures) (c .before .before .if1 .taken)) (c .is-close .ensures ∙ ap isClose (c .before .token-of .ensures))
+    rw (rule-empty (a .table .now) (a .r) _ (s .six-in .ensures) (c .before .before .if1 .taken)) (c .is-close .ensures ∙ ap anyClose (c .before .token-of .ensures))
 
 mark-applies-requires : tie.Need-mark-applies-requires
 mark-applies-requires c κs =

@@ -1,7 +1,5 @@
 -- `contexts::with_left` meets its contract.
 use mathlib.Core.Path.{sym, _∙_}
-use Rattle.tables.specs.Table.{ruleIn}
-use Rattle.tables.proofs.Tables.{below-left}
 use borrow.Author.Needs.{needs}
 use Rattle.contexts.proofs.with_left.Statement.{statement}
 use Rattle.contexts.proofs.with_left.Tie as tie
@@ -17,8 +15,7 @@ cast-with c = search needs
 
 with-requires : tie.Need-with-requires
 with-requires c κs =
-    let s = c .before .before .before in
-    rw (c .left-in .ensures) (below-left 32 (ruleIn (s .args .table .now) (s .args .r)) (s .pre .1))
+    rw (c .left-in .ensures) (c .before .before .before .pre .1 .0)
 
 returns : tie.Need-returns
 returns c =

@@ -3,7 +3,6 @@ use mathlib.Core.Path.{sym, _∙_, ap}
 use borrow.Author.Needs.{needs}
 use Rattle.bits.specs.Bit.{bit, addBit}
 use Rattle.tables.specs.Table.{ruleIn}
-use Rattle.tables.proofs.Tables.{below-left}
 use Rattle.pair_words.specs.Row.{matchesBy, followsBy}
 use Rattle.pair_words.proofs.Below.{follows-below}
 use Rattle.pair_words.proofs.gain.Statement.{statement}
@@ -17,10 +16,7 @@ wide-requires c κs = search needs
 
 has-requires : tie.Need-has-requires
 has-requires c κs =
-    let s = c .before .before in
-    let a = s .args in
-    let R = ruleIn (a .table .now) (a .k) in
-    rw (c .wide .ensures ∙ c .before .left-in .ensures) (below-left 32 R (s .pre .1))
+    rw (c .wide .ensures ∙ c .before .left-in .ensures) (c .before .before .pre .1 .0)
 
 rule-of-requires : tie.Need-rule-of-requires
 rule-of-requires c κs = search needs

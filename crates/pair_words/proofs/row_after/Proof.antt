@@ -4,7 +4,7 @@ use native.Mathlib.Omega.{arith}
 use mathlib.Core.Path.{_≡_, sym, _∙_}
 use borrow.Author.Needs.{needs}
 use Rattle.pair_words.proofs.Gathers.{gather-turn, no-row}
-use Rattle.pair_words.specs.Row.{gather, passes, followsBy, rowAfter}
+use Rattle.pair_words.specs.Row.{gather, gained, passes, followsBy, rowAfter}
 use Rattle.tables.specs.Table.{ruleIn}
 use Rattle.pair_words.proofs.row_after.Statement.{statement}
 use Rattle.pair_words.proofs.row_after.Tie as tie
@@ -38,8 +38,8 @@ loop-again c =
     let l = c .before .before in
     let a = l .before .before .args in (
       omega arith,
-      c .gain .ensures
-          ∙ gather-turn (λ r. passes (a .pattern) (a .row) (a .done) (ruleIn (a .table .now) r)) (λ r. followsBy (a .pattern) (ruleIn (a .table .now) r)) (l .loop .k) (l .loop .set) (l .loop .inv .1),
+      _∙_ {b = gained (a .pattern) (a .row) (a .done) (l .loop .set) (ruleIn (a .table .now) (l .loop .k))} (c .gain .ensures)
+          (gather-turn (λ r. passes (a .pattern) (a .row) (a .done) (ruleIn (a .table .now) r)) (λ r. followsBy (a .pattern) (ruleIn (a .table .now) r)) (l .loop .k) (l .loop .set) (l .loop .inv .1)),
     )
 
 returns-2 : tie.Need-returns-2 Inv-loop μ-loop

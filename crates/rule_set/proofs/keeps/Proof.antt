@@ -1,8 +1,6 @@
 -- `keeps`: the nonterminal of a rule of the table is below 32.
 use mathlib.Core.Path.{sym, _∙_}
 use mathlib.Core.Bool.{and-true, and-false}
-use Rattle.tables.specs.Table.{ruleIn}
-use Rattle.tables.proofs.Tables.{below-left}
 use borrow.Author.Needs.{needs}
 use Rattle.rule_set.proofs.keeps.Statement.{statement}
 use Rattle.rule_set.proofs.keeps.Tie as tie
@@ -18,8 +16,7 @@ cast-has c = search needs
 
 has-requires : tie.Need-has-requires
 has-requires c κs =
-    let s = c .before .before .before in
-    rw (c .left-in .ensures) (below-left 32 (ruleIn (s .args .table .now) (s .args .r)) (s .pre .1))
+    rw (c .left-in .ensures) (c .before .before .before .pre .1 .0)
 
 returns : tie.Need-returns
 returns c =

@@ -1,0 +1,49 @@
+-- Tests of tokens and rules, by which the definitions that follow tell them apart: is it this mark, this open, this close; is the rule of this
+-- form, and do its fields pass.
+use Prim.Native.Nat.{ℕ}
+use mathlib.Core.Bool.{Bool, true, false}
+use lib.Dec.{eqb}
+use Rattle.vpg.specs.declared.MarkName.{MarkName}
+use Rattle.vpg.specs.declared.OpenName.{OpenName}
+use Rattle.vpg.specs.declared.CloseName.{CloseName}
+use Rattle.vpg.specs.declared.Rule.{Rule}
+use Rattle.vpg.specs.declared.Token.{Token}
+
+-- ── tokens ──
+
+abbrev pub isMark : MarkName → Token → Bool
+isMark c (Token.Mark c′) = eqb (c .0) (c′ .0)
+isMark c (Token.Open a) = false
+isMark c (Token.Close b) = false
+
+abbrev pub isOpen : OpenName → Token → Bool
+isOpen a (Token.Mark c) = false
+isOpen a (Token.Open a′) = eqb (a .0) (a′ .0)
+isOpen a (Token.Close b) = false
+
+abbrev pub isClose : CloseName → Token → Bool
+isClose b (Token.Mark c) = false
+isClose b (Token.Open a) = false
+isClose b (Token.Close b′) = eqb (b .0) (b′ .0)
+
+abbrev pub anyClose : Token → Bool
+anyClose (Token.Mark c) = false
+anyClose (Token.Open a) = false
+anyClose (Token.Close b) = true
+
+-- ── rules ──
+
+abbrev pub ifEmpty : (ℕ → Bool) → Rule → Bool
+ifEmpty test (Rule.Empty L) = test L
+ifEmpty test (Rule.Mark L c L₁) = false
+ifEmpty test (Rule.Step L a L₁ b L₂) = false
+
+abbrev pub ifMark : (ℕ → MarkName → ℕ → Bool) → Rule → Bool
+ifMark test (Rule.Empty L) = false
+ifMark test (Rule.Mark L c L₁) = test L c L₁
+ifMark test (Rule.Step L a L₁ b L₂) = false
+
+abbrev pub ifStep : (ℕ → OpenName → ℕ → CloseName → ℕ → Bool) → Rule → Bool
+ifStep test (Rule.Empty L) = false
+ifStep test (Rule.Mark L c L₁) = false
+ifStep test (Rule.Step L a L₁ b L₂) = test L a L₁ b L₂
