@@ -1,16 +1,13 @@
 -- Contexts and words: the rules that can stand at a place are those that can stand before the tokens there.
 use Prim.Native.Nat.{ℕ, zero, suc}
-use mathlib.Core.Path.{_≡_, refl, sym, _∙_}
-use mathlib.Core.Bool.{Bool, true, false, cond, _&&_, _||_, or-false, or-assoc, and-true, and-false}
-use mathlib.Core.List.{List, [], _∷_, _++_}
-use borrow.Author.Tests.{eqb-true, eqb-false, eq-eqb, ne-eqb}
+use mathlib.Core.Path.{_≡_, sym, _∙_}
+use mathlib.Core.Bool.{Bool, true, false, cond, _&&_, _||_, or-false, and-true, and-false}
+use mathlib.Core.List.{List}
 use lib.Dec.{eqb}
 use Rattle.laws.proofs.Bools.{eqb-comm}
 use Rattle.laws.proofs.Any.{any-snoc}
 use Rattle.bits.specs.Bit.{bit, addBit}
 use Rattle.bits.proofs.Bits.{bit-zero, bit-add}
-use Rattle.vpg.specs.declared.Rule.{Rule}
-use Rattle.vpg.specs.believed.Grammar.{Rules}
 use Rattle.vpg.specs.Steps.{left}
 use Rattle.level_theory.specs.Masks.{lefts}
 use Rattle.tables.specs.Table.{ruleIn, rulesIn}

@@ -5,7 +5,6 @@ use mathlib.Core.Logic.{_⊎_, _↔_}
 use mathlib.Core.Bool.{Bool, true, false, _&&_}
 use mathlib.Core.List.{List, [], _∷_}
 use mathlib.Core.Option.{Option, none, some}
-use lib.Dec.{eqb}
 use lib.ListN.{drop, getElem?}
 use Rattle.laws.specs.Any.{any}
 use Rattle.vpg.specs.declared.Rule.{Rule}

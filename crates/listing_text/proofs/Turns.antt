@@ -9,7 +9,7 @@ use borrow.Author.Tests.{ltb-true, ltb-false, le-ltb}
 use lib.Dec.{ltb}
 use lib.ListN.{length, take, drop, getD, length-map, drop-of-length-le}
 use lib.Seq.{drop-cons, take-at}
-use Rattle.listing_model.specs.believed.Listing.{Subject, due, over, next, overEntries}
+use Rattle.listing_model.specs.believed.Listing.{Subject, over, next, overEntries}
 use Rattle.listing_model.specs.Calls.{callOn, successor}
 use Rattle.laws.proofs.Lists.{at-member}
 use Rattle.listing_model.proofs.Find.{find-at}

@@ -1,7 +1,7 @@
 -- What reading a number at a place of a file finds (document 01, "The two files", and refusals 1 and 2).
 use Prim.Native.Nat.{ℕ, _+_, _-_, _*_}
 use mathlib.Core.List.{List}
-use mathlib.Core.Bool.{Bool, true, false, cond}
+use mathlib.Core.Bool.{Bool, cond}
 use lib.ListN.{length, getD}
 use lib.Dec.{ltb, eqb}
 use Rattle.numbers.specs.declared.NumberRead.{NumberRead}

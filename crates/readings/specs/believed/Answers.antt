@@ -1,5 +1,5 @@
 -- What first reading and next reading answer, and what a list of their calls is about.
-use Prim.Native.Nat.{ℕ, suc}
+use Prim.Native.Nat.{ℕ}
 use mathlib.Core.List.{List}
 use Rattle.listing_model.specs.believed.Listing.{written, no-reading, no-further, Subject, due, overEntries}
 use Rattle.listing_model.specs.believed.Listing as model

@@ -1,5 +1,5 @@
 -- `stop_marks::stop_marks` meets its contract.
-use mathlib.Core.Path.{sym, ap}
+use mathlib.Core.Path.{sym}
 use lib.ListN.{take, length-map}
 use native.Mathlib.Omega.{arith}
 use Rattle.history_file.specs.believed.HistoryFile.{tokenOf}
