@@ -110,10 +110,10 @@ int main(void)
         const char *name;
         void (*function)(void);
         size_t stated; /* KiB */
-    } all[] = {{"gaffmedlar_grammar_check", grammar_check, 4}, {"gaffmedlar_history_check", history_check, 16},
-               {"gaffmedlar_first_reading", first, 40},        {"gaffmedlar_next_reading", next, 48},
-               {"gaffmedlar_run_calls", run_calls, 48},        {"gaffmedlar_sets", sets, 40},
-               {"gaffmedlar_doubtful_count", doubtful, 40},    {"gaffmedlar_stop_marks", stop_marks, 40}};
+    } all[] = {{"gaffmedlar_grammar_check", grammar_check, 4}, {"gaffmedlar_history_check", history_check, 8},
+               {"gaffmedlar_first_reading", first, 32},        {"gaffmedlar_next_reading", next, 40},
+               {"gaffmedlar_run_calls", run_calls, 40},        {"gaffmedlar_sets", sets, 32},
+               {"gaffmedlar_doubtful_count", doubtful, 32},    {"gaffmedlar_stop_marks", stop_marks, 24}};
     int faults = 0;
     stack = malloc(STACK);
     if (stack == NULL)

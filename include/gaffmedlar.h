@@ -39,8 +39,8 @@
  *   keep their content. A call that answers a refusal, 100 or 101 writes nothing into a reading, words or marks.
  * - No function allocates memory, keeps a pointer, has a state of its own, makes a system call or runs for ever. Calls
  *   from several threads don't disturb each other as long as their lent buffers differ.
- * - "Stack" is what a call uses at most, measured on files at every limit and rounded up to 4 KiB. examples/stack.c
- *   measures it, and the gate fails where a number below is exceeded.
+ * - "Stack" is what a call uses at most, measured on files at every limit: that and at least 1 KiB more,
+ *   rounded up to 4 KiB. examples/stack.c measures it, and the gate fails where a number below is exceeded.
  *
  * Below, n is the number of tokens of the history; it has positions 0 to n.
  */
@@ -86,19 +86,19 @@ struct gaffmedlar_count {
 /* Checks a grammar file: 0 with the counts, or 1 to 9. Writes nothing. Stack: 4 KiB. */
 struct gaffmedlar_grammar gaffmedlar_grammar_check(const uint8_t *grammar, size_t grammar_len);
 
-/* Checks a history file: 0 with the number of tokens, or 1, 2, 9 to 14. Writes nothing. Stack: 16 KiB. */
+/* Checks a history file: 0 with the number of tokens, or 1, 2, 9 to 14. Writes nothing. Stack: 8 KiB. */
 struct gaffmedlar_history gaffmedlar_history_check(const uint8_t *history, size_t history_len);
 
 /* Writes the first reading: n + 1 bytes, a rule number for each position.
  * Answers 0 (written), 100 (none; nothing written), 1 to 14, or 15 (reading_len below n + 1; also where there is no
- * reading). Bytes of the buffer behind the first n + 1 are never written. Stack: 40 KiB. */
+ * reading). Bytes of the buffer behind the first n + 1 are never written. Stack: 32 KiB. */
 uint8_t gaffmedlar_first_reading(const uint8_t *grammar, size_t grammar_len, const uint8_t *history,
                                  size_t history_len, uint8_t *reading, size_t reading_len);
 
 /* Overwrites the reading in the first n + 1 bytes by the one that comes next in the order.
  * Answers 0 (written), 101 (it was the last one; nothing written), 1 to 14, 15 (reading_len below n + 1), or 16 (the
  * first n + 1 bytes are no reading; nothing written). Bytes of the buffer behind the first n + 1 are neither looked at
- * nor written. Stack: 48 KiB. */
+ * nor written. Stack: 40 KiB. */
 uint8_t gaffmedlar_next_reading(const uint8_t *grammar, size_t grammar_len, const uint8_t *history,
                                 size_t history_len, uint8_t *reading, size_t reading_len);
 
@@ -106,7 +106,7 @@ uint8_t gaffmedlar_next_reading(const uint8_t *grammar, size_t grammar_len, cons
  * other number for next reading.
  * Answers 0 and writes calls_len bytes of answers, each as the call by itself would answer; or 15 where answers_len is
  * below calls_len, and then no call is made and nothing is written. A file that is refused, or a buffer shorter than
- * n + 1, is answered in the answers. Stack: 48 KiB. */
+ * n + 1, is answered in the answers. Stack: 40 KiB. */
 uint8_t gaffmedlar_run_calls(const uint8_t *grammar, size_t grammar_len, const uint8_t *history,
                              size_t history_len, const uint8_t *calls, size_t calls_len, uint8_t *answers,
                              size_t answers_len, uint8_t *buffer, size_t buffer_len);
@@ -114,18 +114,18 @@ uint8_t gaffmedlar_run_calls(const uint8_t *grammar, size_t grammar_len, const u
 /* Writes 4 (n + 1) words: bit b of word 4 p + k is 1 where rule 32 k + b stands at position p in some reading, else 0.
  * With no reading all these words are 0.
  * Answers 0 (written), 1 to 14, or 15 (words_len, a number of WORDS, below 4 (n + 1)). Words behind these are never
- * written. Stack: 40 KiB. */
+ * written. Stack: 32 KiB. */
 uint8_t gaffmedlar_sets(const uint8_t *grammar, size_t grammar_len, const uint8_t *history, size_t history_len,
                         uint32_t *words, size_t words_len);
 
 /* How many positions have more than one rule in their set: 0 with the count (0 where there is no reading), or 1 to 14.
- * Writes nothing. Stack: 40 KiB. */
+ * Writes nothing. Stack: 32 KiB. */
 struct gaffmedlar_count gaffmedlar_doubtful_count(const uint8_t *grammar, size_t grammar_len, const uint8_t *history,
                                                   size_t history_len);
 
 /* Writes the stop marks: n + 1 bytes, byte i 1 where the first i tokens alone have a reading, else 0.
  * Answers 0 (written), 1 to 14, or 15 (marks_len below n + 1). Bytes of the buffer behind the first n + 1 are never
- * written. Stack: 40 KiB. */
+ * written. Stack: 24 KiB. */
 uint8_t gaffmedlar_stop_marks(const uint8_t *grammar, size_t grammar_len, const uint8_t *history, size_t history_len,
                               uint8_t *marks, size_t marks_len);
 
