@@ -1,4 +1,5 @@
 -- Sets of numbers as binary digits, of any width: b is in the set m where digit b of m, worth 2 ^ b, is 1.
+-- Law: bit-zero, bit-add (bits/proofs/Bits.antt)
 use Prim.Native.Nat.{ℕ, _/_, _%_, _^_}
 use mathlib.Core.Bool.{Bool}
 use lib.Bits.{bitOr}

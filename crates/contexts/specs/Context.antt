@@ -1,4 +1,5 @@
 -- What stands at a position, in words and names, and which rules can stand there.
+-- Law: level-bit (contexts/proofs/Contexts.antt)
 use Prim.Native.Nat.{ℕ, zero, suc}
 use mathlib.Core.Bool.{Bool, cond, _&&_}
 use mathlib.Core.List.{List}

@@ -1,4 +1,5 @@
 -- Document 01's checked examples, those marked there with a star: `examples` in proofs/ has them all.
+-- Law: examples (examples/proofs/Examples.antt)
 use Prim.Native.Nat.{ℕ}
 use mathlib.Core.Path.{_≡_}
 use mathlib.Core.List.{List, [], _∷_}

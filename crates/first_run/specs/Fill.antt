@@ -1,4 +1,5 @@
 -- What the forward pass starts from, looks for and writes.
+-- Law: first-is, none-is (first_run/proofs/Whole.antt)
 use Prim.Native.Nat.{ℕ, suc, _<_, _≤_}
 use mathlib.Core.Path.{_≡_}
 use mathlib.Core.Bool.{Bool, true, false, _&&_}

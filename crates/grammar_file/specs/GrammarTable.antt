@@ -1,4 +1,5 @@
 -- What `read_grammar` hands to the layers above: the head and the table of a grammar file.
+-- Law: grammar-accepted, grammar-refused (grammar_file/proofs/Answers.antt)
 use Prim.Native.Nat.{ℕ}
 use mathlib.Core.List.{List}
 use lib.ListN.{replicate}

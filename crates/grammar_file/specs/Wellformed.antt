@@ -1,5 +1,6 @@
 -- The grammars that a grammar file can say, and the numbers that the file of a grammar holds (document 01, "The two files" and refusals
 -- 3, 4, 6, 7 and 8).
+-- Law: grammar-both-ways (grammar_file/proofs/BothWays.antt)
 use Prim.Native.Nat.{ℕ, _<_, _≤_}
 use mathlib.Core.List.{List, [], _∷_, _++_, List·Memᴰ}
 use lib.ListN.{length}

@@ -1,4 +1,5 @@
 -- What `read_history` hands to the layers above: the count and the token numbers of a history file.
+-- Law: history-accepted, history-refused (history_file/proofs/Answers.antt)
 use Prim.Native.Nat.{ℕ, _-_, _<_, _≤_}
 use mathlib.Core.List.{List, _++_}
 use lib.ListN.{length, replicate, getD}

@@ -1,4 +1,5 @@
 -- The token numbers that a history file can say (document 01, "The two files" and refusals 10 to 14).
+-- Law: history-both-ways (history_file/proofs/BothWays.antt)
 use Prim.Native.Nat.{ℕ, _<_, _≤_}
 use mathlib.Core.Path.{_≡_}
 use mathlib.Core.List.{List, [], _∷_, List·Memᴰ}

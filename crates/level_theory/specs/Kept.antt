@@ -1,4 +1,5 @@
 -- From left to right: the nonterminals that can stand at a position, those that can stand behind each pending close, and which rules are kept.
+-- Law: front-kept (level_theory/proofs/Kept.antt)
 use Prim.Native.Nat.{ℕ, zero, suc, _≤_}
 use mathlib.Core.Path.{_≡_}
 use mathlib.Core.Logic.{_⊎_, _↔_}

@@ -1,4 +1,5 @@
 -- A reading, position by position: which nonterminal stands where, and that each rule leads from one position to the next.
+-- Law: run-at, next-all (level_theory/proofs/Local.antt)
 use Prim.Native.Nat.{ℕ, suc, _<_}
 use mathlib.Core.Path.{_≡_}
 use mathlib.Core.List.{List, _∷_}

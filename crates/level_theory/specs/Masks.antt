@@ -1,4 +1,5 @@
 -- Which nonterminals derive the rest of each open level, computed from right to left.
+-- Law: alive (level_theory/proofs/Alive.antt)
 use Prim.Native.Nat.{ℕ}
 use mathlib.Core.Path.{_≡_}
 use mathlib.Core.Bool.{Bool, true, false, _&&_}

@@ -1,4 +1,5 @@
 -- The closes that end open levels, with their positions, and the stack that an array of nonterminals by position describes.
+-- Law: masks-outer (level_theory/proofs/Pending.antt)
 use Prim.Native.Nat.{ℕ, suc}
 use mathlib.Core.Path.{_≡_}
 use mathlib.Core.List.{List, [], _∷_, map}

@@ -1,4 +1,5 @@
 -- Walking over the tokens by an array: which rules can stand at a position, and where they lead.
+-- Law: level-test, placed (level_theory/proofs/Walk.antt)
 use Prim.Native.Nat.{ℕ}
 use mathlib.Core.Bool.{Bool}
 use mathlib.Core.Option.{Option·getD}

@@ -1,4 +1,5 @@
 -- Arrays by position: the matching closes, and the nonterminals that derive the rest of each level.
+-- Law: matched-turn, leveled-turn (levels/proofs/Levels.antt)
 use Prim.Native.Nat.{ℕ, suc, _≤_}
 use mathlib.Core.Path.{_≡_}
 use mathlib.Core.List.{List}

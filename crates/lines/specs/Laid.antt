@@ -1,4 +1,5 @@
--- Text laid byte by byte into a buffer that is a window on it; `laid-window` (proofs/Laying.antt) says what is then in the buffer.
+-- Text laid byte by byte into a buffer that is a window on it.
+-- Law: laid-window (lines/proofs/Laying.antt)
 use Prim.Native.Nat.{ℕ, _+_, _-_}
 use mathlib.Core.Bool.{Bool, true, false}
 use mathlib.Core.List.{List, [], _∷_}

@@ -1,4 +1,5 @@
 -- What is handed from one function to the next where both files pass.
+-- Law: first-begun, whole-none, whole-some (listing_text/proofs/Whole.antt)
 use Prim.Native.Nat.{ℕ, _+_, _<_, _≤_}
 use mathlib.Core.Path.{_≡_}
 use mathlib.Core.Bool.{Bool, true, false}

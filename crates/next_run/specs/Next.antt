@@ -1,5 +1,6 @@
 -- The last position at which a larger rule still leads to a reading (document 01, "Services": "the successor differs first at the last
 -- place at which a larger rule still leads to a reading"), and what is written from there on.
+-- Law: written-is, no-further-is (next_run/proofs/Successor.antt)
 use Prim.Native.Nat.{ℕ, suc, _<_, _≤_}
 use mathlib.Core.Path.{_≡_}
 use mathlib.Core.Bool.{Bool, true, false, _&&_}

@@ -1,4 +1,5 @@
 -- The number of a refusal, out of what a reader answers; 0 where there is none. It serves to pass refusals up.
+-- Inner: field_at (numbers/src/lib.rt)
 use Prim.Native.Nat.{ℕ}
 use Rattle.numbers.specs.declared.NumberRead.{NumberRead}
 use Rattle.numbers.specs.declared.NumberRead.the-variants.{Number, Refused as NumberRefused}

@@ -1,4 +1,5 @@
 -- How numbers are written as bytes, and what it is that numbers stand in a file (document 01, "The two files").
+-- Law: numbers-read, numbers-reads (numbers/proofs/Written.antt)
 use Prim.Native.Nat.{ℕ, _+_, _<_, _/_, _%_}
 use mathlib.Core.Path.{_≡_}
 use mathlib.Core.Bool.{false, cond}

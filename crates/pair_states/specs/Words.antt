@@ -1,4 +1,5 @@
 -- What the functions of this crate compute, as numbers: sets of nonterminals are the digits of a word, a state is 32 words.
+-- Law: finished-some, mark-encodes (pair_states/proofs/Derivatives.antt)
 use Prim.Native.Nat.{ℕ, zero, suc}
 use mathlib.Core.Bool.{Bool, not}
 use mathlib.Core.List.{List}

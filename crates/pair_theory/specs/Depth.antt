@@ -1,4 +1,5 @@
 -- How many steps are open at each position of a token list.
+-- Law: wellformed-shallow (stop_marks_core/proofs/Depths.antt)
 use Prim.Native.Nat.{ℕ, _+_, _-_, _≤_}
 use mathlib.Core.List.{List, [], _∷_}
 use Rattle.vpg.specs.declared.Token.{Token}

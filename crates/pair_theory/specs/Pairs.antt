@@ -1,4 +1,5 @@
 -- Recognition by sets of pairs of nonterminals: section 4 of the paper, its states and stacks (Definition 4.1), derivative functions (4.2) and what a configuration takes (4.3).
+-- Law: stop-marks-pairs (pair_theory/proofs/Pairs.antt)
 use Prim.Native.Nat.{ℕ, _<_}
 use mathlib.Core.Path.{_≡_}
 use mathlib.Core.Bool.{Bool, true, false, _&&_}

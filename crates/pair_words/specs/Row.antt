@@ -1,4 +1,5 @@
 -- Which rules a token allows, and the set of the nonterminals that follow, as a word.
+-- Law: bit-gather (pair_words/proofs/Gathers.antt)
 use Prim.Native.Nat.{ℕ, zero, suc}
 use mathlib.Core.Bool.{Bool, true, false, cond, _&&_}
 use mathlib.Core.List.{List}

@@ -1,4 +1,5 @@
 -- What going over a buffer as a reading says of it.
+-- Law: is-run (next_run/proofs/Successor.antt)
 use Prim.Native.Nat.{ℕ}
 use mathlib.Core.Path.{_≡_}
 use mathlib.Core.Bool.{Bool, true, false}

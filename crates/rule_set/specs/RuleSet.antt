@@ -1,4 +1,5 @@
 -- The set of rules at a position, rule by rule.
+-- Law: words-held, held-count (rule_set/proofs/RuleSet.antt)
 use Prim.Native.Nat.{ℕ, zero, suc, _+_}
 use mathlib.Core.Bool.{Bool, cond, _&&_}
 use mathlib.Core.List.{List}

@@ -1,4 +1,5 @@
 -- Sets of numbers as words of W digits each, for every W: number r is digit r % W of word r / W.
+-- Law: held-word (rule_set/proofs/Words.antt)
 use Prim.Native.Nat.{ℕ, _/_, _%_, _^_, _<_}
 use mathlib.Core.Path.{_≡_}
 use mathlib.Core.Bool.{Bool, _&&_}

@@ -1,4 +1,5 @@
 -- The number of a refusal, out of what a reader answers; 0 where there is none. It serves to pass refusals up.
+-- Law: refusal-stands (rules/proofs/Pairs.antt)
 use Prim.Native.Nat.{ℕ}
 use Rattle.rules.specs.declared.PairRead.{PairRead}
 use Rattle.rules.specs.declared.PairRead.the-variants.{Pair, Refused as PairRefused}

@@ -1,4 +1,5 @@
 -- The numbers of a rule in a grammar file, and their ranges (document 01, "The two files" and refusals 6 and 7).
+-- Law: grammar-both-ways (grammar_file/proofs/BothWays.antt)
 use Prim.Native.Nat.{ℕ, _<_}
 use mathlib.Core.List.{List, [], _∷_}
 use Rattle.vpg.specs.declared.Rule.{Rule}

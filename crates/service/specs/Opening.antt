@@ -1,4 +1,5 @@
 -- What the opening leaves in the lent arrays, for the passes.
+-- Law: both-opened (service/proofs/Opens.antt)
 use Prim.Native.Nat.{ℕ, _+_, _*_, _≤_}
 use mathlib.Core.Path.{_≡_}
 use mathlib.Core.List.{List}

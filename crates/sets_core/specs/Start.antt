@@ -1,4 +1,5 @@
 -- Where the pass over the positions begins.
+-- Law: going-start (sets_core/proofs/Pass.antt)
 use Prim.Native.Nat.{ℕ}
 use mathlib.Core.Bool.{cond}
 use Rattle.bits.specs.Bit.{bit, addBit}

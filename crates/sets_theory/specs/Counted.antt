@@ -1,4 +1,5 @@
 -- How many numbers have a property.
+-- Law: doubtful-count-is (sets_theory/proofs/Sets.antt)
 use Prim.Native.Nat.{ℕ}
 use mathlib.Core.Path.{_≡_}
 use mathlib.Core.Logic.{_↔_}

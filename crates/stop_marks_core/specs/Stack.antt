@@ -1,4 +1,5 @@
 -- Which configuration the words of a state and of a stack are.
+-- Law: first-turn, last-turn (stop_marks_core/proofs/Turns.antt)
 use Prim.Native.Nat.{ℕ, zero, suc, _+_, _-_, _*_}
 use mathlib.Core.Path.{_≡_}
 use mathlib.Core.Bool.{_&&_}

@@ -1,4 +1,5 @@
 -- What the layers above may take for granted of a table of rules.
+-- Law: wellformed-ready (grammar_file/proofs/Ready.antt)
 use Prim.Native.Nat.{ℕ, _<_, _≤_}
 use mathlib.Core.List.{List}
 use mathlib.Core.Option.{Option, none, some}

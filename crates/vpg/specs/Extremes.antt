@@ -1,4 +1,5 @@
 -- The least list with a property, the next one after a given list, and the last: what first reading and next reading look for.
+-- Law: first-written, next-written, next-no-further (listing_model/proofs/Calls.antt)
 use Prim.Native.Nat.{ℕ}
 use mathlib.Core.Path.{_≡_}
 use mathlib.Core.Logic.{_⊎_}

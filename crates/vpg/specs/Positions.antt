@@ -1,4 +1,5 @@
 -- What stands at each position of a reading (document 01, "Readings"): g are the rules, w the tokens, e the numbers, one for each position.
+-- Law: position-mark, position-open, position-close, position-end (vpg/proofs/Positions.antt)
 use Prim.Native.Nat.{ℕ, _+_}
 use mathlib.Core.Path.{_≡_}
 use mathlib.Core.List.{List, _∷_, _++_}

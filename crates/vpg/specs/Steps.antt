@@ -1,4 +1,5 @@
 -- Derivation by single steps, as the paper writes it at the end of section 2: strings of terminals and nonterminals, w → w′ and L →* w.
+-- Law: derives-steps (vpg/proofs/Steps.antt)
 use Prim.Native.Nat.{ℕ}
 use mathlib.Core.Path.{_≡_}
 use mathlib.Core.List.{List, [], _∷_, _++_}

@@ -1,5 +1,6 @@
 -- Tests of tokens and rules, by which the definitions that follow tell them apart: is it this mark, this open, this close; is the rule of this
 -- form, and do its fields pass.
+-- Law: mark-is, open-is, close-is, if-mark, if-step (vpg/proofs/Tests.antt)
 use Prim.Native.Nat.{ℕ}
 use mathlib.Core.Bool.{Bool, true, false}
 use lib.Dec.{eqb}
