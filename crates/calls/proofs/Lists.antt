@@ -15,7 +15,7 @@ use Rattle.service.specs.believed.Opened.{filesIn, opened, served}
 use Rattle.service.specs.believed.Given as service
 use Rattle.history_file.specs.believed.HistoryFile.{tokensOf}
 use Rattle.readings.specs.believed.Answers.{subject}
-use Rattle.calls.specs.believed.CallList.{codeOf, callOf, callsOf, coded, final, modelAnswers, modelBuffer, callsDue}
+use Rattle.calls.specs.believed.CallList.{codeOf, callOf, callsOf, coded, final, modelAnswers, modelBuffer, noRoom, callsDue}
 
 -- the answers and the last buffer, call by call
 abbrev pub answersBy : Subject → List Call → List ℕ → List ℕ
@@ -95,7 +95,7 @@ module _ (grammar history kinds answers₀ buf₀ : List ℕ) (room : length kin
         kept = drop-set-lt (length kinds) answers i r h ∙ k .kept;
       })
 
-  pub calling-end : {answers buf : List ℕ} {i : ℕ} → Calling grammar history kinds answers₀ buf₀ answers buf i → i ≡ length kinds → (service.written, answers, buf) ≡ callsDue X kinds answers₀ buf₀
+  pub calling-end : {answers buf : List ℕ} {i : ℕ} → Calling grammar history kinds answers₀ buf₀ answers buf i → i ≡ length kinds → (service.written, answers, buf) ≡ callsDue grammar history kinds answers₀ buf₀
   calling-end {answers} {buf} {i} k e =
       let none : drop i (callsOf kinds) ≡ [] = drop-of-length-le (callsOf kinds) {i = i} (rw (length-map kinds callOf) (omega arith)) in
       let a : take (length kinds) answers ≡ answersBy X (callsOf kinds) buf₀ = rw (← e) (sym (append-nil (take i answers)) ∙ rw none at (k .said)) in
@@ -106,5 +106,6 @@ module _ (grammar history kinds answers₀ buf₀ : List ℕ) (room : length kin
       let d : buf ≡ modelBuffer X (callsOf kinds) buf₀ = b ∙ buffer-model X p (callsOf kinds) buf₀ in
       rw (le-ltb (length answers₀) (length kinds) room, ← c, ← d)
 
-pub calls-short : (x : Subject) (kinds answers buf : List ℕ) → length answers < length kinds → (service.refused 15, answers, buf) ≡ callsDue x kinds answers buf
-calls-short x kinds answers buf h = rw (lt-ltb (length answers) (length kinds) h)
+pub calls-short : (grammar history kinds answers buf : List ℕ) (e : ℕ) → length answers < length kinds → e ≡ noRoom (filesIn grammar history) →
+    (service.refused e, answers, buf) ≡ callsDue grammar history kinds answers buf
+calls-short grammar history kinds answers buf e h q = rw (lt-ltb (length answers) (length kinds) h, q)

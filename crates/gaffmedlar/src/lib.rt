@@ -99,8 +99,8 @@ pub extern "C" fn gaffmedlar_next_reading(grammar: &[u8], history: &[u8], readin
     calls::code_of(readings::next_reading(grammar, history, reading))
 }
 
-// Makes a list of the two calls above on one buffer: 0 is first reading, any other number next reading. Answers 0, or 15 where there is
-// no room for the answers.
+// Makes a list of the two calls above on one buffer: 0 is first reading, any other number next reading. Where there is no room for the
+// answers, a refused file's number, else 15.
 #[no_mangle]
 pub extern "C" fn gaffmedlar_run_calls(
     grammar: &[u8],
@@ -109,7 +109,7 @@ pub extern "C" fn gaffmedlar_run_calls(
     answers: &mut [u8],
     buffer: &mut [u8],
 ) -> u8
-    ensures { λ r. ⌜ (r, now (answers .exit), now (buffer .exit)) ≡ callsWire (callsDue (subject (now (grammar .entry)) (now (history .entry)) (length (now (buffer .entry)))) (now (calls .entry)) (now (answers .entry)) (now (buffer .entry))) ⌝ }
+    ensures { λ r. ⌜ (r, now (answers .exit), now (buffer .exit)) ≡ callsWire (callsDue (now (grammar .entry)) (now (history .entry)) (now (calls .entry)) (now (answers .entry)) (now (buffer .entry))) ⌝ }
 {
     outcome_code(calls::run_calls(grammar, history, calls, answers, buffer))
 }

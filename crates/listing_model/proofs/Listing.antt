@@ -133,7 +133,7 @@ module _ (x : Subject) (p : Proper x) (buf : List ℕ) where
 
 -- ── a first call and then next calls ──
 
-first-one : (m : ℕ) (s : Shown) → 0 < m → modelFirst m s ≡ (written, some 1)
+pub first-one : (m : ℕ) (s : Shown) → 0 < m → modelFirst m s ≡ (written, some 1)
 first-one zero s h = absurd (not-suc-le-zero h)
 first-one (suc m) s h = refl
 

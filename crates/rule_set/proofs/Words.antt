@@ -1,6 +1,6 @@
 -- Sets in words of W digits each, for every W and every number of words.
 use Prim.Native.Nat.{ℕ, zero, suc, _+_, _*_, _/_, _%_, _^_, _<_, _≤_}
-use native.Mathlib.Nat.{not-suc-le-zero, le-of-suc-le-suc, eq-or-lt-of-le, one-mul, zero-mul, zero-add, pow-suc, mod-lt, div-add-mod', mul-comm}
+use native.Mathlib.Nat.{eq-or-lt-of-le, mod-lt, div-add-mod', mul-comm}
 use native.Mathlib.Omega.{arith}
 use mathlib.Core.Path.{_≡_, refl, sym, _∙_, ap}
 use mathlib.Core.Logic.{_⊎_, inl, inr, _≢_, ⊎-elim}
@@ -8,21 +8,15 @@ use mathlib.Core.Bool.{Bool, true, false, _&&_, _||_, or-true, or-false}
 use mathlib.Core.List.{List, append-nil}
 use borrow.Author.Tests.{eqb-true, eqb-false, eq-eqb, ne-eqb, lt-ltb, le-ltb, ltb-true, ltb-false}
 use lib.Arith.{digits-div, digits-mod}
-use lib.Bits.{or-shifted-r}
 use lib.Dec.{eqb, ltb}
 use lib.ListN.{length, getD, replicate, length-set, drop-of-length-le}
 use lib.Pow.{pow-pos}
 use lib.Seq.{getD-set-same, getD-set-other, sets, sets-eq}
 use Rattle.bits.specs.Bit.{bit, addBit}
-use Rattle.bits.proofs.Bits.{bit-zero, bit-above, bit-add, add-below, same}
+use Rattle.bits.proofs.Bits.{bit-zero, bit-add, add-below}
 use Rattle.sets_theory.specs.believed.Sets.{wordOf}
+use Rattle.sets_theory.proofs.Words.{word-is}
 use Rattle.rule_set.specs.Words.{bitIn, addIn, Held}
-
-or-yes : (a x : Bool) → x ≡ true → (a || x) ≡ true
-or-yes a x e = rw e (or-true a)
-
-or-no : (a x : Bool) → x ≡ false → (a || x) ≡ a
-or-no a x e = rw e (or-false a)
 
 pub add-length : (W : ℕ) (ws : List ℕ) (r : ℕ) → length (addIn W ws r) ≡ length ws
 add-length W ws r = length-set ws (r / W) (addBit (getD ws (r / W) 0) (r % W))
@@ -37,40 +31,6 @@ zeros (suc k) (suc i) = zeros k i
 -- every word stored anew, from the first on
 pub stored : (vs ws : List ℕ) → length ws ≡ length vs → sets ws 0 vs ≡ vs
 stored vs ws e = sets-eq vs ws 0 (omega arith) ∙ rw (drop-of-length-le ws {i = 0 + length vs} (omega arith)) (append-nil vs)
-
--- ── one word ──
-
-word-with : (n : ℕ) (f : ℕ → Bool) → wordOf n f < 2 ^ n → f n ≡ true → wordOf (suc n) f ≡ addBit (wordOf n f) n
-unfolding wordOf
-word-with n f h e = rw e (sym (or-shifted-r 1 n (wordOf n f) h) ∙ rw one-mul)
-
-word-without : (n : ℕ) (f : ℕ → Bool) → f n ≡ false → wordOf (suc n) f ≡ wordOf n f
-unfolding wordOf
-word-without n f e = rw (e, zero-mul, zero-add)
-
-word-below : (n : ℕ) (f : ℕ → Bool) → wordOf n f < 2 ^ n
-unfolding wordOf
-word-below zero f = pow-pos 0
-word-below (suc n) f = go (f n) refl (word-below n f)
-  where
-    go : (b : Bool) → f n ≡ b → wordOf n f < 2 ^ n → wordOf (suc n) f < 2 ^ suc n
-    go true e h = rw (word-with n f h e) (add-below (suc n) (wordOf n f) n (omega (arith, pow-suc 2 n)) (omega arith))
-    go false e h = rw (word-without n f e) (omega (arith, pow-suc 2 n))
-
--- digit b of the word of a test says whether the test passes
-pub bit-word : (n : ℕ) (f : ℕ → Bool) (b : ℕ) → b < n → bit (wordOf n f) b ≡ f b
-bit-word zero f b h = absurd (not-suc-le-zero h)
-bit-word (suc n) f b h = go (f n) refl (bit-word n f b) (eq-or-lt-of-le (le-of-suc-le-suc h))
-  where
-    go : (x : Bool) → f n ≡ x → (b < n → bit (wordOf n f) b ≡ f b) → (b ≡ n) ⊎ (b < n) → bit (wordOf (suc n) f) b ≡ f b
-    go true e below (inl q) = rw (word-with n f (word-below n f) e) (bit-add (wordOf n f) n b ∙ or-yes (bit (wordOf n f) b) (eqb b n) (eq-eqb b n q) ∙ sym (rw q e))
-    go true e below (inr l) = rw (word-with n f (word-below n f) e) (bit-add (wordOf n f) n b ∙ or-no (bit (wordOf n f) b) (eqb b n) (ne-eqb b n (λ q. omega arith)) ∙ below l)
-    go false e below (inl q) = rw (word-without n f e) (bit-above n (wordOf n f) b (word-below n f) (omega arith) ∙ sym (rw q e))
-    go false e below (inr l) = rw (word-without n f e) (below l)
-
--- and no other word of the width has these digits
-pub word-is : (n m : ℕ) (f : ℕ → Bool) → m < 2 ^ n → ((b : ℕ) → b < n → bit m b ≡ f b) → m ≡ wordOf n f
-word-is n m f h e = same n m (wordOf n f) h (word-below n f) (λ b l. e b l ∙ sym (bit-word n f b l))
 
 -- ── several words ──
 

@@ -3,7 +3,6 @@
 use Prim.Native.Nat.{ℕ, _<_}
 use mathlib.Core.List.{List, [], _∷_}
 use Rattle.vpg.specs.declared.Rule.{Rule}
-use Rattle.rules.specs.believed.Rule.{names}
 
 -- "each rule: its form, then L; or L c L1; or L a L1 b L2"
 abbrev pub ruleNumbers : Rule → List ℕ
@@ -14,6 +13,6 @@ ruleNumbers (Rule.Step l a l1 b l2) = 2 ∷ l ∷ a .0 ∷ l1 ∷ b .0 ∷ l2 �
 -- no "stage number not below the stage count" and no "name above 63"
 abbrev pub Fits : ℕ → Rule → Type 0
 Fits nonterminals (Rule.Empty l) = l < nonterminals
-Fits nonterminals (Rule.Mark l c l1) = (l < nonterminals) × (c .0 < names) × (l1 < nonterminals)
+Fits nonterminals (Rule.Mark l c l1) = (l < nonterminals) × (c .0 < 64) × (l1 < nonterminals)
 Fits nonterminals (Rule.Step l a l1 b l2) =
-    (l < nonterminals) × (a .0 < names) × (l1 < nonterminals) × (b .0 < names) × (l2 < nonterminals)
+    (l < nonterminals) × (a .0 < 64) × (l1 < nonterminals) × (b .0 < 64) × (l2 < nonterminals)

@@ -28,7 +28,7 @@ data At (g : Rules) (w : List Token) (e : List ℕ) : ℕ → Token → Type 0 w
 module _ {g : Rules} where
   step-shift : {w : List Token} {e : List ℕ} {p : ℕ} {a : OpenName} {q : ℕ} {b : CloseName} (y : Token) (n : ℕ) → StepAt g w e p a q b → StepAt g (y ∷ w) (n ∷ e) (suc p) a (suc q) b
   step-shift y n h =
-      record { number = h .number; nonterminal = h .nonterminal; within = h .within; after = h .after; inside = h .inside; tree = h .tree; rest = h .rest; stands = h .stands; is = h .is; derives = h .derives; tokens = h .tokens; close = omega arith; ends = h .ends }
+      record { number = h .number; nonterminal = h .nonterminal; within = h .within; after = h .after; inside = h .inside; tree = h .tree; rest = h .rest; stands = h .stands; is = h .is; derives = h .derives; tokens = h .tokens; close = omega arith; ends = h .ends; later = h .later; numbers = h .numbers }
 
   shift : {w : List Token} {e : List ℕ} {p : ℕ} {x : Token} (y : Token) (n : ℕ) → At g w e p x → At g (y ∷ w) (n ∷ e) (suc p) x
   shift y n (at-mark h) = at-mark (record { number = h .number; nonterminal = h .nonterminal; after = h .after; stands = h .stands; is = h .is })
@@ -57,6 +57,8 @@ module _ {g : Rules} where
         tokens = drop-left w v p (h .tokens) ∙ rw append-assoc;
         close = h .close;
         ends = at-left e f q (h .ends);
+        later = h .later ++ f;
+        numbers = drop-left e f p (h .numbers) ∙ rw append-assoc;
       }
 
   extend : {w : List Token} {e : List ℕ} {p : ℕ} {x : Token} (v : List Token) (f : List ℕ) → At g w e p x → At g (w ++ v) (e ++ f) p x
@@ -84,7 +86,7 @@ module _ {g : Rules} where
   step-here : {r L : ℕ} {a : OpenName} {L₁ : ℕ} {b : CloseName} {L₂ : ℕ} {v : List Token} {t : Tree} (w : List Token) (f : List ℕ) →
       getElem? g r ≡ some (Rule.Step L a L₁ b L₂) → Derives g L₁ v t → StepAt g (Token.Open a ∷ (v ++ (Token.Close b ∷ w))) (r ∷ (code t ++ f)) 0 a (suc (length v)) b
   step-here {r} {L} {L₁} {L₂} {v} {t} w f p d =
-      record { number = r; nonterminal = L; within = L₁; after = L₂; inside = v; tree = t; rest = w; stands = refl; is = p; derives = d; tokens = refl; close = omega arith; ends = at-left (code t) f (length v) (position-end d) }
+      record { number = r; nonterminal = L; within = L₁; after = L₂; inside = v; tree = t; rest = w; stands = refl; is = p; derives = d; tokens = refl; close = omega arith; ends = at-left (code t) f (length v) (position-end d); later = f; numbers = refl }
 
   positions : {L : ℕ} {w : List Token} {t : Tree} → Derives g L w t → (p : ℕ) (x : Token) → getElem? w p ≡ some x → At g w (code t) p x
   positions (by-empty q) p x h = absurd (Option·none-ne-some x h)

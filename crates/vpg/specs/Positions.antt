@@ -10,7 +10,7 @@ use Rattle.vpg.specs.declared.OpenName.{OpenName}
 use Rattle.vpg.specs.declared.CloseName.{CloseName}
 use Rattle.vpg.specs.declared.Rule.{Rule}
 use Rattle.vpg.specs.declared.Token.{Token}
-use Rattle.vpg.specs.believed.Grammar.{Rules, Tree, leaf, mark, step, Derives}
+use Rattle.vpg.specs.believed.Grammar.{Rules, Tree, leaf, mark, step, Derives, code}
 
 -- the number of the rule that ends what a tree derives: the last along the tree's level
 abbrev pub final : Tree → ℕ
@@ -42,3 +42,6 @@ pub record StepAt (g : Rules) (w : List Token) (e : List ℕ) (p : ℕ) (a : Ope
   pub tokens : drop p w ≡ Token.Open a ∷ (inside ++ (Token.Close b ∷ rest))
   pub close : q ≡ p + 1 + length inside
   pub ends : getElem? e q ≡ some (final tree)
+  -- the numbers behind the open's, up to and with the close's, are the code of the tree that derives the inside
+  pub later : List ℕ
+  pub numbers : drop p e ≡ number ∷ (code tree ++ later)

@@ -3,7 +3,6 @@ use borrow.Author.Needs.{needs}
 use Prim.Native.Nat.{_-_}
 use native.Mathlib.Omega.{arith}
 use lib.ListN.{length}
-use Rattle.readings.specs.believed.Answers.{subject}
 use Rattle.calls.proofs.Lists.{Calling, calling-start, calling-next, calling-end, calls-short}
 use Rattle.calls.proofs.run_calls.Statement.{statement}
 use Rattle.calls.proofs.run_calls.Tie as tie
@@ -14,10 +13,13 @@ Inv-loop grammar history calls answers₀ buffer₀ i₀ answers buffer i = Call
 abbrev μ-loop : tie.MeasureT-loop
 μ-loop grammar history calls answers₀ buffer₀ i₀ answers buffer i = length calls - i
 
+no-room-requires : tie.Need-no-room-requires Inv-loop μ-loop
+no-room-requires c κs = search needs
+
 returns : tie.Need-returns Inv-loop μ-loop
 returns c =
-    let a = c .before .before .before .before .before .before .args in
-    calls-short (subject (a .grammar .now) (a .history .now) (length (a .buffer .now))) (a .calls .now) (a .answers .now) (a .buffer .now) (c .if1 .taken)
+    let a = c .before .before .before .before .before .before .before .args in
+    calls-short (a .grammar .now) (a .history .now) (a .calls .now) (a .answers .now) (a .buffer .now) (c .no-room .result) (c .before .if1 .taken) (c .no-room .ensures)
 
 loop-holds : tie.Need-loop-holds Inv-loop μ-loop
 loop-holds c =
@@ -65,6 +67,7 @@ run-calls-spec =
     (tie.spec
     Inv-loop
     μ-loop
+    no-room-requires
     returns
     loop-holds
     shared-slice-read-call

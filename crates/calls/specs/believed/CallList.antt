@@ -7,6 +7,9 @@ use lib.ListN.{length, drop}
 use Rattle.listing_model.specs.believed.Listing.{Call, first, next, Answer, written, no-reading, no-further, refused, Subject, start, model, shows, trace}
 use Rattle.service.specs.believed.Given.{Given}
 use Rattle.service.specs.believed.Given as service
+use Rattle.service.specs.believed.Opened.{filesIn, served}
+use Rattle.files.specs.believed.Files.{Files}
+use Rattle.readings.specs.believed.Answers.{subject}
 
 -- an answer as a number; refusals are 1 to 16
 abbrev pub codeOf : Answer → ℕ
@@ -38,8 +41,16 @@ modelAnswers x cs buf = map (λ p. codeOf (p .0)) (trace (model x) cs (start x b
 abbrev pub modelBuffer : Subject → List Call → List ℕ → List ℕ
 modelBuffer x cs buf = shows x buf (final (trace (model x) cs (start x buf)) (start x buf))
 
--- all calls made, by the model; or nothing done where the answers have no room (15)
-abbrev pub callsDue : Subject → List ℕ → List ℕ → List ℕ → Given Unit × List ℕ × List ℕ
-callsDue x kinds answers buf =
-    cond (ltb (length answers) (length kinds)) (service.refused 15, answers, buf)
-    (service.written, modelAnswers x (callsOf kinds) buf ++ drop (length kinds) answers, modelBuffer x (callsOf kinds) buf)
+-- all calls made, by the model
+abbrev pub callsMade : Subject → List ℕ → List ℕ → List ℕ → Given Unit × List ℕ × List ℕ
+callsMade x kinds answers buf = (service.written, modelAnswers x (callsOf kinds) buf ++ drop (length kinds) answers, modelBuffer x (callsOf kinds) buf)
+
+-- "grammar comes before history, both before 15": the number where the answers have no room
+abbrev pub noRoom : Files → ℕ
+noRoom files = served (λ e. e) (λ g w. 15) files
+
+-- all calls made; or nothing done where the answers have no room
+abbrev pub callsDue : List ℕ → List ℕ → List ℕ → List ℕ → List ℕ → Given Unit × List ℕ × List ℕ
+callsDue grammar history kinds answers buf =
+    cond (ltb (length answers) (length kinds)) (service.refused (noRoom (filesIn grammar history)), answers, buf)
+    (callsMade (subject grammar history (length buf)) kinds answers buf)

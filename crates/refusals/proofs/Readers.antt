@@ -1,0 +1,189 @@
+-- What every refusal of a reader has in common: a property of the numbers that the reader itself gives holds of each of its refusals.
+use Prim.Native.Nat.{ℕ, zero, suc, _+_, _-_, _*_}
+use mathlib.Core.Bool.{Bool, true, false, cond, _&&_, _||_}
+use mathlib.Core.List.{List, [], _∷_, _++_}
+use lib.Dec.{eqb, ltb, leb}
+use lib.ListN.{length, getD}
+use Rattle.vpg.specs.declared.Rule.{Rule}
+use Rattle.vpg.specs.believed.Grammar.{Grammar}
+use Rattle.numbers.specs.declared.NumberRead.{NumberRead}
+use Rattle.numbers.specs.declared.NumberRead.the-variants.{Number, Refused as NumberRefused}
+use Rattle.numbers.specs.declared.FieldRead.{FieldRead}
+use Rattle.numbers.specs.declared.FieldRead.the-variants.{Field, Refused as FieldRefused}
+use Rattle.numbers.specs.believed.Number.{numberAt, Source, bytes}
+use Rattle.numbers.specs.believed.Field.{limited, fieldAt, positive, countAt}
+use Rattle.rules.specs.declared.PairRead.{PairRead}
+use Rattle.rules.specs.declared.PairRead.the-variants.{Pair, Refused as PairRefused}
+use Rattle.rules.specs.declared.RuleRead.{RuleRead}
+use Rattle.rules.specs.declared.RuleRead.the-variants.{Read, Refused as RuleRefused}
+use Rattle.rules.specs.believed.Rule.{names, forms, first, second, pairAt, after, stepAt, bodyAt, ruleAt}
+use Rattle.tables.specs.Table.{earlier}
+use Rattle.grammar_file.specs.believed.GrammarFile.{GrammarFile, afterRule, rulesFrom, afterCount, grammarFrom, grammarOf}
+use Rattle.grammar_file.specs.believed.GrammarFile as grammar
+use Rattle.history_file.specs.declared.TokenRead.{TokenRead}
+use Rattle.history_file.specs.declared.TokenRead.the-variants.{Token as TokenIs, Refused as TokenRefused}
+use Rattle.history_file.specs.believed.HistoryFile.{HistoryFile, kind, tokenJudged, judged, tokenAt, depthAfter, afterToken, tokensFrom, historyFrom, historyOf}
+use Rattle.history_file.specs.believed.HistoryFile as history
+
+-- what holds of both holds of the one chosen
+chosen : {A : Type 0} (Q : A → Type 0) (b : Bool) {x y : A} → Q x → Q y → Q (cond b x y)
+chosen Q true p q = p
+chosen Q false p q = q
+
+module _ (P : ℕ → Type 0) where
+  abbrev OfNumber : NumberRead → Type 0
+  OfNumber (Number n p) = Unit
+  OfNumber (NumberRefused e) = P e
+
+  abbrev OfField : FieldRead → Type 0
+  OfField (Field n p) = Unit
+  OfField (FieldRefused e) = P e
+
+  abbrev OfPair : PairRead → Type 0
+  OfPair (Pair a b p) = Unit
+  OfPair (PairRefused e) = P e
+
+  abbrev OfRule : RuleRead → Type 0
+  OfRule (Read r p) = Unit
+  OfRule (RuleRefused e) = P e
+
+  abbrev OfToken : TokenRead → Type 0
+  OfToken (TokenIs t p) = Unit
+  OfToken (TokenRefused e) = P e
+
+  abbrev pub OfGrammar : GrammarFile → Type 0
+  OfGrammar (grammar.accepted g) = Unit
+  OfGrammar (grammar.refused e) = P e
+
+  abbrev pub OfHistory : HistoryFile → Type 0
+  OfHistory (history.accepted ts) = Unit
+  OfHistory (history.refused e) = P e
+
+  -- ── numbers ──
+
+  number-of : P 1 → P 2 → (s : List ℕ) (at : ℕ) → OfNumber (numberAt s at)
+  unfolding numberAt
+  number-of one two s at =
+      chosen OfNumber (ltb at (length s))
+      (chosen OfNumber (ltb (getD s at 0) 128) tt
+      (chosen OfNumber (ltb (at + 1) (length s))
+      (chosen OfNumber (eqb (getD s (at + 1) 0) 0) two
+      (chosen OfNumber (ltb (getD s (at + 1) 0) 128) tt two))
+      one))
+      one
+
+  module _ (number : ℕ → NumberRead) (of : (at : ℕ) → OfNumber (number at)) where
+    limited-of : (r : NumberRead) → OfNumber r → (limit k : ℕ) → P k → OfField (limited r limit k)
+    limited-of (Number n p) h limit k q = chosen OfField (ltb n limit) tt q
+    limited-of (NumberRefused e) h limit k q = h
+
+    field-of : (at limit k : ℕ) → P k → OfField (fieldAt number at limit k)
+    unfolding fieldAt
+    field-of at limit k q = limited-of (number at) (of at) limit k q
+
+    positive-of : (r : FieldRead) → OfField r → (k : ℕ) → P k → OfField (positive r k)
+    positive-of (Field n p) h k q = chosen OfField (eqb n 0) q tt
+    positive-of (FieldRefused e) h k q = h
+
+    count-of : (at most k : ℕ) → P k → OfField (countAt number at most k)
+    unfolding countAt
+    count-of at most k q = positive-of (fieldAt number at (most + 1) k) (field-of at (most + 1) k q) k q
+
+    -- ── rules ──
+
+    first-of : (r : FieldRead) → OfField r → (rest : ℕ → ℕ → PairRead) → ((a p : ℕ) → OfPair (rest a p)) → OfPair (first r rest)
+    first-of (Field a p) h rest k = k a p
+    first-of (FieldRefused e) h rest k = h
+
+    second-of : (a : ℕ) (r : FieldRead) → OfField r → OfPair (second a r)
+    second-of a (Field b p) h = tt
+    second-of a (FieldRefused e) h = h
+
+    pair-of : P 6 → (at limit k nonterminals : ℕ) → P k → OfPair (pairAt number at limit k nonterminals)
+    unfolding pairAt
+    pair-of six at limit k nonterminals q = first-of (fieldAt number at limit k) (field-of at limit k q) _ (λ a next. second-of a (fieldAt number next nonterminals 6) (field-of next nonterminals 6 six))
+
+    after-of : (r : PairRead) → OfPair r → (rest : ℕ → ℕ → ℕ → RuleRead) → ((a b p : ℕ) → OfRule (rest a b p)) → OfRule (after r rest)
+    after-of (Pair a b p) h rest k = k a b p
+    after-of (PairRefused e) h rest k = h
+
+    step-of : P 6 → P 7 → (at nonterminals from name to : ℕ) → OfRule (stepAt number at nonterminals from name to)
+    unfolding stepAt
+    step-of six seven at nonterminals from name to = after-of (pairAt number at names 7 nonterminals) (pair-of six at names 7 nonterminals seven) _ (λ close last next. tt)
+
+    body-of : P 6 → P 7 → (at nonterminals form from : ℕ) → OfRule (bodyAt number at nonterminals form from)
+    unfolding bodyAt
+    body-of six seven at nonterminals form from =
+        after-of (pairAt number at names 7 nonterminals) (pair-of six at names 7 nonterminals seven) _
+        (λ name to next. chosen OfRule (eqb form 1) tt (step-of six seven next nonterminals from name to))
+
+    rule-of : P 5 → P 6 → P 7 → (at nonterminals : ℕ) → OfRule (ruleAt number at nonterminals)
+    unfolding ruleAt
+    rule-of five six seven at nonterminals =
+        after-of (pairAt number at forms 5 nonterminals) (pair-of six at forms 5 nonterminals five) _
+        (λ form from next. chosen OfRule (eqb form 0) tt (body-of six seven next nonterminals form from))
+
+    -- ── tokens ──
+
+    judged-of : P 11 → P 12 → P 14 → (r : NumberRead) → OfNumber r → (depth : ℕ) → OfToken (judged r depth)
+    unfolding tokenJudged
+    judged-of eleven twelve fourteen (Number t next) h depth =
+        chosen OfToken (leb 256 t || eqb (kind t) 3) eleven
+        (chosen OfToken (eqb (kind t) 2 && eqb depth 0) twelve
+        (chosen OfToken (eqb (kind t) 1 && leb 128 depth) fourteen tt))
+    judged-of eleven twelve fourteen (NumberRefused e) h depth = h
+
+    token-of : P 11 → P 12 → P 14 → (at depth : ℕ) → OfToken (tokenAt number at depth)
+    unfolding tokenAt
+    token-of eleven twelve fourteen at depth = judged-of eleven twelve fourteen (number at) (of at) depth
+
+  -- ── the two files ──
+
+  module _ (x : Source) (of : (at : ℕ) → OfNumber (x .number at)) where
+    after-rule-of : (r : RuleRead) → OfRule r → (rest : Rule → ℕ → GrammarFile) → ((R : Rule) (p : ℕ) → OfGrammar (rest R p)) → OfGrammar (afterRule r rest)
+    after-rule-of (Read R p) h rest k = k R p
+    after-rule-of (RuleRefused e) h rest k = h
+
+    rules-of : P 5 → P 6 → P 7 → P 8 → P 9 → (nonterminals start due at : ℕ) (rules : List Rule) → OfGrammar (rulesFrom x nonterminals start due at rules)
+    unfolding rulesFrom
+    rules-of five six seven eight nine nonterminals start zero at rules = chosen OfGrammar (x .more at) nine tt
+    rules-of five six seven eight nine nonterminals start (suc due) at rules =
+        after-rule-of (ruleAt (x .number) at nonterminals) (rule-of (x .number) of five six seven at nonterminals) _
+        (λ R next. chosen OfGrammar (earlier R rules) eight (rules-of five six seven eight nine nonterminals start due next (rules ++ (R ∷ []))))
+
+    after-count-of : (r : FieldRead) → OfField r → (rest : ℕ → ℕ → GrammarFile) → ((n p : ℕ) → OfGrammar (rest n p)) → OfGrammar (afterCount r rest)
+    after-count-of (Field n p) h rest k = k n p
+    after-count-of (FieldRefused e) h rest k = h
+
+    after-token-of : (r : TokenRead) → OfToken r → (rest : ℕ → ℕ → HistoryFile) → ((t p : ℕ) → OfHistory (rest t p)) → OfHistory (afterToken r rest)
+    after-token-of (TokenIs t p) h rest k = k t p
+    after-token-of (TokenRefused e) h rest k = h
+
+    tokens-of : P 9 → P 11 → P 12 → P 13 → P 14 → (due at depth : ℕ) (ts : List ℕ) → OfHistory (tokensFrom x due at depth ts)
+    unfolding tokensFrom
+    tokens-of nine eleven twelve thirteen fourteen zero at depth ts = chosen OfHistory (ltb 0 depth) thirteen (chosen OfHistory (x .more at) nine tt)
+    tokens-of nine eleven twelve thirteen fourteen (suc due) at depth ts =
+        after-token-of (tokenAt (x .number) at depth) (token-of (x .number) of eleven twelve fourteen at depth) _
+        (λ t next. tokens-of nine eleven twelve thirteen fourteen due next (depthAfter t depth) (ts ++ (t ∷ [])))
+
+    after-tokens-of : (r : FieldRead) → OfField r → (rest : ℕ → ℕ → HistoryFile) → ((n p : ℕ) → OfHistory (rest n p)) → OfHistory (history.afterCount r rest)
+    after-tokens-of (Field n p) h rest k = k n p
+    after-tokens-of (FieldRefused e) h rest k = h
+
+  -- a refused grammar is refused by 1 to 9
+  pub grammar-of : P 1 → P 2 → P 3 → P 4 → P 5 → P 6 → P 7 → P 8 → P 9 → (s : List ℕ) → OfGrammar (grammarOf s)
+  unfolding grammarFrom
+  grammar-of one two three four five six seven eight nine s =
+      let of = number-of one two s in
+      after-count-of (bytes s) of (countAt (numberAt s) 0 32 3) (count-of (numberAt s) of 0 32 3 three) _
+      (λ nonterminals at1.
+      after-count-of (bytes s) of (countAt (numberAt s) at1 128 4) (count-of (numberAt s) of at1 128 4 four) _
+      (λ due at2. rules-of (bytes s) of five six seven eight nine nonterminals 0 due at2 []))
+
+  -- a refused history by 1, 2, or 9 to 14
+  pub history-of : P 1 → P 2 → P 9 → P 10 → P 11 → P 12 → P 13 → P 14 → (s : List ℕ) → OfHistory (historyOf s)
+  unfolding historyFrom
+  history-of one two nine ten eleven twelve thirteen fourteen s =
+      let of = number-of one two s in
+      after-tokens-of (bytes s) of (fieldAt (numberAt s) 0 1025 10) (field-of (numberAt s) of 0 1025 10 ten) _
+      (λ due at. tokens-of (bytes s) of nine eleven twelve thirteen fourteen due at 0 [])

@@ -1,0 +1,20 @@
+-- An answer read back from its code, and the numbers that a refusal can have.
+-- Law: codes-read-back, outcomes-read-back (refusals/proofs/Codes.antt)
+use Prim.Native.Nat.{ℕ, _≤_}
+use mathlib.Core.Bool.{cond}
+use lib.Dec.{eqb}
+use Rattle.listing_model.specs.believed.Listing.{Answer, written, no-reading, no-further, refused}
+use Rattle.service.specs.believed.Given.{Given}
+use Rattle.service.specs.believed.Given as service
+
+-- the numbers of document 01's table
+abbrev pub Numbered : ℕ → Type 0
+Numbered e = (1 ≤ e) × (e ≤ 16)
+
+-- 0 says that a reading was written, 100 "none", 101 "no further"; any other code is the number of a refusal
+abbrev pub answerOf : ℕ → Answer
+answerOf k = cond (eqb k 0) written (cond (eqb k 100) no-reading (cond (eqb k 101) no-further (refused k)))
+
+-- of a service that only writes
+abbrev pub outcomeOf : ℕ → Given Unit
+outcomeOf k = cond (eqb k 0) service.written (service.refused k)
