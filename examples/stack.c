@@ -19,10 +19,10 @@
 static uint8_t *stack;
 static ucontext_t here, there;
 
-static uint8_t grammar[GAFFMEDLAR_GRAMMAR_BYTES], history[GAFFMEDLAR_HISTORY_BYTES];
+static uint8_t grammar[GAFFMEDLAR_GRAMMAR_BYTES_MAX], history[GAFFMEDLAR_HISTORY_BYTES_MAX];
 static size_t grammar_len, history_len;
-static uint8_t reading[GAFFMEDLAR_POSITIONS], marks[GAFFMEDLAR_POSITIONS];
-static uint32_t words[GAFFMEDLAR_WORDS];
+static uint8_t reading[GAFFMEDLAR_READING_MAX], marks[GAFFMEDLAR_READING_MAX];
+static uint32_t words[GAFFMEDLAR_WORDS_MAX];
 static const uint8_t calls[3] = {0, 1, 1};
 static uint8_t answers[3];
 
@@ -44,7 +44,7 @@ static void run_calls(void)
 }
 static void sets(void)
 {
-    gaffmedlar_sets(grammar, grammar_len, history, history_len, words, GAFFMEDLAR_WORDS);
+    gaffmedlar_sets(grammar, grammar_len, history, history_len, words, GAFFMEDLAR_WORDS_MAX);
 }
 static void doubtful(void) { gaffmedlar_doubtful_count(grammar, grammar_len, history, history_len); }
 static void stop_marks(void)

@@ -3,29 +3,12 @@
  * Link target/staticlib/libgaffmedlar.a, which `rt staticlib gaffmedlar` writes (x86-64 Linux). Every function here is proved to
  * give what document 01 says, for files and buffers of any length and content. README.md says what the files hold.
  *
- * Numbers that functions answer:
+ * Functions answer a number:
  *
- *     0       all went well: accepted, written, counted, made
- *     100     "none": the history has no reading
- *     101     "no further": the reading in the buffer is the last one
- *     else    the number of the refusal:
- *
- *     1   the bytes end inside a number or before one that is due                    either file
- *     2   a two-byte number whose second byte is 0 or has its top bit set            either file
- *     3   stage count not 1 to 32                                                    grammar
- *     4   rule count not 1 to 128                                                    grammar
- *     5   form above 2                                                               grammar
- *     6   a stage number not below the stage count                                   grammar
- *     7   a name above 63                                                            grammar
- *     8   a rule equal in form and all fields to an earlier rule                     grammar
- *     9   bytes follow the last rule or token                                        either file
- *     10  token count above 1,024                                                    history
- *     11  a token number above 255, or one that leaves 3 when divided by 4           history
- *     12  a close with no step open                                                  history
- *     13  a step still open after the last token                                     history
- *     14  an open while 128 steps are open                                           history
- *     15  a lent buffer shorter than the function writes or reads                    caller
- *     16  the bytes handed to "next reading" are no reading of this history          caller
+ *     0         all went well: accepted, written, counted, made
+ *     100       "none": the history has no reading
+ *     101       "no further": the reading in the buffer is the last one
+ *     1 to 16   the number of the refusal, of which the constants below say what is wrong
  *
  * The number of the first fault is given, the grammar's before the history's, both before 15, and 15 before 16.
  *
@@ -58,14 +41,33 @@ extern "C" {
 #define GAFFMEDLAR_NO_READING 100
 #define GAFFMEDLAR_NO_FURTHER 101
 
+/* The numbers of the refusals. Before the words stands whose it is: of the grammar file, of the history file, of either file (both), or of
+ * the call. */
+#define GAFFMEDLAR_BYTES_END 1           /* both: the bytes end inside a number or before one that is due */
+#define GAFFMEDLAR_NUMBER_FORM 2         /* both: a two-byte number whose second byte is 0 or has its top bit set */
+#define GAFFMEDLAR_STAGE_COUNT 3         /* grammar: stage count not 1 to 32 */
+#define GAFFMEDLAR_RULE_COUNT 4          /* grammar: rule count not 1 to 128 */
+#define GAFFMEDLAR_FORM 5                /* grammar: form above 2 */
+#define GAFFMEDLAR_STAGE 6               /* grammar: a stage number not below the stage count */
+#define GAFFMEDLAR_NAME 7                /* grammar: a name above 63 */
+#define GAFFMEDLAR_RULE_TWICE 8          /* grammar: a rule equal in form and all fields to an earlier rule */
+#define GAFFMEDLAR_BYTES_FOLLOW 9        /* both: bytes follow the last rule or token */
+#define GAFFMEDLAR_TOKEN_COUNT 10        /* history: token count above 1,024 */
+#define GAFFMEDLAR_TOKEN 11              /* history: a token number above 255, or one that leaves 3 when divided by 4 */
+#define GAFFMEDLAR_CLOSE_WITHOUT_OPEN 12 /* history: a close with no step open */
+#define GAFFMEDLAR_STILL_OPEN 13         /* history: a step still open after the last token */
+#define GAFFMEDLAR_TOO_DEEP 14           /* history: an open while 128 steps are open */
+#define GAFFMEDLAR_BUFFER_SHORT 15       /* call: a lent buffer shorter than its service writes or reads */
+#define GAFFMEDLAR_NOT_A_READING 16      /* call: the first n + 1 bytes handed to "next reading" are no reading of this history */
+
 /* The most that files which pass can have: use these for buffers of a fixed size. */
-#define GAFFMEDLAR_STAGES 32
-#define GAFFMEDLAR_RULES 128
-#define GAFFMEDLAR_TOKENS 1024
-#define GAFFMEDLAR_POSITIONS (GAFFMEDLAR_TOKENS + 1)
-#define GAFFMEDLAR_WORDS (4 * GAFFMEDLAR_POSITIONS)
-#define GAFFMEDLAR_GRAMMAR_BYTES 771
-#define GAFFMEDLAR_HISTORY_BYTES 2050
+#define GAFFMEDLAR_STAGES_MAX 32
+#define GAFFMEDLAR_RULES_MAX 128
+#define GAFFMEDLAR_TOKENS_MAX 1024
+#define GAFFMEDLAR_READING_MAX 1025 /* bytes of a reading, and of the stop marks */
+#define GAFFMEDLAR_WORDS_MAX 4100   /* words of the sets */
+#define GAFFMEDLAR_GRAMMAR_BYTES_MAX 771 /* bytes of a grammar file */
+#define GAFFMEDLAR_HISTORY_BYTES_MAX 2050 /* bytes of a history file */
 
 struct gaffmedlar_grammar {
     uint8_t answer;  /* 0, or the number of the refusal */
@@ -128,6 +130,53 @@ struct gaffmedlar_count gaffmedlar_doubtful_count(const uint8_t *grammar, size_t
  * written. Stack: 24 KiB. */
 uint8_t gaffmedlar_stop_marks(const uint8_t *grammar, size_t grammar_len, const uint8_t *history, size_t history_len,
                               uint8_t *marks, size_t marks_len);
+
+/* What a number says in words, for messages. */
+static inline const char *gaffmedlar_words(uint8_t answer)
+{
+    switch (answer) {
+    case GAFFMEDLAR_OK:
+        return "all went well";
+    case GAFFMEDLAR_BYTES_END:
+        return "the bytes end inside a number or before one that is due";
+    case GAFFMEDLAR_NUMBER_FORM:
+        return "a two-byte number whose second byte is 0 or has its top bit set";
+    case GAFFMEDLAR_STAGE_COUNT:
+        return "stage count not 1 to 32";
+    case GAFFMEDLAR_RULE_COUNT:
+        return "rule count not 1 to 128";
+    case GAFFMEDLAR_FORM:
+        return "form above 2";
+    case GAFFMEDLAR_STAGE:
+        return "a stage number not below the stage count";
+    case GAFFMEDLAR_NAME:
+        return "a name above 63";
+    case GAFFMEDLAR_RULE_TWICE:
+        return "a rule equal in form and all fields to an earlier rule";
+    case GAFFMEDLAR_BYTES_FOLLOW:
+        return "bytes follow the last rule or token";
+    case GAFFMEDLAR_TOKEN_COUNT:
+        return "token count above 1,024";
+    case GAFFMEDLAR_TOKEN:
+        return "a token number above 255, or one that leaves 3 when divided by 4";
+    case GAFFMEDLAR_CLOSE_WITHOUT_OPEN:
+        return "a close with no step open";
+    case GAFFMEDLAR_STILL_OPEN:
+        return "a step still open after the last token";
+    case GAFFMEDLAR_TOO_DEEP:
+        return "an open while 128 steps are open";
+    case GAFFMEDLAR_BUFFER_SHORT:
+        return "a lent buffer shorter than its service writes or reads";
+    case GAFFMEDLAR_NOT_A_READING:
+        return "the first n + 1 bytes handed to \"next reading\" are no reading of this history";
+    case GAFFMEDLAR_NO_READING:
+        return "none: the history has no reading";
+    case GAFFMEDLAR_NO_FURTHER:
+        return "no further: the reading in the buffer is the last one";
+    default:
+        return "no answer of this library";
+    }
+}
 
 #ifdef __cplusplus
 }
