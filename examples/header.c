@@ -26,21 +26,21 @@ int main(void)
     static const uint8_t calls[] = {0, 1};
     uint8_t answers[] = {9, 9}, reading[] = {9};
 
-    due("no grammar", gaffmedlar_grammar_check(NULL, 0).answer, GAFFMEDLAR_BYTES_END);
-    due("no history", gaffmedlar_history_check(NULL, 0).answer, GAFFMEDLAR_BYTES_END);
-    due("count", gaffmedlar_doubtful_count(grammar, sizeof grammar, NULL, 0).answer, GAFFMEDLAR_BYTES_END);
+    due("no grammar", gaffmedlar_grammar_check(NULL, 0).answer, GAFFMEDLAR_REFUSED_BYTES_END);
+    due("no history", gaffmedlar_history_check(NULL, 0).answer, GAFFMEDLAR_REFUSED_BYTES_END);
+    due("count", gaffmedlar_doubtful_count(grammar, sizeof grammar, NULL, 0).answer, GAFFMEDLAR_REFUSED_BYTES_END);
     due("first reading", gaffmedlar_first_reading(grammar, sizeof grammar, history, sizeof history, NULL, 0),
-        GAFFMEDLAR_BUFFER_SHORT);
+        GAFFMEDLAR_REFUSED_BUFFER_SHORT);
     due("next reading", gaffmedlar_next_reading(grammar, sizeof grammar, history, sizeof history, NULL, 0),
-        GAFFMEDLAR_BUFFER_SHORT);
-    due("sets", gaffmedlar_sets(grammar, sizeof grammar, history, sizeof history, NULL, 0), GAFFMEDLAR_BUFFER_SHORT);
+        GAFFMEDLAR_REFUSED_BUFFER_SHORT);
+    due("sets", gaffmedlar_sets(grammar, sizeof grammar, history, sizeof history, NULL, 0), GAFFMEDLAR_REFUSED_BUFFER_SHORT);
     due("stop marks", gaffmedlar_stop_marks(grammar, sizeof grammar, history, sizeof history, NULL, 0),
-        GAFFMEDLAR_BUFFER_SHORT);
+        GAFFMEDLAR_REFUSED_BUFFER_SHORT);
     due("no calls", gaffmedlar_run_calls(NULL, 0, NULL, 0, NULL, 0, NULL, 0, NULL, 0), GAFFMEDLAR_OK);
     due("no answers",
         gaffmedlar_run_calls(grammar, sizeof grammar, history, sizeof history, calls, sizeof calls, NULL, 0, reading,
                              sizeof reading),
-        GAFFMEDLAR_BUFFER_SHORT);
+        GAFFMEDLAR_REFUSED_BUFFER_SHORT);
     due("calls",
         gaffmedlar_run_calls(grammar, sizeof grammar, history, sizeof history, calls, sizeof calls, answers,
                              sizeof answers, reading, sizeof reading),

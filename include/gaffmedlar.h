@@ -64,22 +64,22 @@ extern "C" {
 
 /* The numbers of the refusals. Before the words stands whose fault it is: that of the grammar file, of the history file,
  * of one of them (both), or of the call. */
-#define GAFFMEDLAR_BYTES_END 1           /* both: the bytes end inside a number or before one that is due */
-#define GAFFMEDLAR_NUMBER_FORM 2         /* both: a two-byte number whose second byte is 0 or has its top bit set */
-#define GAFFMEDLAR_STAGE_COUNT 3         /* grammar: stage count not 1 to 32 */
-#define GAFFMEDLAR_RULE_COUNT 4          /* grammar: rule count not 1 to 128 */
-#define GAFFMEDLAR_FORM 5                /* grammar: form above 2 */
-#define GAFFMEDLAR_STAGE 6               /* grammar: a stage number not below the stage count */
-#define GAFFMEDLAR_NAME 7                /* grammar: a name above 63 */
-#define GAFFMEDLAR_RULE_TWICE 8          /* grammar: a rule equal in form and all fields to an earlier rule */
-#define GAFFMEDLAR_BYTES_FOLLOW 9        /* both: bytes follow the last rule or token */
-#define GAFFMEDLAR_TOKEN_COUNT 10        /* history: token count above 1,024 */
-#define GAFFMEDLAR_TOKEN 11              /* history: a token number above 255, or one that leaves 3 when divided by 4 */
-#define GAFFMEDLAR_CLOSE_WITHOUT_OPEN 12 /* history: a close with no step open */
-#define GAFFMEDLAR_STILL_OPEN 13         /* history: a step still open after the last token */
-#define GAFFMEDLAR_TOO_DEEP 14           /* history: an open while 128 steps are open */
-#define GAFFMEDLAR_BUFFER_SHORT 15       /* call: a lent buffer shorter than its service writes or reads */
-#define GAFFMEDLAR_NOT_A_READING 16      /* call: the first n + 1 bytes handed to "next reading" are no reading of this history */
+#define GAFFMEDLAR_REFUSED_BYTES_END 1           /* both: the bytes end inside a number or before one that is due */
+#define GAFFMEDLAR_REFUSED_NUMBER_FORM 2         /* both: a two-byte number whose second byte is 0 or has its top bit set */
+#define GAFFMEDLAR_REFUSED_STAGE_COUNT 3         /* grammar: stage count not 1 to 32 */
+#define GAFFMEDLAR_REFUSED_RULE_COUNT 4          /* grammar: rule count not 1 to 128 */
+#define GAFFMEDLAR_REFUSED_FORM 5                /* grammar: form above 2 */
+#define GAFFMEDLAR_REFUSED_STAGE 6               /* grammar: a stage number not below the stage count */
+#define GAFFMEDLAR_REFUSED_NAME 7                /* grammar: a name above 63 */
+#define GAFFMEDLAR_REFUSED_RULE_TWICE 8          /* grammar: a rule equal in form and all fields to an earlier rule */
+#define GAFFMEDLAR_REFUSED_BYTES_FOLLOW 9        /* both: bytes follow the last rule or token */
+#define GAFFMEDLAR_REFUSED_TOKEN_COUNT 10        /* history: token count above 1,024 */
+#define GAFFMEDLAR_REFUSED_TOKEN 11              /* history: a token number above 255, or one that leaves 3 when divided by 4 */
+#define GAFFMEDLAR_REFUSED_CLOSE_WITHOUT_OPEN 12 /* history: a close with no step open */
+#define GAFFMEDLAR_REFUSED_STILL_OPEN 13         /* history: a step still open after the last token */
+#define GAFFMEDLAR_REFUSED_TOO_DEEP 14           /* history: an open while 128 steps are open */
+#define GAFFMEDLAR_REFUSED_BUFFER_SHORT 15       /* call: a lent buffer shorter than its service writes or reads */
+#define GAFFMEDLAR_REFUSED_NOT_A_READING 16      /* call: the first n + 1 bytes handed to "next reading" are no reading of this history */
 
 /* The most that files which pass can have: use these for buffers of a fixed size. */
 #define GAFFMEDLAR_STAGES_MAX 32
@@ -160,37 +160,37 @@ static inline const char *gaffmedlar_words(uint8_t answer)
     switch (answer) {
     case GAFFMEDLAR_OK:
         return "all went well";
-    case GAFFMEDLAR_BYTES_END:
+    case GAFFMEDLAR_REFUSED_BYTES_END:
         return "the bytes end inside a number or before one that is due";
-    case GAFFMEDLAR_NUMBER_FORM:
+    case GAFFMEDLAR_REFUSED_NUMBER_FORM:
         return "a two-byte number whose second byte is 0 or has its top bit set";
-    case GAFFMEDLAR_STAGE_COUNT:
+    case GAFFMEDLAR_REFUSED_STAGE_COUNT:
         return "stage count not 1 to 32";
-    case GAFFMEDLAR_RULE_COUNT:
+    case GAFFMEDLAR_REFUSED_RULE_COUNT:
         return "rule count not 1 to 128";
-    case GAFFMEDLAR_FORM:
+    case GAFFMEDLAR_REFUSED_FORM:
         return "form above 2";
-    case GAFFMEDLAR_STAGE:
+    case GAFFMEDLAR_REFUSED_STAGE:
         return "a stage number not below the stage count";
-    case GAFFMEDLAR_NAME:
+    case GAFFMEDLAR_REFUSED_NAME:
         return "a name above 63";
-    case GAFFMEDLAR_RULE_TWICE:
+    case GAFFMEDLAR_REFUSED_RULE_TWICE:
         return "a rule equal in form and all fields to an earlier rule";
-    case GAFFMEDLAR_BYTES_FOLLOW:
+    case GAFFMEDLAR_REFUSED_BYTES_FOLLOW:
         return "bytes follow the last rule or token";
-    case GAFFMEDLAR_TOKEN_COUNT:
+    case GAFFMEDLAR_REFUSED_TOKEN_COUNT:
         return "token count above 1,024";
-    case GAFFMEDLAR_TOKEN:
+    case GAFFMEDLAR_REFUSED_TOKEN:
         return "a token number above 255, or one that leaves 3 when divided by 4";
-    case GAFFMEDLAR_CLOSE_WITHOUT_OPEN:
+    case GAFFMEDLAR_REFUSED_CLOSE_WITHOUT_OPEN:
         return "a close with no step open";
-    case GAFFMEDLAR_STILL_OPEN:
+    case GAFFMEDLAR_REFUSED_STILL_OPEN:
         return "a step still open after the last token";
-    case GAFFMEDLAR_TOO_DEEP:
+    case GAFFMEDLAR_REFUSED_TOO_DEEP:
         return "an open while 128 steps are open";
-    case GAFFMEDLAR_BUFFER_SHORT:
+    case GAFFMEDLAR_REFUSED_BUFFER_SHORT:
         return "a lent buffer shorter than its service writes or reads";
-    case GAFFMEDLAR_NOT_A_READING:
+    case GAFFMEDLAR_REFUSED_NOT_A_READING:
         return "the first n + 1 bytes handed to \"next reading\" are no reading of this history";
     case GAFFMEDLAR_NO_READING:
         return "none: the history has no reading";
