@@ -36,8 +36,9 @@
  *   nothing at all.
  * - The files and the list of calls are read only, and nothing may change them while the call runs. They may overlap
  *   each other.
- * - A buffer must not overlap anything else of the same call, neither a file nor the list of calls nor another buffer,
- *   and nothing of a call that runs at the same time in another thread.
+ * - A buffer must not overlap anything else of the same call, neither a file nor the list of calls nor another buffer
+ *   (so the answers to a list of calls can't be written over it), and nothing of a call that runs at the same time in
+ *   another thread.
  *
  * Otherwise calls from several threads don't disturb each other. No function allocates memory, keeps a pointer, has a
  * state of its own, makes a system call or runs for ever.
