@@ -24,7 +24,7 @@ static size_t read_file(const char *name, uint8_t *bytes)
 
 int main(int count, char **words)
 {
-    static uint8_t grammar[FILE_BYTES], history[FILE_BYTES], reading[GAFFMEDLAR_POSITIONS];
+    static uint8_t grammar[FILE_BYTES], history[FILE_BYTES], reading[GAFFMEDLAR_READING_MAX];
     if (count != 3) {
         fprintf(stderr, "usage: list_c GRAMMAR HISTORY\n");
         return 2;

@@ -1,28 +1,31 @@
 /* Measures how much stack each function uses: it is called on a stack of its own that was painted before, on files at
- * every limit, and the deepest byte that changed is looked for. Fails where more is used than gaffmedlar.h states.
+ * every limit, and the deepest byte that changed is looked for. Fails where more is used than gaffmedlar.h states. Then
+ * each function is called in a thread with the stack that gaffmedlar.h says is enough.
  *
  * Build, in the repository's root:
  *     rt staticlib gaffmedlar
- *     cc -O2 -Iinclude -o target/stack_c examples/stack.c target/staticlib/libgaffmedlar.a
+ *     cc -O2 -pthread -Iinclude -o target/stack_c examples/stack.c target/staticlib/libgaffmedlar.a
  */
 #define _XOPEN_SOURCE 700
 #include "gaffmedlar.h"
 
+#include <pthread.h>
 #include <stdio.h>
 #include <stdlib.h>
 #include <string.h>
 #include <ucontext.h>
 
 #define STACK (4u << 20)
+#define THREAD (64u << 10)
 #define PAINT 0xa7
 
 static uint8_t *stack;
 static ucontext_t here, there;
 
-static uint8_t grammar[GAFFMEDLAR_GRAMMAR_BYTES], history[GAFFMEDLAR_HISTORY_BYTES];
+static uint8_t grammar[GAFFMEDLAR_GRAMMAR_BYTES_MAX], history[GAFFMEDLAR_HISTORY_BYTES_MAX];
 static size_t grammar_len, history_len;
-static uint8_t reading[GAFFMEDLAR_POSITIONS], marks[GAFFMEDLAR_POSITIONS];
-static uint32_t words[GAFFMEDLAR_WORDS];
+static uint8_t reading[GAFFMEDLAR_READING_MAX], marks[GAFFMEDLAR_READING_MAX];
+static uint32_t words[GAFFMEDLAR_WORDS_MAX];
 static const uint8_t calls[3] = {0, 1, 1};
 static uint8_t answers[3];
 
@@ -44,7 +47,7 @@ static void run_calls(void)
 }
 static void sets(void)
 {
-    gaffmedlar_sets(grammar, grammar_len, history, history_len, words, GAFFMEDLAR_WORDS);
+    gaffmedlar_sets(grammar, grammar_len, history, history_len, words, GAFFMEDLAR_WORDS_MAX);
 }
 static void doubtful(void) { gaffmedlar_doubtful_count(grammar, grammar_len, history, history_len); }
 static void stop_marks(void)
@@ -65,6 +68,21 @@ static size_t used(void (*function)(void))
     while (untouched < STACK && stack[untouched] == PAINT)
         untouched++;
     return STACK - untouched;
+}
+
+static void *call(void *function)
+{
+    (*(void (**)(void))function)();
+    return NULL;
+}
+
+/* Whether the function runs through in a thread; one that needs more stack than it has ends the whole program. */
+static int in_thread(void (*function)(void))
+{
+    pthread_attr_t attributes;
+    pthread_t thread;
+    return pthread_attr_init(&attributes) == 0 && pthread_attr_setstacksize(&attributes, THREAD) == 0 &&
+           pthread_create(&thread, &attributes, call, &function) == 0 && pthread_join(thread, NULL) == 0;
 }
 
 /* 32 stages and 128 rules: each stage ends, goes on by mark 0 to two stages, and makes a step. */
@@ -127,12 +145,15 @@ int main(void)
             size_t bytes = used(all[i].function);
             if (bytes > most)
                 most = bytes;
+            if (!in_thread(all[i].function))
+                faults = 1;
         }
         most -= used(nothing);
         printf("%-26s %6zu bytes of stack, stated %zu KiB\n", all[i].name, most, all[i].stated);
         if (most > all[i].stated << 10)
             faults = 1;
     }
+    printf("each of them in a thread of %u KiB\n", THREAD >> 10);
     free(stack);
     return faults;
 }

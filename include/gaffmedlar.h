@@ -1,48 +1,53 @@
 /* Gaffmedlar: reads edit histories by a visibly pushdown grammar.
  *
- * Link target/staticlib/libgaffmedlar.a, which `rt staticlib gaffmedlar` writes (x86-64 Linux). Every function here is proved to
- * give what document 01 says, for files and buffers of any length and content. README.md says what the files hold.
+ * Link target/staticlib/libgaffmedlar.a, which `rt staticlib gaffmedlar` writes (x86-64 Linux). Of C's library it needs
+ * memcpy and memset, nothing else. Each function of the archive is proved to give what its definition gives, for files
+ * and buffers of any length and content. README.md says what the two files hold, docs/SPECIFICATION.md all the rest.
  *
- * Numbers that functions answer:
+ * Answers
  *
- *     0       all went well: accepted, written, counted, made
- *     100     "none": the history has no reading
- *     101     "no further": the reading in the buffer is the last one
- *     else    the number of the refusal:
- *
- *     1   the bytes end inside a number or before one that is due                    either file
- *     2   a two-byte number whose second byte is 0 or has its top bit set            either file
- *     3   stage count not 1 to 32                                                    grammar
- *     4   rule count not 1 to 128                                                    grammar
- *     5   form above 2                                                               grammar
- *     6   a stage number not below the stage count                                   grammar
- *     7   a name above 63                                                            grammar
- *     8   a rule equal in form and all fields to an earlier rule                     grammar
- *     9   bytes follow the last rule or token                                        either file
- *     10  token count above 1,024                                                    history
- *     11  a token number above 255, or one that leaves 3 when divided by 4           history
- *     12  a close with no step open                                                  history
- *     13  a step still open after the last token                                     history
- *     14  an open while 128 steps are open                                           history
- *     15  a lent buffer shorter than the function writes or reads                    caller
- *     16  the bytes handed to "next reading" are no reading of this history          caller
+ *     0         all went well: accepted, written, counted, made
+ *     100       "none": the history has no reading
+ *     101       "no further": the reading in the buffer is the last one
+ *     1 to 16   the number of the refusal, of which the constants below say what is wrong
  *
  * The number of the first fault is given, the grammar's before the history's, both before 15, and 15 before 16.
  *
- * What holds of every function:
+ * Readings
  *
- * - A buffer is a pointer and a number of ELEMENTS (bytes, or 32-bit words for gaffmedlar_sets). A pointer has to be
- *   good for that many elements, not null even where the number is 0, and aligned for its type.
- * - Nothing is asked of the content of files and buffers.
- * - A lent buffer must not overlap another buffer of the same call. The two files may overlap each other.
- * - The files are read only. Nothing is written but the elements that the function's comment names; elements past them
- *   keep their content. A call that answers a refusal, 100 or 101 writes nothing into a reading, words or marks.
- * - No function allocates memory, keeps a pointer, has a state of its own, makes a system call or runs for ever. Calls
- *   from several threads don't disturb each other as long as their lent buffers differ.
- * - "Stack" is what a call uses at most, measured on files at every limit: that and at least 1 KiB more,
- *   rounded up to 4 KiB. examples/stack.c measures it, and the gate fails where a number below is exceeded.
+ * n is the number of tokens of the history. It has positions 0 to n: those of its tokens, and n behind the last one. A
+ * reading is n + 1 bytes, a rule number for each position. Rules are numbered from 0 in the order of the grammar file.
  *
- * Below, n is the number of tokens of the history; it has positions 0 to n.
+ *     at a mark       the form 1 rule that makes it
+ *     at an open      the form 2 rule that makes it and its close
+ *     at a close      the form 0 rule that ends the inside of its step
+ *     at position n   the form 0 rule that ends the top level
+ *
+ * Readings are ordered by the first position where they differ, smaller rule number first.
+ *
+ * Pointers
+ *
+ * - A file, a list or a buffer is a pointer and a number of ELEMENTS: bytes, or 32-bit words for gaffmedlar_sets. The
+ *   pointer is good for that many elements and aligned for its type. It may be NULL where the number is 0 (that is so
+ *   of the functions of this header; the symbols of the archive itself take no null pointer).
+ * - Nothing is asked of the content of files, lists and buffers.
+ * - A buffer is memory of the caller's that the call may write; document 01 calls it lent. The comment of each function
+ *   says which elements it writes. All others keep their content, and a call that answers a refusal, 100 or 101 writes
+ *   nothing at all.
+ * - The files and the list of calls are read only, and nothing may change them while the call runs. They may overlap
+ *   each other.
+ * - A buffer must not overlap anything else of the same call, neither a file nor the list of calls nor another buffer
+ *   (so the answers to a list of calls can't be written over it), and nothing of a call that runs at the same time in
+ *   another thread.
+ *
+ * Otherwise calls from several threads don't disturb each other. No function allocates memory, keeps a pointer, has a
+ * state of its own, makes a system call or runs for ever.
+ *
+ * Stack
+ *
+ * "Stack" below is what the function itself uses at most: measured on files at every limit, at least 1 KiB more, and
+ * rounded up to 4 KiB. A thread needs some for its own start beside that: 64 KiB are enough for a thread that calls any
+ * of the functions. examples/stack.c measures both, and the gate fails where a number stated here is exceeded.
  */
 #ifndef GAFFMEDLAR_H
 #define GAFFMEDLAR_H
@@ -58,14 +63,33 @@ extern "C" {
 #define GAFFMEDLAR_NO_READING 100
 #define GAFFMEDLAR_NO_FURTHER 101
 
+/* The numbers of the refusals. Before the words stands whose fault it is: that of the grammar file, of the history file,
+ * of one of them (both), or of the call. */
+#define GAFFMEDLAR_REFUSED_BYTES_END 1           /* both: the bytes end inside a number or before one that is due */
+#define GAFFMEDLAR_REFUSED_NUMBER_FORM 2         /* both: a two-byte number whose second byte is 0 or has its top bit set */
+#define GAFFMEDLAR_REFUSED_STAGE_COUNT 3         /* grammar: stage count not 1 to 32 */
+#define GAFFMEDLAR_REFUSED_RULE_COUNT 4          /* grammar: rule count not 1 to 128 */
+#define GAFFMEDLAR_REFUSED_FORM 5                /* grammar: form above 2 */
+#define GAFFMEDLAR_REFUSED_STAGE 6               /* grammar: a stage number not below the stage count */
+#define GAFFMEDLAR_REFUSED_NAME 7                /* grammar: a name above 63 */
+#define GAFFMEDLAR_REFUSED_RULE_TWICE 8          /* grammar: a rule equal in form and all fields to an earlier rule */
+#define GAFFMEDLAR_REFUSED_BYTES_FOLLOW 9        /* both: bytes follow the last rule or token */
+#define GAFFMEDLAR_REFUSED_TOKEN_COUNT 10        /* history: token count above 1,024 */
+#define GAFFMEDLAR_REFUSED_TOKEN 11              /* history: a token number above 255, or one that leaves 3 when divided by 4 */
+#define GAFFMEDLAR_REFUSED_CLOSE_WITHOUT_OPEN 12 /* history: a close with no step open */
+#define GAFFMEDLAR_REFUSED_STILL_OPEN 13         /* history: a step still open after the last token */
+#define GAFFMEDLAR_REFUSED_TOO_DEEP 14           /* history: an open while 128 steps are open */
+#define GAFFMEDLAR_REFUSED_BUFFER_SHORT 15       /* call: a lent buffer shorter than its service writes or reads */
+#define GAFFMEDLAR_REFUSED_NOT_A_READING 16      /* call: the first n + 1 bytes handed to "next reading" are no reading of this history */
+
 /* The most that files which pass can have: use these for buffers of a fixed size. */
-#define GAFFMEDLAR_STAGES 32
-#define GAFFMEDLAR_RULES 128
-#define GAFFMEDLAR_TOKENS 1024
-#define GAFFMEDLAR_POSITIONS (GAFFMEDLAR_TOKENS + 1)
-#define GAFFMEDLAR_WORDS (4 * GAFFMEDLAR_POSITIONS)
-#define GAFFMEDLAR_GRAMMAR_BYTES 771
-#define GAFFMEDLAR_HISTORY_BYTES 2050
+#define GAFFMEDLAR_STAGES_MAX 32
+#define GAFFMEDLAR_RULES_MAX 128
+#define GAFFMEDLAR_TOKENS_MAX 1024
+#define GAFFMEDLAR_READING_MAX 1025       /* bytes of a reading, and of the stop marks */
+#define GAFFMEDLAR_WORDS_MAX 4100         /* words of the sets */
+#define GAFFMEDLAR_GRAMMAR_BYTES_MAX 771  /* bytes of a grammar file */
+#define GAFFMEDLAR_HISTORY_BYTES_MAX 2050 /* bytes of a history file */
 
 struct gaffmedlar_grammar {
     uint8_t answer;  /* 0, or the number of the refusal */
@@ -83,51 +107,189 @@ struct gaffmedlar_count {
     uint32_t count; /* 0 where refused */
 };
 
-/* Checks a grammar file: 0 with the counts, or 1 to 9. Writes nothing. Stack: 4 KiB. */
+/* Checks a grammar file. Answers 0 with the counts, or 1 to 9. Writes nothing. Stack: 4 KiB. */
 struct gaffmedlar_grammar gaffmedlar_grammar_check(const uint8_t *grammar, size_t grammar_len);
 
-/* Checks a history file: 0 with the number of tokens, or 1, 2, 9 to 14. Writes nothing. Stack: 8 KiB. */
+/* Checks a history file. Answers 0 with the number of tokens, or 1, 2, 9 to 14. Writes nothing. Stack: 8 KiB. */
 struct gaffmedlar_history gaffmedlar_history_check(const uint8_t *history, size_t history_len);
 
-/* Writes the first reading: n + 1 bytes, a rule number for each position.
- * Answers 0 (written), 100 (none; nothing written), 1 to 14, or 15 (reading_len below n + 1; also where there is no
- * reading). Bytes of the buffer behind the first n + 1 are never written. Stack: 32 KiB. */
+/* Gives the first reading.
+ * Answers 0 (written), 100 (none), 1 to 14, or 15 (reading_len below n + 1, also where there is no reading).
+ * Writes reading[0] to reading[n], with answer 0 alone. Stack: 32 KiB. */
 uint8_t gaffmedlar_first_reading(const uint8_t *grammar, size_t grammar_len, const uint8_t *history,
                                  size_t history_len, uint8_t *reading, size_t reading_len);
 
-/* Overwrites the reading in the first n + 1 bytes by the one that comes next in the order.
- * Answers 0 (written), 101 (it was the last one; nothing written), 1 to 14, 15 (reading_len below n + 1), or 16 (the
- * first n + 1 bytes are no reading; nothing written). Bytes of the buffer behind the first n + 1 are neither looked at
- * nor written. Stack: 40 KiB. */
+/* Overwrites the reading in the first n + 1 bytes of the buffer by the one that comes next in the order.
+ * Answers 0 (written), 101 (it is the last one), 1 to 14, 15 (reading_len below n + 1), or 16 (the first n + 1 bytes are
+ * no reading). Bytes behind these are not looked at.
+ * Writes reading[0] to reading[n], with answer 0 alone. Stack: 40 KiB. */
 uint8_t gaffmedlar_next_reading(const uint8_t *grammar, size_t grammar_len, const uint8_t *history,
                                 size_t history_len, uint8_t *reading, size_t reading_len);
 
-/* Makes a list of the two calls above, each on the buffer as the one before left it: a call is 0 for first reading, any
- * other number for next reading.
- * Answers 0 and writes calls_len bytes of answers, each as the call by itself would answer; or 15 where answers_len is
- * below calls_len, and then no call is made and nothing is written. A file that is refused, or a buffer shorter than
- * n + 1, is answered in the answers. Stack: 40 KiB. */
+/* Makes a list of the two calls above on one buffer, each on the buffer as the one before left it: calls[i] is 0 for
+ * first reading, any other number for next reading.
+ * Answers 0 where answers_len is at least calls_len: answers[i] is then what call i by itself answers, so a file that is
+ * refused, or a buffer_len below n + 1, is told there, once for each call. Where answers_len is below calls_len no call
+ * is made: it answers 1 to 14 where a file is refused, else 15.
+ * Writes answers[0] to answers[calls_len - 1], with answer 0 alone, and buffer[0] to buffer[n] where a call of the list
+ * writes a reading. Stack: 40 KiB. */
 uint8_t gaffmedlar_run_calls(const uint8_t *grammar, size_t grammar_len, const uint8_t *history,
                              size_t history_len, const uint8_t *calls, size_t calls_len, uint8_t *answers,
                              size_t answers_len, uint8_t *buffer, size_t buffer_len);
 
-/* Writes 4 (n + 1) words: bit b of word 4 p + k is 1 where rule 32 k + b stands at position p in some reading, else 0.
- * With no reading all these words are 0.
- * Answers 0 (written), 1 to 14, or 15 (words_len, a number of WORDS, below 4 (n + 1)). Words behind these are never
- * written. Stack: 32 KiB. */
+/* Gives the set of each position: bit b of word 4 p + k is 1 where rule 32 k + b stands at position p in some reading,
+ * else 0. With no reading all these words are 0.
+ * Answers 0 (written), 1 to 14, or 15 (words_len, a number of WORDS, below 4 (n + 1)).
+ * Writes words[0] to words[4 n + 3], with answer 0 alone. Stack: 32 KiB. */
 uint8_t gaffmedlar_sets(const uint8_t *grammar, size_t grammar_len, const uint8_t *history, size_t history_len,
                         uint32_t *words, size_t words_len);
 
-/* How many positions have more than one rule in their set: 0 with the count (0 where there is no reading), or 1 to 14.
- * Writes nothing. Stack: 32 KiB. */
+/* Counts the doubtful positions: those with more than one rule in their set. Answers 0 with the count (0 where there is
+ * no reading), or 1 to 14. Writes nothing. Stack: 32 KiB. */
 struct gaffmedlar_count gaffmedlar_doubtful_count(const uint8_t *grammar, size_t grammar_len, const uint8_t *history,
                                                   size_t history_len);
 
-/* Writes the stop marks: n + 1 bytes, byte i 1 where the first i tokens alone have a reading, else 0.
- * Answers 0 (written), 1 to 14, or 15 (marks_len below n + 1). Bytes of the buffer behind the first n + 1 are never
- * written. Stack: 24 KiB. */
+/* Gives the stop marks: marks[i] is 1 where the first i tokens alone have a reading, else 0.
+ * Answers 0 (written), 1 to 14, or 15 (marks_len below n + 1).
+ * Writes marks[0] to marks[n], with answer 0 alone. Stack: 24 KiB. */
 uint8_t gaffmedlar_stop_marks(const uint8_t *grammar, size_t grammar_len, const uint8_t *history, size_t history_len,
                               uint8_t *marks, size_t marks_len);
+
+/* What a number says in words, for messages. */
+static inline const char *gaffmedlar_words(uint8_t answer)
+{
+    switch (answer) {
+    case GAFFMEDLAR_OK:
+        return "all went well";
+    case GAFFMEDLAR_REFUSED_BYTES_END:
+        return "the bytes end inside a number or before one that is due";
+    case GAFFMEDLAR_REFUSED_NUMBER_FORM:
+        return "a two-byte number whose second byte is 0 or has its top bit set";
+    case GAFFMEDLAR_REFUSED_STAGE_COUNT:
+        return "stage count not 1 to 32";
+    case GAFFMEDLAR_REFUSED_RULE_COUNT:
+        return "rule count not 1 to 128";
+    case GAFFMEDLAR_REFUSED_FORM:
+        return "form above 2";
+    case GAFFMEDLAR_REFUSED_STAGE:
+        return "a stage number not below the stage count";
+    case GAFFMEDLAR_REFUSED_NAME:
+        return "a name above 63";
+    case GAFFMEDLAR_REFUSED_RULE_TWICE:
+        return "a rule equal in form and all fields to an earlier rule";
+    case GAFFMEDLAR_REFUSED_BYTES_FOLLOW:
+        return "bytes follow the last rule or token";
+    case GAFFMEDLAR_REFUSED_TOKEN_COUNT:
+        return "token count above 1,024";
+    case GAFFMEDLAR_REFUSED_TOKEN:
+        return "a token number above 255, or one that leaves 3 when divided by 4";
+    case GAFFMEDLAR_REFUSED_CLOSE_WITHOUT_OPEN:
+        return "a close with no step open";
+    case GAFFMEDLAR_REFUSED_STILL_OPEN:
+        return "a step still open after the last token";
+    case GAFFMEDLAR_REFUSED_TOO_DEEP:
+        return "an open while 128 steps are open";
+    case GAFFMEDLAR_REFUSED_BUFFER_SHORT:
+        return "a lent buffer shorter than its service writes or reads";
+    case GAFFMEDLAR_REFUSED_NOT_A_READING:
+        return "the first n + 1 bytes handed to \"next reading\" are no reading of this history";
+    case GAFFMEDLAR_NO_READING:
+        return "none: the history has no reading";
+    case GAFFMEDLAR_NO_FURTHER:
+        return "no further: the reading in the buffer is the last one";
+    default:
+        return "no answer of this library";
+    }
+}
+
+/* NULL for what has length 0: from here on the name of each function stands for one that hands over some address in its
+ * place. Nothing is read or written there. */
+static inline const uint8_t *gaffmedlar_read_(const uint8_t *bytes, size_t length)
+{
+    static const uint8_t empty = 0;
+    return bytes == NULL && length == 0 ? &empty : bytes;
+}
+
+static inline uint8_t *gaffmedlar_buffer_(uint8_t *bytes, size_t length)
+{
+    static uint8_t empty;
+    return bytes == NULL && length == 0 ? &empty : bytes;
+}
+
+static inline uint32_t *gaffmedlar_word_buffer_(uint32_t *words, size_t length)
+{
+    static uint32_t empty;
+    return words == NULL && length == 0 ? &empty : words;
+}
+
+static inline struct gaffmedlar_grammar gaffmedlar_grammar_check_(const uint8_t *grammar, size_t grammar_len)
+{
+    return gaffmedlar_grammar_check(gaffmedlar_read_(grammar, grammar_len), grammar_len);
+}
+
+static inline struct gaffmedlar_history gaffmedlar_history_check_(const uint8_t *history, size_t history_len)
+{
+    return gaffmedlar_history_check(gaffmedlar_read_(history, history_len), history_len);
+}
+
+static inline uint8_t gaffmedlar_first_reading_(const uint8_t *grammar, size_t grammar_len, const uint8_t *history,
+                                                size_t history_len, uint8_t *reading, size_t reading_len)
+{
+    return gaffmedlar_first_reading(gaffmedlar_read_(grammar, grammar_len), grammar_len,
+                                    gaffmedlar_read_(history, history_len), history_len,
+                                    gaffmedlar_buffer_(reading, reading_len), reading_len);
+}
+
+static inline uint8_t gaffmedlar_next_reading_(const uint8_t *grammar, size_t grammar_len, const uint8_t *history,
+                                               size_t history_len, uint8_t *reading, size_t reading_len)
+{
+    return gaffmedlar_next_reading(gaffmedlar_read_(grammar, grammar_len), grammar_len,
+                                   gaffmedlar_read_(history, history_len), history_len,
+                                   gaffmedlar_buffer_(reading, reading_len), reading_len);
+}
+
+static inline uint8_t gaffmedlar_run_calls_(const uint8_t *grammar, size_t grammar_len, const uint8_t *history,
+                                            size_t history_len, const uint8_t *calls, size_t calls_len,
+                                            uint8_t *answers, size_t answers_len, uint8_t *buffer, size_t buffer_len)
+{
+    return gaffmedlar_run_calls(gaffmedlar_read_(grammar, grammar_len), grammar_len,
+                                gaffmedlar_read_(history, history_len), history_len,
+                                gaffmedlar_read_(calls, calls_len), calls_len,
+                                gaffmedlar_buffer_(answers, answers_len), answers_len,
+                                gaffmedlar_buffer_(buffer, buffer_len), buffer_len);
+}
+
+static inline uint8_t gaffmedlar_sets_(const uint8_t *grammar, size_t grammar_len, const uint8_t *history,
+                                       size_t history_len, uint32_t *words, size_t words_len)
+{
+    return gaffmedlar_sets(gaffmedlar_read_(grammar, grammar_len), grammar_len,
+                           gaffmedlar_read_(history, history_len), history_len,
+                           gaffmedlar_word_buffer_(words, words_len), words_len);
+}
+
+static inline struct gaffmedlar_count gaffmedlar_doubtful_count_(const uint8_t *grammar, size_t grammar_len,
+                                                                 const uint8_t *history, size_t history_len)
+{
+    return gaffmedlar_doubtful_count(gaffmedlar_read_(grammar, grammar_len), grammar_len,
+                                     gaffmedlar_read_(history, history_len), history_len);
+}
+
+static inline uint8_t gaffmedlar_stop_marks_(const uint8_t *grammar, size_t grammar_len, const uint8_t *history,
+                                             size_t history_len, uint8_t *marks, size_t marks_len)
+{
+    return gaffmedlar_stop_marks(gaffmedlar_read_(grammar, grammar_len), grammar_len,
+                                 gaffmedlar_read_(history, history_len), history_len,
+                                 gaffmedlar_buffer_(marks, marks_len), marks_len);
+}
+
+#define gaffmedlar_grammar_check gaffmedlar_grammar_check_
+#define gaffmedlar_history_check gaffmedlar_history_check_
+#define gaffmedlar_first_reading gaffmedlar_first_reading_
+#define gaffmedlar_next_reading gaffmedlar_next_reading_
+#define gaffmedlar_run_calls gaffmedlar_run_calls_
+#define gaffmedlar_sets gaffmedlar_sets_
+#define gaffmedlar_doubtful_count gaffmedlar_doubtful_count_
+#define gaffmedlar_stop_marks gaffmedlar_stop_marks_
 
 #ifdef __cplusplus
 }

@@ -2,7 +2,7 @@
 //!
 //! Every function here calls one proved service of the archive `libgaffmedlar.a` and turns its number into an enum. The files
 //! are byte strings of any content; a file or a buffer that does not pass is answered by a [`Refusal`], and then no
-//! element of a lent buffer changes. README.md says what the two files hold.
+//! element of a buffer changes. README.md says what the two files hold.
 //!
 //! A history of n tokens has positions 0 to n. A reading has one rule number for each of them, so it is n + 1 bytes.
 
@@ -10,125 +10,76 @@ mod wire;
 
 use std::fmt;
 
-/// Why a file or a buffer was turned down. [`Refusal::number`] is document 01's number, and the text of the error says
-/// the same in words.
-#[derive(Clone, Copy, PartialEq, Eq, Hash, PartialOrd, Ord)]
-pub enum Refusal {
-    /// 1: the bytes end inside a number or before one that is due.
-    BytesEnd,
-    /// 2: a two-byte number whose second byte is 0 or has its top bit set.
-    NumberForm,
-    /// 3: stage count not 1 to 32.
-    StageCount,
-    /// 4: rule count not 1 to 128.
-    RuleCount,
-    /// 5: form above 2.
-    Form,
-    /// 6: a stage number not below the stage count.
-    Stage,
-    /// 7: a name above 63.
-    Name,
-    /// 8: a rule equal in form and all fields to an earlier rule.
-    RuleTwice,
-    /// 9: bytes follow the last rule or token.
-    BytesFollow,
-    /// 10: token count above 1,024.
-    TokenCount,
-    /// 11: a token number above 255, or one that leaves 3 when divided by 4.
-    Token,
-    /// 12: a close with no step open.
-    CloseWithoutOpen,
-    /// 13: a step still open after the last token.
-    StillOpen,
-    /// 14: an open while 128 steps are open.
-    TooDeep,
-    /// 15: a lent buffer shorter than its service writes or reads.
-    BufferShort,
-    /// 16: the bytes handed to "next reading" are no reading of this history.
-    NotAReading,
+/// Who can do something about a refusal.
+const BOTH: &str = "whoever wrote the file";
+const GRAMMAR: &str = "whoever wrote the grammar";
+const HISTORY: &str = "whoever wrote the history";
+const CALL: &str = "the caller";
+
+/// [`Refusal`] from its table: variant, number, whose, words. The table is that of docs/refusals.tsv.
+macro_rules! refusals {
+    ($($variant:ident = $number:literal, $whose:ident, $words:literal;)*) => {
+        /// Why a file or a buffer was turned down. [`Refusal::number`] is document 01's number, and the text of the
+        /// error says the same in words.
+        #[derive(Clone, Copy, Debug, PartialEq, Eq, Hash, PartialOrd, Ord)]
+        #[repr(u8)]
+        #[non_exhaustive]
+        pub enum Refusal {
+            $(
+                #[doc = concat!($number, ": ", $words, ".")]
+                $variant = $number,
+            )*
+        }
+
+        /// All refusals, in the order of their numbers.
+        pub const REFUSALS: &[Refusal] = &[$(Refusal::$variant),*];
+
+        impl Refusal {
+            /// What is wrong, in words.
+            pub fn words(self) -> &'static str {
+                match self {
+                    $(Refusal::$variant => $words,)*
+                }
+            }
+
+            /// Who can do something about it.
+            pub fn whose(self) -> &'static str {
+                match self {
+                    $(Refusal::$variant => $whose,)*
+                }
+            }
+        }
+    };
 }
 
-/// All refusals, in the order of their numbers.
-pub const REFUSALS: [Refusal; 16] = [
-    Refusal::BytesEnd,
-    Refusal::NumberForm,
-    Refusal::StageCount,
-    Refusal::RuleCount,
-    Refusal::Form,
-    Refusal::Stage,
-    Refusal::Name,
-    Refusal::RuleTwice,
-    Refusal::BytesFollow,
-    Refusal::TokenCount,
-    Refusal::Token,
-    Refusal::CloseWithoutOpen,
-    Refusal::StillOpen,
-    Refusal::TooDeep,
-    Refusal::BufferShort,
-    Refusal::NotAReading,
-];
+refusals! {
+    BytesEnd = 1, BOTH, "the bytes end inside a number or before one that is due";
+    NumberForm = 2, BOTH, "a two-byte number whose second byte is 0 or has its top bit set";
+    StageCount = 3, GRAMMAR, "stage count not 1 to 32";
+    RuleCount = 4, GRAMMAR, "rule count not 1 to 128";
+    Form = 5, GRAMMAR, "form above 2";
+    Stage = 6, GRAMMAR, "a stage number not below the stage count";
+    Name = 7, GRAMMAR, "a name above 63";
+    RuleTwice = 8, GRAMMAR, "a rule equal in form and all fields to an earlier rule";
+    BytesFollow = 9, BOTH, "bytes follow the last rule or token";
+    TokenCount = 10, HISTORY, "token count above 1,024";
+    Token = 11, HISTORY, "a token number above 255, or one that leaves 3 when divided by 4";
+    CloseWithoutOpen = 12, HISTORY, "a close with no step open";
+    StillOpen = 13, HISTORY, "a step still open after the last token";
+    TooDeep = 14, HISTORY, "an open while 128 steps are open";
+    BufferShort = 15, CALL, "a lent buffer shorter than its service writes or reads";
+    NotAReading = 16, CALL, "the first n + 1 bytes handed to \"next reading\" are no reading of this history";
+}
 
 impl Refusal {
     /// Document 01's number, 1 to 16.
     pub fn number(self) -> u8 {
-        match self {
-            Refusal::BytesEnd => 1,
-            Refusal::NumberForm => 2,
-            Refusal::StageCount => 3,
-            Refusal::RuleCount => 4,
-            Refusal::Form => 5,
-            Refusal::Stage => 6,
-            Refusal::Name => 7,
-            Refusal::RuleTwice => 8,
-            Refusal::BytesFollow => 9,
-            Refusal::TokenCount => 10,
-            Refusal::Token => 11,
-            Refusal::CloseWithoutOpen => 12,
-            Refusal::StillOpen => 13,
-            Refusal::TooDeep => 14,
-            Refusal::BufferShort => 15,
-            Refusal::NotAReading => 16,
-        }
+        self as u8
     }
 
     /// The refusal of a number, where there is one.
     pub fn of_number(number: u8) -> Option<Refusal> {
         REFUSALS.get((number as usize).checked_sub(1)?).copied()
-    }
-
-    /// Who can do something about it.
-    pub fn whose(self) -> &'static str {
-        match self.number() {
-            1 | 2 | 9 => "whoever wrote the file",
-            3..=8 => "whoever wrote the grammar",
-            10..=14 => "whoever wrote the history",
-            _ => "the caller",
-        }
-    }
-
-    fn words(self) -> &'static str {
-        match self {
-            Refusal::BytesEnd => "the bytes end inside a number or before one that is due",
-            Refusal::NumberForm => {
-                "a two-byte number whose second byte is 0 or has its top bit set"
-            }
-            Refusal::StageCount => "stage count not 1 to 32",
-            Refusal::RuleCount => "rule count not 1 to 128",
-            Refusal::Form => "form above 2",
-            Refusal::Stage => "a stage number not below the stage count",
-            Refusal::Name => "a name above 63",
-            Refusal::RuleTwice => "a rule equal in form and all fields to an earlier rule",
-            Refusal::BytesFollow => "bytes follow the last rule or token",
-            Refusal::TokenCount => "token count above 1,024",
-            Refusal::Token => "a token number above 255, or one that leaves 3 when divided by 4",
-            Refusal::CloseWithoutOpen => "a close with no step open",
-            Refusal::StillOpen => "a step still open after the last token",
-            Refusal::TooDeep => "an open while 128 steps are open",
-            Refusal::BufferShort => "a lent buffer shorter than its service writes or reads",
-            Refusal::NotAReading => {
-                "the first n + 1 bytes handed to \"next reading\" are no reading of this history"
-            }
-        }
     }
 }
 
@@ -138,14 +89,12 @@ impl fmt::Display for Refusal {
     }
 }
 
-/// The same words, since this is what a program prints whose `main` gives the error back.
-impl fmt::Debug for Refusal {
-    fn fmt(&self, f: &mut fmt::Formatter<'_>) -> fmt::Result {
-        fmt::Display::fmt(self, f)
-    }
-}
-
 impl std::error::Error for Refusal {}
+
+/// Bytes of the longest reading: of a history of 1,024 tokens.
+pub const READING_MAX: usize = 1025;
+/// Words of the sets of such a history.
+pub const WORDS_MAX: usize = 4 * READING_MAX;
 
 /// The counts of a grammar that passes.
 #[derive(Clone, Copy, Debug, PartialEq, Eq)]
@@ -272,10 +221,50 @@ pub fn run_calls(
     }
 }
 
-/// Writes four words for each position: rule 32k + b stands at position p in some reading exactly when bit b of word
-/// 4p + k is 1. The buffer needs 4(n + 1) words.
-pub fn sets(grammar: &[u8], history: &[u8], words: &mut [u32]) -> Result<(), Refusal> {
+/// The set of each position: the rules that stand there in some reading.
+pub fn sets(grammar: &[u8], history: &[u8]) -> Result<Sets, Refusal> {
+    let mut words = vec![0; WORDS_MAX];
+    sets_into(grammar, history, &mut words)?;
+    words.truncate(4 * (history_check(history)? + 1));
+    Ok(Sets { words })
+}
+
+/// The same as words in the caller's buffer: rule 32k + b stands at position p in some reading exactly when bit b of word
+/// 4p + k is 1. The buffer needs 4(n + 1) words; [`WORDS_MAX`] are enough for every history.
+pub fn sets_into(grammar: &[u8], history: &[u8], words: &mut [u32]) -> Result<(), Refusal> {
     done(wire::sets(grammar, history, words))
+}
+
+/// What [`sets`] gives.
+#[derive(Clone, Debug, PartialEq, Eq)]
+pub struct Sets {
+    words: Vec<u32>,
+}
+
+impl Sets {
+    /// How many positions there are: n + 1.
+    pub fn positions(&self) -> usize {
+        self.words.len() / 4
+    }
+
+    /// Whether the rule stands at the position in some reading; false where there is no such position or rule.
+    pub fn contains(&self, position: usize, rule: u8) -> bool {
+        let mut sets = self.words.chunks_exact(4);
+        let word = sets
+            .nth(position)
+            .and_then(|set| set.get(usize::from(rule / 32)));
+        word.is_some_and(|word| word >> (rule % 32) & 1 == 1)
+    }
+
+    /// The rules that stand at the position in some reading, smaller numbers first.
+    pub fn rules(&self, position: usize) -> impl Iterator<Item = u8> + '_ {
+        (0..128).filter(move |&rule| self.contains(position, rule))
+    }
+
+    /// Four words for each position, as [`sets_into`] writes them.
+    pub fn words(&self) -> &[u32] {
+        &self.words
+    }
 }
 
 /// How many positions have more than one rule in their set.
@@ -336,6 +325,7 @@ impl Iterator for Readings<'_> {
 
 /// The exported functions with slices for pointers and lengths, and their numbers as they are. The comparing program
 /// uses these, so that no number is lost on the way.
+#[doc(hidden)]
 pub mod raw {
     pub use crate::wire::*;
 }
@@ -347,7 +337,8 @@ mod tests {
 
     #[test]
     fn numbers_and_words() {
-        for (place, refusal) in REFUSALS.into_iter().enumerate() {
+        assert_eq!(REFUSALS.len(), 16);
+        for (place, &refusal) in REFUSALS.iter().enumerate() {
             assert_eq!(usize::from(refusal.number()), place + 1);
             assert_eq!(Refusal::of_number(refusal.number()), Some(refusal));
         }
@@ -358,6 +349,7 @@ mod tests {
             Refusal::StillOpen.to_string(),
             "a step still open after the last token (13)"
         );
+        assert_eq!(format!("{:?}", Refusal::StillOpen), "StillOpen");
         assert_eq!(Refusal::StillOpen.whose(), "whoever wrote the history");
     }
 
@@ -372,13 +364,29 @@ mod tests {
         assert_eq!(history_check(&history), Ok(3));
         let all: Vec<Vec<u8>> = readings(&G, &history).unwrap().collect();
         assert_eq!(all, [vec![1, 3, 4, 0], vec![2, 5, 6, 0]]);
-        let mut words = [9; 16];
-        assert_eq!(sets(&G, &history, &mut words), Ok(()));
-        assert_eq!(words, [6, 0, 0, 0, 40, 0, 0, 0, 80, 0, 0, 0, 1, 0, 0, 0]);
+        let mut words = [9; 17];
+        assert_eq!(sets_into(&G, &history, &mut words), Ok(()));
+        assert_eq!(words, [6, 0, 0, 0, 40, 0, 0, 0, 80, 0, 0, 0, 1, 0, 0, 0, 9]);
         assert_eq!(doubtful_count(&G, &history), Ok(3));
         let mut marks = [9; 5];
         assert_eq!(stop_marks(&G, &history, &mut marks), Ok(()));
         assert_eq!(marks, [1, 0, 0, 1, 9]);
+    }
+
+    #[test]
+    fn sets_by_position_and_rule() {
+        let sets = sets(&G, &[3, 1, 0, 2]).unwrap();
+        assert_eq!(sets.positions(), 4);
+        assert_eq!(sets.words().len(), 16);
+        let rules: Vec<Vec<u8>> = (0..5).map(|p| sets.rules(p).collect()).collect();
+        assert_eq!(rules, [vec![1, 2], vec![3, 5], vec![4, 6], vec![0], vec![]]);
+        assert!(sets.contains(1, 5) && !sets.contains(1, 4));
+        // rule 129 at position 0 is no bit of position 1
+        assert!(!sets.contains(0, 129) && !sets.contains(0, 131) && !sets.contains(4, 0));
+        assert!(!sets.contains(usize::MAX, 1));
+        // no reading: all sets are empty
+        let none = super::sets(&G, &[1, 0]).unwrap();
+        assert_eq!(none.words(), [0; 8]);
     }
 
     #[test]
@@ -396,7 +404,9 @@ mod tests {
             first_reading(&[1, 0], &[1, 1], &mut []),
             Err(Refusal::RuleCount)
         );
-        assert_eq!(sets(&G, &[1, 1], &mut []), Err(Refusal::StillOpen));
+        assert_eq!(sets_into(&G, &[1, 1], &mut []), Err(Refusal::StillOpen));
+        assert_eq!(sets_into(&G, &[0], &mut []), Err(Refusal::BufferShort));
+        assert_eq!(sets(&[1, 0], &[1, 1]), Err(Refusal::RuleCount));
         assert_eq!(buffer, [7; 2]);
         let mut buffer = [9];
         let calls = [Call::Next, Call::First, Call::Next];

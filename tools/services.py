@@ -1,0 +1,11 @@
+"""The public services: a crate, and its functions; none named stands for all that are public."""
+
+SERVICES = [
+    ("files", ["grammar_check", "history_check"]),
+    ("readings", []),
+    ("calls", []),
+    ("sets", []),
+    ("stop_marks", []),
+    ("gaffmedlar", []),
+    ("listing_text", ["list"]),
+]
