@@ -63,7 +63,7 @@ word-is n m f h e = same n m (wordOf n f) h (word-below n f) (λ b l. e b l ∙ 
 
 pub words-length : (g : Grammar) (w : List Token) → length (setWords g w) ≡ 4 * suc (length w)
 unfolding setWords
-words-length g w = length-listed (4 * suc (length w)) (λ i. setWord g w (i / 4) (i % 4))
+words-length g w = length-listed (4 * suc (length w)) _
 
 -- bit r % 32 of element 4 p + r / 32 says whether rule r is in the set at position p
 pub set-bit : (g : Grammar) (w : List Token) (p r : ℕ) → p ≤ length w → r < 128 → bit (getD (setWords g w) (4 * p + r / 32) 0) (r % 32) ≡ kept g w p r
