@@ -41,6 +41,9 @@ int main(void)
         gaffmedlar_run_calls(grammar, sizeof grammar, history, sizeof history, calls, sizeof calls, NULL, 0, reading,
                              sizeof reading),
         GAFFMEDLAR_REFUSED_BUFFER_SHORT);
+    due("no answers and no grammar",
+        gaffmedlar_run_calls(NULL, 0, history, sizeof history, calls, sizeof calls, NULL, 0, reading, sizeof reading),
+        GAFFMEDLAR_REFUSED_BYTES_END);
     due("calls",
         gaffmedlar_run_calls(grammar, sizeof grammar, history, sizeof history, calls, sizeof calls, answers,
                              sizeof answers, reading, sizeof reading),

@@ -83,9 +83,8 @@ impl Seen {
             Service::HistoryCheck => [0].into_iter().chain(history).collect(),
             Service::FirstReading => both.chain([15, 100]).collect(),
             Service::NextReading => both.chain([15, 16, 101]).collect(),
-            Service::Sets | Service::StopMarks => both.chain([15]).collect(),
+            Service::Sets | Service::StopMarks | Service::RunCalls => both.chain([15]).collect(),
             Service::DoubtfulCount => both.collect(),
-            Service::RunCalls => vec![0, 15],
         }
     }
 

@@ -100,10 +100,14 @@ impl Work {
         0
     }
 
-    /// The whole list by the plain listing: no call looks at the buffer, which is filled at the end.
+    /// The whole list by the plain listing: no call looks at the buffer, which is filled at the end. With no room for the
+    /// answers nothing is done; the files are judged before the room.
     pub fn run_calls(&self, calls: &[u8], answers: &mut [u8], buffer: &mut [u8]) -> u8 {
         if answers.len() < calls.len() {
-            return 15;
+            return match &self.0 {
+                Ok(_) => 15,
+                Err(number) => *number,
+            };
         }
         let served = match self.served(|positions| positions, buffer.len()) {
             Ok(served) => served,
@@ -299,6 +303,20 @@ mod tests {
             Work::new(&[1, 1, 1, 0, 0, 0], &[0]).first_reading(&mut [0]),
             NO_READING
         );
+    }
+
+    #[test]
+    fn files_before_the_room_for_answers() {
+        let calls = [0, 1];
+        let room_for_one = |grammar: &[u8], history: &[u8]| {
+            let (mut answers, mut buffer) = ([9], [9]);
+            let answer = Work::new(grammar, history).run_calls(&calls, &mut answers, &mut buffer);
+            assert_eq!((answers, buffer), ([9], [9]));
+            answer
+        };
+        assert_eq!(room_for_one(&G, &[0]), 15);
+        assert_eq!(room_for_one(&[1, 0], &[1, 1]), 4);
+        assert_eq!(room_for_one(&G, &[1, 1]), 13);
     }
 
     #[test]
