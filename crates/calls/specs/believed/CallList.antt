@@ -1,4 +1,5 @@
 -- A list of calls as the listing model goes through it (document 01, "The plain listing").
+-- Clauses: 7.9, 8.8, 8.9 (docs/SPECIFICATION.md)
 use Prim.Native.Nat.{ℕ}
 use mathlib.Core.Bool.{cond}
 use mathlib.Core.List.{List, [], _∷_, _++_, map}

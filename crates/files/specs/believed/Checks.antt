@@ -1,4 +1,5 @@
 -- What the two checks answer (document 01, "Services": "accepted, with the counts, or a number").
+-- Clauses: 7.2, 7.3 (docs/SPECIFICATION.md)
 use Prim.Native.Nat.{ℕ}
 use mathlib.Core.List.{List, [], _∷_}
 use lib.ListN.{length}

@@ -1,4 +1,5 @@
 -- The two files together: "Grammar comes before history" (document 01, "Who can be turned down, and by which number").
+-- Clauses: 6.6 (docs/SPECIFICATION.md)
 use Prim.Native.Nat.{ℕ}
 use mathlib.Core.List.{List}
 use Rattle.grammar_file.specs.believed.GrammarFile.{GrammarFile}

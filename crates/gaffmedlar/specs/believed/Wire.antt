@@ -1,5 +1,6 @@
 -- The services' answers as C sees them: one number, or a struct with the number and the counts. 0 says that all went well; a refusal keeps
 -- document 01's number, 1 to 16; 100 is "none" and 101 "no further" (`codeOf` of the crate calls).
+-- Clauses: 7.9 (docs/SPECIFICATION.md)
 use Prim.Native.Nat.{ℕ}
 use mathlib.Core.List.{List}
 use lib.ListN.{getD}

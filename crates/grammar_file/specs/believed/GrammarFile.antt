@@ -1,4 +1,5 @@
 -- What a grammar file says, or the first fault met in file order (document 01, "The two files" and refusals 1 to 9).
+-- Clauses: 2.1, 2.3, 5.3, 5.5, 6.4 (docs/SPECIFICATION.md)
 use Prim.Native.Nat.{ℕ, zero, suc}
 use mathlib.Core.Bool.{cond}
 use mathlib.Core.List.{List, [], _∷_, _++_}

@@ -1,4 +1,5 @@
 -- What a history file says, or the first fault met in file order (document 01, "The two files" and refusals 1, 2 and 9 to 14).
+-- Clauses: 1.1, 1.2, 1.4, 5.4, 5.5, 6.5 (docs/SPECIFICATION.md)
 use Prim.Native.Nat.{ℕ, zero, suc, _+_, _-_, _/_, _%_}
 use mathlib.Core.Bool.{cond, _&&_, _||_}
 use mathlib.Core.List.{List, [], _∷_, _++_, map}

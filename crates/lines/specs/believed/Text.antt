@@ -1,4 +1,5 @@
 -- The lines of a listing as lists of bytes (document 01, "The listing program").
+-- Clauses: 9.2 to 9.6 (docs/SPECIFICATION.md)
 use Prim.Native.Nat.{ℕ, zero, suc, _+_, _/_, _%_}
 use mathlib.Core.Bool.{cond}
 use mathlib.Core.List.{List, [], _∷_, _++_}

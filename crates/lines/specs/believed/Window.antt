@@ -1,4 +1,5 @@
 -- A buffer as a window on a text.
+-- Clauses: 9.8 (docs/SPECIFICATION.md)
 use Prim.Native.Nat.{ℕ}
 use mathlib.Core.List.{List, _++_}
 use lib.ListN.{length, take, drop}

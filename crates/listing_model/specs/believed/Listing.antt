@@ -1,4 +1,5 @@
 -- A list of the calls first reading and next reading on one buffer: the listing model (document 01, "The plain listing").
+-- Clauses: 3.5, 8.1 to 8.6 (docs/SPECIFICATION.md)
 use Prim.Native.Nat.{ℕ, zero, suc}
 use mathlib.Core.Bool.{Bool, true, false, _&&_}
 use mathlib.Core.List.{List, [], _∷_, _++_}

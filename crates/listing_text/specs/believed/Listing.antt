@@ -1,4 +1,5 @@
 -- The whole listing of two files (document 01, "The listing program").
+-- Clauses: 9.3 to 9.6 (docs/SPECIFICATION.md)
 use Prim.Native.Nat.{ℕ, zero, suc}
 use mathlib.Core.List.{List, [], _∷_, _++_}
 use lib.ListN.{length}

@@ -1,4 +1,5 @@
 -- A number held to its range, over any way to read the number at a place (document 01: "1 or 2 for a number before its range").
+-- Clauses: 6.3 (docs/SPECIFICATION.md)
 use Prim.Native.Nat.{ℕ, _+_}
 use mathlib.Core.Bool.{cond}
 use lib.Dec.{ltb, eqb}

@@ -1,4 +1,5 @@
 -- What reading a number at a place of a file finds (document 01, "The two files", and refusals 1 and 2).
+-- Clauses: 5.1, 5.2 (docs/SPECIFICATION.md)
 use Prim.Native.Nat.{ℕ, _+_, _-_, _*_}
 use mathlib.Core.List.{List}
 use mathlib.Core.Bool.{Bool, cond}

@@ -1,4 +1,5 @@
 -- What first reading and next reading answer, and what a list of their calls is about.
+-- Clauses: 7.4, 7.5, 8.5 (docs/SPECIFICATION.md)
 use Prim.Native.Nat.{ℕ}
 use mathlib.Core.List.{List}
 use Rattle.listing_model.specs.believed.Listing.{written, no-reading, no-further, Subject, due, overEntries}

@@ -1,5 +1,6 @@
 -- What reading a rule at a place finds, over any way to read the number at a place (document 01, "The two files": "each rule: its form,
 -- then L; or L c L1; or L a L1 b L2", and refusals 5, 6 and 7).
+-- Clauses: 5.3, 6.4 (docs/SPECIFICATION.md)
 use Prim.Native.Nat.{ℕ}
 use mathlib.Core.Bool.{cond}
 use lib.Dec.{eqb}

@@ -1,4 +1,5 @@
 -- The opening of every service: "Grammar comes before history, both before 15" (document 01), and what a service gives from there on.
+-- Clauses: 6.6, 6.7 (docs/SPECIFICATION.md)
 use Prim.Native.Nat.{ℕ, _+_, _*_}
 use mathlib.Core.Bool.{cond}
 use mathlib.Core.List.{List}

@@ -1,4 +1,5 @@
 -- What the services sets and doubtful count give (document 01, "Services").
+-- Clauses: 7.6, 7.7 (docs/SPECIFICATION.md)
 use Prim.Native.Nat.{ℕ, _+_, _*_}
 use mathlib.Core.List.{List, _++_}
 use lib.ListN.{length, drop}

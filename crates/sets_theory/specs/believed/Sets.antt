@@ -1,4 +1,5 @@
 -- The set at a position, doubtful positions and stop marks (document 01, "Readings").
+-- Clauses: 4.1, 4.3, 4.4, 7.6 (docs/SPECIFICATION.md)
 use Prim.Native.Nat.{ℕ, zero, suc, _+_, _*_, _/_, _%_, _^_}
 use mathlib.Core.Path.{_≡_}
 use mathlib.Core.Bool.{Bool, true, false}

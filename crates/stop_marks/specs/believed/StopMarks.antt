@@ -1,4 +1,5 @@
 -- What the service stop marks gives (document 01, "Services" and "Readings").
+-- Clauses: 7.8 (docs/SPECIFICATION.md)
 use Prim.Native.Nat.{ℕ, _+_}
 use mathlib.Core.List.{List, _++_}
 use lib.ListN.{length, drop}

@@ -1,4 +1,5 @@
 -- Grammars, derivations and readings: Definition 2.1 of the paper and document 01, "Tokens, stages, rules" and "Readings".
+-- Clauses: 2.1, 2.2, 2.4, 2.5, 3.1, 3.2 (docs/SPECIFICATION.md)
 use Prim.Native.Nat.{ℕ}
 use mathlib.Core.Path.{_≡_}
 use mathlib.Core.List.{List, [], _∷_, _++_}

@@ -1,4 +1,5 @@
 -- The order of readings (document 01, "Readings").
+-- Clauses: 3.4, 3.5 (docs/SPECIFICATION.md)
 use Prim.Native.Nat.{ℕ, _<_}
 use mathlib.Core.Path.{_≡_}
 use mathlib.Core.Logic.{_⊎_}
