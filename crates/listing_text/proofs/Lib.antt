@@ -1,3 +1,4 @@
+pub mod Pieces
 pub mod Short
 pub mod Turns
 pub mod Whole

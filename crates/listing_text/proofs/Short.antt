@@ -1,4 +1,4 @@
--- No listing is longer than 22,000,000 bytes, so 21 windows of 1,048,576 bytes, one behind the other, show the whole of it.
+-- No listing is longer than 22,000,000 bytes.
 use Prim.Native.Nat.{ℕ, zero, suc, _+_, _*_, _/_, _%_, _≤_}
 use native.Mathlib.Nat.{suc-mul}
 use native.Mathlib.Omega.{arith}
@@ -78,20 +78,3 @@ listing-short grammar history = go (grammarOf grammar) (historyOf history) refl
         λ x m. omega (arith, entries-proper g (tokensOf ts) .1 x m, length-map ts tokenOf, few) in
         rw (length-append (tokensLine (length ts)) (readingsListed (doubtfulCount g (tokensOf ts)) (entries g (tokensOf ts))))
         (omega (arith, number-line-short tokensWord (length ts), readings-short (doubtfulCount g (tokensOf ts)) (entries g (tokensOf ts)) sizes))
-
--- ── the windows ──
-
--- n windows of `size` bytes, one behind the other, the first one from the byte number `skip` on
-abbrev pub windows : ℕ → ℕ → ℕ → List ℕ → List ℕ
-windows zero skip size text = []
-windows (suc n) skip size text = shown skip size text ++ windows n (skip + size) size text
-
-windows-rest : (n skip size : ℕ) (text : List ℕ) → length text ≤ skip + n * size → windows n skip size text ≡ drop skip text
-windows-rest zero skip size text h = sym (drop-of-length-le text {i = skip} (omega arith))
-windows-rest (suc n) skip size text h =
-    ap (λ (l : List ℕ). shown skip size text ++ l) (windows-rest n (skip + size) size text (omega (arith, suc-mul n size)) ∙ sym (drop-drop size skip text))
-    ∙ take-append-drop size (drop skip text)
-
--- 21 windows, as the program writes them, are the whole listing
-pub windows-whole : (grammar history : List ℕ) → windows 21 0 1048576 (listing grammar history) ≡ listing grammar history
-windows-whole grammar history = windows-rest 21 0 1048576 (listing grammar history) (omega (arith, listing-short grammar history))

@@ -1,4 +1,4 @@
-// The whole listing of two files as text.
+// The whole listing of two files as text, given out piece by piece.
 use files::GrammarCheck;
 use files::HistoryCheck;
 use lines::Cursor;
@@ -14,7 +14,15 @@ ghost use Rattle.io.specs.Counts.{Counts};
 ghost use Rattle.lines.specs.Laid.{laid};
 ghost use Rattle.lines.specs.believed.Window.{window};
 ghost use Rattle.listing_text.specs.believed.Listing.{listedFrom, mostListed, listing};
+ghost use Rattle.listing_text.specs.believed.Pieces.{goesOn, beforeAll, pieceAfter};
 ghost use Rattle.listing_text.specs.Passing.{Passing, Begun, entriesOf, isWritten, told, countIn};
+
+// A piece of the listing: how many bytes of the listing stand before its end, how many of them are its own, and whether another is to follow.
+pub struct Piece {
+    pub end: usize,
+    pub length: usize,
+    pub more: bool,
+}
 
 fn is_written(answer: Answer) -> bool
     ensures { λ r. ⌜ r ≡ isWritten (said answer) ⌝ }
@@ -105,11 +113,48 @@ fn list_from(grammar: &[u8], history: &[u8], text: &mut [u8], p: Cursor) -> Curs
 }
 
 // Writes a part of the listing to the buffer's start, from the byte number `skip` on, as much as there is room for; answers how many bytes.
-pub fn list(grammar: &[u8], history: &[u8], skip: usize, text: &mut [u8]) -> usize
+fn list(grammar: &[u8], history: &[u8], skip: usize, text: &mut [u8]) -> usize
     ensures { λ r. ⌜ (r, now (text .exit)) ≡ window skip (now (text .entry)) (listing (now (grammar .entry)) (now (history .entry))) ⌝ }
     ensures { λ r. ⌜ Counts r (now (text .exit)) ⌝ }
 {
     let start = Cursor { skip, at: 0 };
     let end = list_from(grammar, history, text, start);
     end.at
+}
+
+// Whether the listing may go on behind a piece: one that fills its buffer says nothing of what follows.
+fn goes_on(length: usize, size: usize) -> bool
+    ensures { λ r. ⌜ r ≡ goesOn length size ⌝ }
+{
+    if length == size {
+        0 < length
+    } else {
+        false
+    }
+}
+
+// What stands before the first piece.
+pub fn before_all() -> Piece
+    ensures { λ r. ⌜ r ≡ beforeAll ⌝ }
+{
+    Piece {
+        end: 0,
+        length: 0,
+        more: true,
+    }
+}
+
+// Writes the piece of the listing behind the piece `before` to the buffer's start, as much as there is room for.
+pub fn next_piece(grammar: &[u8], history: &[u8], before: Piece, text: &mut [u8]) -> Piece
+    ensures { λ r. ⌜ (r, now (text .exit)) ≡ pieceAfter before (now (text .entry)) (listing (now (grammar .entry)) (now (history .entry))) ⌝ }
+    ensures { λ r. ⌜ Counts (r .length) (now (text .exit)) ⌝ }
+{
+    let start = before.end;
+    let size = text.len();
+    let length = list(grammar, history, start, text);
+    Piece {
+        end: start + length,
+        length,
+        more: goes_on(length, size),
+    }
 }
