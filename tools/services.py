@@ -7,5 +7,6 @@ SERVICES = [
     ("sets", []),
     ("stop_marks", []),
     ("gaffmedlar", []),
-    ("listing_text", ["list"]),
+    ("listing_text", []),
+    ("listing_output", []),
 ]

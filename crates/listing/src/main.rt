@@ -16,26 +16,11 @@ fn load(path: &[u8], buf: &mut [u8]) -> usize
     n
 }
 
+// Room for a piece of the listing: all but the very longest listings are one piece.
 fn space() -> [u8; 1048576]
     ensures { λ r. ⌜ 1048576 ≡ length r ⌝ }
 {
     [0; 1048576]
-}
-
-// Writes the next 1,048,576 bytes of the listing; true where it may go on behind them.
-fn show(grammar: &[u8], history: &[u8], skip: usize) -> bool {
-    let mut text = space();
-    let n = listing_text::list(grammar, history, skip, &mut text);
-    io::write_all(libc::STDOUT_FILENO, &text[..n]);
-    n == 1048576
-}
-
-// Writes the whole listing: no listing has more bytes than 21 of these pieces (`windows-whole` of crates/listing_text/proofs/Short.antt).
-fn show_all(grammar: &[u8], history: &[u8]) {
-    let mut skip: usize = 0;
-    while skip < 22020096 && show(grammar, history, skip) {
-        skip += 1048576;
-    }
 }
 
 fn main() {
@@ -43,5 +28,6 @@ fn main() {
     let mut history = io::buffer();
     let g = load(b"grammar.bin", &mut grammar);
     let h = load(b"history.bin", &mut history);
-    show_all(&grammar[..g], &history[..h]);
+    let mut text = space();
+    listing_output::write_listing(&grammar[..g], &history[..h], &mut text);
 }

@@ -86,6 +86,21 @@ written-whole {text} {out₀} {p} {out} room w =
     let k = so-far (w .pieces) in
     sym (append-nil (w .all)) ∙ ap (λ (l : List ℕ). w .all ++ l) (sym (drop-of-length-le text {i = p .end} (k .done room (w .last)))) ∙ k .rest
 
--- each piece with another to follow brings the end nearer
-pub nearer : (p : Piece) (out text : List ℕ) → pieceAfter p out text .0 .more ≡ true → length text - (p .end + length (shown (p .end) (length out) text)) < length text - p .end
-nearer p out text e = let k = more-left (p .end) (length out) text e in omega (arith, k .0, k .1)
+-- ── from piece to piece ──
+
+pub same-room : {text out₀ : List ℕ} {p : Piece} {out all : List ℕ} → Pieces text out₀ p out all → length out ≡ length out₀
+same-room k = so-far k .same
+
+module _ (text : List ℕ) (p : Piece) (out : List ℕ) (q : Piece) (new : List ℕ) (is : _≡_ {A = Piece × List ℕ} (q, new) (pieceAfter p out text)) where
+  pub piece-added : {out₀ all : List ℕ} → Pieces text out₀ p out all → p .more ≡ true → (every : List ℕ) × Pieces text out₀ q new every
+  piece-added {out₀} {all} k more =
+      let every = all ++ shown (p .end) (length out) text in
+      (every, subst (λ (x : Piece × List ℕ). Pieces text out₀ (x .0) (x .1) every) (sym is) (one-more p out all k more))
+
+  -- each piece with another to follow brings the end nearer
+  pub nearer : q .more ≡ true → length text - q .end < length text - p .end
+  nearer e =
+      let n : ℕ = length (shown (p .end) (length out) text) in
+      let end-is : q .end ≡ p .end + n = ap (λ (x : Piece × List ℕ). x .0 .end) is in
+      let k = more-left (p .end) (length out) text (sym (ap (λ (x : Piece × List ℕ). x .0 .more) is) ∙ e) in
+      omega (arith, end-is, k .0, k .1)

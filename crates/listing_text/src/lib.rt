@@ -126,11 +126,7 @@ fn list(grammar: &[u8], history: &[u8], skip: usize, text: &mut [u8]) -> usize
 fn goes_on(length: usize, size: usize) -> bool
     ensures { λ r. ⌜ r ≡ goesOn length size ⌝ }
 {
-    if length == size {
-        0 < length
-    } else {
-        false
-    }
+    if length == size { 0 < length } else { false }
 }
 
 // What stands before the first piece.

@@ -3,26 +3,16 @@
 use test_packed::part;
 use test_packed::two;
 
-// Writes the listing's first 65,536 bytes; no case has more.
+// Writes the listing in pieces of 65,536 bytes: in one piece, since no case has more.
 fn show_whole(grammar: &[u8], history: &[u8]) {
     let mut text = io::large_buffer();
-    let n = listing_text::list(grammar, history, 0, &mut text);
-    io::write_all(libc::STDOUT_FILENO, &text[..n]);
+    listing_output::write_listing(grammar, history, &mut text);
 }
 
-// Writes the next 4,096 bytes of the listing; true where it may go on behind them.
-fn show(grammar: &[u8], history: &[u8], skip: usize) -> bool {
+// Writes the listing in pieces of 4,096 bytes.
+fn show_pieces(grammar: &[u8], history: &[u8]) {
     let mut text = io::buffer();
-    let n = listing_text::list(grammar, history, skip, &mut text);
-    io::write_all(libc::STDOUT_FILENO, &text[..n]);
-    n == 4096
-}
-
-fn show_all(grammar: &[u8], history: &[u8]) {
-    let mut skip: usize = 0;
-    while skip < 22020096 && show(grammar, history, skip) {
-        skip += 4096;
-    }
+    listing_output::write_listing(grammar, history, &mut text);
 }
 
 // The next case; false where the file has no further one.
@@ -39,7 +29,7 @@ fn one(fd: i32, whole: bool) -> bool {
     if whole {
         show_whole(&grammar[..g], &history[..h]);
     } else {
-        show_all(&grammar[..g], &history[..h]);
+        show_pieces(&grammar[..g], &history[..h]);
     }
     true
 }
