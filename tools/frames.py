@@ -13,8 +13,21 @@ MARK, OPEN, CLOSE = [0], [1], [2]
 # The kinds of a token, by their number.
 KINDS = ["mark", "open", "close"]
 
-# The fields behind a rule's form, by form: s is a stage, n is a name.
-FIELDS = ["s", "sns", "snsns"]
+# The fields behind a rule's form, by form and in file order, with document 01's letters: L, L1 and L2 are stages, c, a and b names.
+FIELDS = [
+    {"L": "the stage on the left"},
+    {"L": "the stage on the left", "c": "the mark's name", "L1": "the stage behind the mark"},
+    {"L": "the stage on the left", "a": "the open's name", "L1": "the stage inside the step", "b": "the close's name", "L2": "the stage behind the close"},
+]
+NAMES = ["c", "a", "b"]
+
+# The largest number that two bytes can hold.
+MOST = (1 << 14) - 1
+
+
+def token_words(token):
+    """A token as its kind and its name, for a number that is one."""
+    return "%s %d" % (KINDS[token % 4], token // 4)
 
 
 class Refused(Exception):
@@ -24,7 +37,7 @@ class Refused(Exception):
 # ---- to bytes
 def number_bytes(n):
     """A number below 128 is its own byte; from 128 on two bytes, low group first."""
-    if not 0 <= n < 1 << 14:
+    if not 0 <= n <= MOST:
         raise ValueError("%d does not fit in two bytes of seven bits" % n)
     return bytes([n]) if n < 128 else bytes([n % 128 + 128, n // 128])
 
@@ -81,8 +94,8 @@ def read_grammar(data):
     for _ in range(due):
         form, at = field_at(data, at, 3, 5)
         rule = [form]
-        for what in FIELDS[form]:
-            n, at = field_at(data, at, stages, 6) if what == "s" else field_at(data, at, 64, 7)
+        for field in FIELDS[form]:
+            n, at = field_at(data, at, 64, 7) if field in NAMES else field_at(data, at, stages, 6)
             rule.append(n)
         if rule in rules:
             raise Refused(8)
