@@ -142,6 +142,9 @@ def parse_history(text):
     return HistoryText([len(tokens)] + numbers, tokens)
 
 
+PARSE = {"grammar": parse_grammar, "history": parse_history}
+
+
 # ---- to text
 def rule_text(rule):
     """A rule as its line; a rule is its form and its fields."""
