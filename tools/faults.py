@@ -163,11 +163,12 @@ def bytes_follow(file, refused):
 
 def no_token(file, refused):
     """11: above 255, or of kind 3."""
-    name, value = refused.value // 4, refused.value
+    item, value = refused.item, refused.value
     if value > 255:
-        yield "token %d: %s, which is above 255; names 0 to 63 are allowed, and 4 × %d is %s" % (refused.item, "{:,}".format(value), name, "{:,}".format(4 * name))
+        words = " (%s)" % token_words(value) if value % 4 < 3 else ""
+        yield "token %d%s: %s, which is above 255; names 0 to 63 are allowed" % (item, words, "{:,}".format(value))
     else:
-        yield "token %d: %d, which is 4 × %d + 3: name %d and kind 3, where kinds 0, 1 and 2 are allowed" % (refused.item, value, name, name)
+        yield "token %d: %d, which is 4 × %d + 3: name %d and kind 3, where kinds 0, 1 and 2 are allowed" % (item, value, value // 4, value // 4)
     yield from file.place(refused)
 
 

@@ -13,7 +13,11 @@ MOST_TEXT = 1 << 22
 
 
 class CouldNotRun(Exception):
-    """A file can't be read or written; the message says which and why."""
+    """A file can't be read or written, or the call is no good; the message says which and why."""
+
+
+class CouldNotWrite(CouldNotRun):
+    """What was to be said or written is not, so there is no use in going on."""
 
 
 def printable(text):
@@ -76,7 +80,7 @@ def write_whole(path, data):
         else:
             replace(os.path.realpath(path), data)
     except OSError as e:
-        raise CouldNotRun("%s: can't be written: %s" % ("standard output" if path == "-" else printable(path), why(e)))
+        raise CouldNotWrite("%s: can't be written: %s" % ("standard output" if path == "-" else printable(path), why(e)))
 
 
 def replace(path, data):
@@ -95,17 +99,25 @@ def replace(path, data):
         raise
 
 
+def encoded(text, stream):
+    """A text in the encoding of a standard stream, which need not hold every character of it."""
+    encoding = getattr(stream, "encoding", None) or "utf-8"
+    try:
+        return text.encode(encoding)
+    except UnicodeEncodeError:
+        return text.replace("×", "x").encode(encoding, "backslashreplace")
+
+
 def say(lines):
-    """Lines to standard output, whatever its encoding."""
-    text = "".join(line + "\n" for line in lines)
-    encoding = getattr(sys.stdout, "encoding", None) or "utf-8"
-    write_whole("-", text.encode(encoding, "backslashreplace"))
+    """Lines to standard output."""
+    write_whole("-", encoded("".join(line + "\n" for line in lines), sys.stdout))
 
 
 def complain(command, message):
     """A message to standard error, where it is open."""
     try:
-        os.write(2, ("%s: %s\n" % (command, message)).encode("utf-8", "backslashreplace"))
+        standard("stderr").write(encoded("%s: %s\n" % (command, message), sys.stderr))
+        standard("stderr").flush()
     except OSError:
         pass
 
