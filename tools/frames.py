@@ -13,18 +13,50 @@ MARK, OPEN, CLOSE = [0], [1], [2]
 # The kinds of a token, by their number.
 KINDS = ["mark", "open", "close"]
 
-# The fields behind a rule's form, by form: s is a stage, n is a name.
-FIELDS = ["s", "sns", "snsns"]
+# The fields behind a rule's form, by form and in file order, with document 01's letters: L, L1 and L2 are stages, c, a and b names.
+FIELDS = [
+    {"L": "the stage on the left"},
+    {"L": "the stage on the left", "c": "the mark's name", "L1": "the stage behind the mark"},
+    {"L": "the stage on the left", "a": "the open's name", "L1": "the stage inside the step", "b": "the close's name", "L2": "the stage behind the close"},
+]
+NAMES = ["c", "a", "b"]
+
+# The largest number that two bytes can hold.
+MOST = (1 << 14) - 1
+
+
+def token_words(token):
+    """A token as its kind and its name, for a number that is one."""
+    return "%s %d" % (KINDS[token % 4], token // 4)
 
 
 class Refused(Exception):
-    """The one argument is document 01's number."""
+    """A file is turned down. The one argument is document 01's number; the attributes say where.
+
+    number    that number
+    at, end   the bytes at fault: from `at` on and before `end`; all that is there of a number which the end of the file cuts off (1)
+    item      the number of the rule or token, from 0; None at the counts and behind the last one
+    start     the byte where that rule or token begins
+    form      the rule's form, once it is read
+    field     "stage count", "rule count", "token count", "form", "token" or a letter of FIELDS; None where no single number is at fault
+    value     the number found
+    allowed   the least and the largest number that would do
+    due       how many rules or tokens the file says it has, once that is read
+    others    rules or tokens that explain it, each as its number and the byte where it begins: the rule before (5), the earlier rule (8),
+              the opens of the steps that are open, outermost first (13, 14)
+    """
+
+    def __init__(self, number, at, end, place, field=None, value=None, allowed=None, others=()):
+        super().__init__(number)
+        self.number, self.at, self.end = number, at, end
+        self.item, self.start, self.form, self.due = place
+        self.field, self.value, self.allowed, self.others = field, value, allowed, list(others)
 
 
 # ---- to bytes
 def number_bytes(n):
     """A number below 128 is its own byte; from 128 on two bytes, low group first."""
-    if not 0 <= n < 1 << 14:
+    if not 0 <= n <= MOST:
         raise ValueError("%d does not fit in two bytes of seven bits" % n)
     return bytes([n]) if n < 128 else bytes([n % 128 + 128, n // 128])
 
@@ -42,74 +74,113 @@ def history_bytes(tokens):
 
 
 # ---- from bytes, with the refusals in document 01's order
-def groups_at(data, at):
-    """The bytes of the number at a place, two where the first has its top bit set; fewer where the file ends."""
-    return data[at:at + 1] if data[at:at + 1] < b"\x80" else data[at:at + 2]
+class Reader:
+    """The numbers of a file one behind the other, and where the next one begins.
+
+    With `lax` only those faults are refused that the readable form (frame_text.py) can't hold.
+    """
+
+    def __init__(self, data, lax=False):
+        self.data, self.lax, self.at = data, lax, 0
+        self.item = self.start = self.form = self.due = None
+
+    def begin(self, item):
+        self.item, self.start, self.form = item, self.at, None
+
+    def refuse(self, number, at, must=False, **more):
+        if must or not self.lax:
+            raise Refused(number, at, self.at, (self.item, self.start, self.form, self.due), **more)
+
+    def number(self, field):
+        """A number below 128 is its own byte; a byte from 128 on is the low group, and a byte from 1 to 127 follows it."""
+        at = self.at
+        groups = self.data[at:at + 1] if self.data[at:at + 1] < b"\x80" else self.data[at:at + 2]
+        self.at += len(groups)
+        if not groups or len(groups) == 1 and groups[0] >= 128:
+            self.refuse(1, at, must=True, field=field)
+        if len(groups) == 2 and not 1 <= groups[1] < 128:
+            self.refuse(2, at, must=True, field=field)
+        return groups[0] if len(groups) == 1 else groups[0] - 128 + 128 * groups[1]
+
+    def within(self, field, least, most, refusal, must=False, others=()):
+        """A number that has to be one from least to most."""
+        at = self.at
+        n = self.number(field)
+        if not least <= n <= most:
+            self.refuse(refusal, at, must, field=field, value=n, allowed=(least, most), others=others)
+        return n
+
+    def end(self):
+        """Nothing follows."""
+        self.item = self.start = self.form = None
+        if self.at < len(self.data):
+            at, self.at = self.at, len(self.data)
+            self.refuse(9, at, must=True)
 
 
-def value_of(groups):
-    return groups[0] if len(groups) == 1 else groups[0] - 128 + 128 * groups[1]
+def read_rule(reader, stages, before):
+    form = reader.within("form", 0, 2, 5, must=True, others=before)
+    reader.form = form
+    rule = [form]
+    for field in FIELDS[form]:
+        rule.append(reader.within(field, 0, 63, 7) if field in NAMES else reader.within(field, 0, stages - 1, 6))
+    return rule
 
 
-def number_at(data, at):
-    groups = groups_at(data, at)
-    if not groups or len(groups) == 1 and groups[0] >= 128:
-        raise Refused(1)
-    if len(groups) == 2 and not 1 <= groups[1] < 128:
-        raise Refused(2)
-    return value_of(groups), at + len(groups)
-
-
-def field_at(data, at, limit, refusal):
-    n, at = number_at(data, at)
-    if n >= limit:
-        raise Refused(refusal)
-    return n, at
-
-
-def count_at(data, at, most, refusal):
-    n, at = number_at(data, at)
-    if not 1 <= n <= most:
-        raise Refused(refusal)
-    return n, at
+def read_stages_and_rules(data, lax=False):
+    """A grammar file's stage count and its rules."""
+    reader = Reader(data, lax)
+    stages = reader.within("stage count", 1, 32, 3)
+    reader.due = reader.within("rule count", 1, 128, 4)
+    rules, places, before = [], {}, []
+    for item in range(reader.due):
+        reader.begin(item)
+        rule = read_rule(reader, stages, before)
+        before = [(item, reader.start)]
+        earlier = places.setdefault(tuple(rule), before[0])
+        if earlier != before[0]:
+            reader.refuse(8, reader.start, others=[earlier])
+        rules.append(rule)
+    reader.end()
+    return stages, rules
 
 
 def read_grammar(data):
-    stages, at = count_at(data, 0, 32, 3)
-    due, at = count_at(data, at, 128, 4)
-    rules = []
-    for _ in range(due):
-        form, at = field_at(data, at, 3, 5)
-        rule = [form]
-        for what in FIELDS[form]:
-            n, at = field_at(data, at, stages, 6) if what == "s" else field_at(data, at, 64, 7)
-            rule.append(n)
-        if rule in rules:
-            raise Refused(8)
-        rules.append(rule)
-    if at < len(data):
-        raise Refused(9)
-    return rules
+    """A grammar file's rules."""
+    return read_stages_and_rules(data)[1]
 
 
-def read_history(data):
-    due, at = field_at(data, 0, 1025, 10)
-    tokens, depth = [], 0
-    for _ in range(due):
-        t, at = field_at(data, at, 256, 11)
+def read_history(data, lax=False):
+    """A history file's tokens."""
+    reader = Reader(data, lax)
+    reader.due = reader.within("token count", 0, 1024, 10)
+    tokens, opens = [], []
+    for item in range(reader.due):
+        reader.begin(item)
+        t = reader.within("token", 0, 255, 11)
+        at = reader.start
         if t % 4 == 3:
-            raise Refused(11)
+            reader.refuse(11, at, must=True, field="token", value=t, allowed=(0, 255))
         if t % 4 == 1:
-            if depth == 128:
-                raise Refused(14)
-            depth += 1
+            if len(opens) == 128:
+                reader.refuse(14, at, field="token", value=t, others=opens)
+            opens.append((item, at))
         if t % 4 == 2:
-            if depth == 0:
-                raise Refused(12)
-            depth -= 1
+            if not opens:
+                reader.refuse(12, at, field="token", value=t)
+            opens[-1:] = []
         tokens.append(t)
-    if depth > 0:
-        raise Refused(13)
-    if at < len(data):
-        raise Refused(9)
+    if opens:
+        still_open(reader, opens)
+    reader.end()
     return tokens
+
+
+def still_open(reader, opens):
+    """The place of the refusal is the outermost of the opens."""
+    item, at = opens[0]
+    after, reader.at = reader.at, at
+    reader.begin(item)
+    value = reader.number("token")
+    reader.refuse(13, at, field="token", value=value, others=opens)
+    reader.at = after

@@ -1,0 +1,168 @@
+"""The readable form of a grammar or a history, both ways: text to the numbers of its file, and rules or tokens to text.
+
+A '#' starts a comment, and blank lines are skipped. Words are parted by blanks and tabs. Numbers are the digits 0 to 9 alone.
+
+A grammar: a line 'stages N', then one line for each rule. Rules are numbered from 0 in the order of their lines, stage 0 is the start.
+    L ->                       L becomes nothing                                  (form 0)
+    L -> mark C L1             L becomes mark C, then L1                           (form 1)
+    L -> open A L1 close B L2  L becomes open A, L1, close B, then L2              (form 2)
+L, L1, L2 are stage numbers; A, B, C are names, numbers too.
+
+A history: 'mark N', 'open N' or 'close N' for each token, any number of them to a line.
+
+A text is UTF-8, with or without a byte order mark, its lines ended by LF or CR LF. Only what can't be written as numbers is a fault
+here; whether the numbers are in their ranges is told by the reader of frames.py.
+"""
+import re
+from typing import List, NamedTuple
+
+from frames import FIELDS, KINDS, MOST, token_words
+
+# A rule's line, by form; the letters are the fields in file order.
+PATTERNS = [["L", "->"], ["L", "->", "mark", "c", "L1"], ["L", "->", "open", "a", "L1", "close", "b", "L2"]]
+RULE_HELP = "a rule is 'L ->', 'L -> mark C L1' or 'L -> open A L1 close B L2'"
+TOKEN_HELP = "a token is 'mark N', 'open N' or 'close N'"
+
+# Characters that a person doesn't see, or sees as the end of a line where none is: they would hide what is read.
+HIDDEN = re.compile("[\x00-\x08\x0b-\x1f\x7f-\x9f\u2028\u2029\ufeff]")
+
+
+class TextFault(Exception):
+    """What is wrong with a text; begins with the number of the line."""
+
+    def __init__(self, line, words):
+        super().__init__("line %d: %s" % (line, words))
+        self.line = line
+
+
+class RuleLine(NamedTuple):
+    line: int
+    words: List[str]
+    comment: str
+
+
+class TokenLine(NamedTuple):
+    line: int
+    comment: str
+
+
+class GrammarText(NamedTuple):
+    numbers: List[int]
+    rules: List[RuleLine]
+    stages_line: int
+
+
+class HistoryText(NamedTuple):
+    numbers: List[int]
+    tokens: List[TokenLine]
+
+
+# ---- from text
+def quoted(word):
+    """A word for a message: hidden and foreign characters escaped, cut where it is long."""
+    shown = ascii(word)[1:-1]
+    return "'%s'" % (shown if len(shown) <= 40 else shown[:40] + "..")
+
+
+def decoded(data):
+    """The text of a file's bytes, without a byte order mark."""
+    if data[:2] in (b"\xff\xfe", b"\xfe\xff"):
+        raise TextFault(1, "the text is UTF-16; save it as UTF-8")
+    try:
+        text = data.decode("utf-8")
+    except UnicodeDecodeError as e:
+        before = data[:e.start]
+        column = e.start - (before.rfind(b"\n") + 1) + 1
+        raise TextFault(before.count(b"\n") + 1, "byte %d of the line (%d) is no UTF-8; save the text as UTF-8" % (column, data[e.start]))
+    return text[1:] if text.startswith("\ufeff") else text
+
+
+def lines_of(text):
+    """Each line that says something, from a text or the bytes of one: its number, its words, its comment."""
+    text = decoded(text if isinstance(text, bytes) else text.encode("utf-8", "surrogatepass"))
+    for number, line in enumerate(text.split("\n"), 1):
+        line = line[:-1] if line.endswith("\r") else line
+        hidden = HIDDEN.search(line)
+        if hidden:
+            raise TextFault(number, "character %d is the control character U+%04X; is this a text?" % (hidden.start() + 1, ord(hidden.group())))
+        said, _, comment = line.partition("#")
+        words = re.findall("[^ \t]+", said)
+        if words:
+            yield number, words, comment.strip()
+
+
+def number_of(word, line, what, most=MOST):
+    if not re.fullmatch("[0-9]+", word):
+        raise TextFault(line, "%s is no number, and %s is due, in the digits 0 to 9" % (quoted(word), what))
+    digits = word.lstrip("0") or "0"
+    if len(digits) > len(str(most)) or int(digits) > most:
+        raise TextFault(line, "%s is too large for %s: a file can hold no more than %d there" % (quoted(word), what, most))
+    return int(digits)
+
+
+def rule_numbers(line, words):
+    """The form of a rule, and its fields."""
+    for form, pattern in enumerate(PATTERNS):
+        pairs = list(zip(pattern, words))
+        if len(words) == len(pattern) and all(due == word for due, word in pairs if due not in FIELDS[form]):
+            return [form] + [number_of(word, line, FIELDS[form][due]) for due, word in pairs if due in FIELDS[form]]
+    raise TextFault(line, "no rule: %s; %s" % (quoted(" ".join(words)), RULE_HELP))
+
+
+def parse_grammar(text):
+    """The numbers of a grammar's file, and the line of each rule."""
+    lines = lines_of(text)
+    line, words, _ = next(lines, (1, [], ""))
+    if words[:1] != ["stages"] or len(words) != 2:
+        raise TextFault(line, "a grammar begins with a line 'stages N'" + ("; here it is %s" % quoted(" ".join(words)) if words else ""))
+    stages, stages_line = number_of(words[1], line, "the stage count"), line
+    numbers, rules = [], []
+    for line, words, comment in lines:
+        if len(rules) == MOST:
+            raise TextFault(line, "a file can hold no more than %d rules" % MOST)
+        numbers += rule_numbers(line, words)
+        rules.append(RuleLine(line, words, comment))
+    return GrammarText([stages, len(rules)] + numbers, rules, stages_line)
+
+
+def parse_history(text):
+    """The numbers of a history's file, and the line of each token."""
+    numbers, tokens = [], []
+    for line, words, comment in lines_of(text):
+        for at in range(0, len(words), 2):
+            kind, name = words[at], words[at + 1:at + 2]
+            if kind not in KINDS:
+                raise TextFault(line, "no kind of token: %s; %s" % (quoted(kind), TOKEN_HELP))
+            if not name:
+                raise TextFault(line, "the line ends behind %s; %s" % (quoted(kind), TOKEN_HELP))
+            if len(tokens) == MOST:
+                raise TextFault(line, "a file can hold no more than %d tokens" % MOST)
+            numbers.append(4 * number_of(name[0], line, "the %s's name" % kind, MOST // 4) + KINDS.index(kind))
+            tokens.append(TokenLine(line, comment))
+    return HistoryText([len(tokens)] + numbers, tokens)
+
+
+PARSE = {"grammar": parse_grammar, "history": parse_history}
+
+
+# ---- to text
+def rule_text(rule):
+    """A rule as its line; a rule is its form and its fields."""
+    fields = iter(rule[1:])
+    return " ".join(str(next(fields)) if word in FIELDS[rule[0]] else word for word in PATTERNS[rule[0]])
+
+
+def grammar_text(stages, rules):
+    lines = ["stages %d" % stages]
+    for number, rule in enumerate(rules):
+        lines.append(rule_text(rule).ljust(36) + "# rule %d" % number)
+    return "\n".join(lines) + "\n"
+
+
+def history_text(tokens):
+    lines, depth = [], 0
+    for token in tokens:
+        depth -= token % 4 == 2
+        lines.append("  " * max(depth, 0) + token_words(token))
+        depth += token % 4 == 1
+    return "\n".join(lines) + "\n"
