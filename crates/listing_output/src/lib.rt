@@ -12,8 +12,9 @@ pub fn write_listing(grammar: &[u8], history: &[u8], text: &mut [u8]) -> Piece
     loop {
         piece = listing_text::next_piece(grammar, history, piece, text);
         let n = piece.length;
+        let more = piece.more;
         io::write_all(libc::STDOUT_FILENO, &text[..n]);
-        if !piece.more {
+        if !more {
             return piece;
         }
     }

@@ -40,7 +40,7 @@ write-all-requires c κs = search needs
 
 same-length : tie.Need-same-length Inv-loop μ-loop
 same-length c =
-    let l = c .before .before .before .before .before .before in
+    let l = c .before .before .before .before .before in
     let a = l .before .before .before .before .before .before .before .args in
     let text = listing (a .grammar .now) (a .history .now) in
     let p = l .before .before .loop in
@@ -49,7 +49,7 @@ same-length c =
 
 returns : tie.Need-returns Inv-loop μ-loop
 returns c =
-    let l = c .before .before .before .before .before .before in
+    let l = c .before .before .before .before .before in
     let a = l .before .before .before .before .before .before .before .args in
     let text = listing (a .grammar .now) (a .history .now) in
     let p = l .before .before .loop in
@@ -59,7 +59,7 @@ returns c =
 
 loop-less : tie.Need-loop-less Inv-loop μ-loop
 loop-less c =
-    let l = c .before .before .before .before .before .before in
+    let l = c .before .before .before .before .before in
     let a = l .before .before .before .before .before .before .before .args in
     let text = listing (a .grammar .now) (a .history .now) in
     let p = l .before .before .loop in
@@ -68,7 +68,7 @@ loop-less c =
 
 loop-again : tie.Need-loop-again Inv-loop μ-loop
 loop-again c =
-    let l = c .before .before .before .before .before .before in
+    let l = c .before .before .before .before .before in
     let a = l .before .before .before .before .before .before .before .args in
     let text = listing (a .grammar .now) (a .history .now) in
     let p = l .before .before .loop in
