@@ -59,6 +59,9 @@
 extern "C" {
 #endif
 
+/* The version of the library; the same stands in the file VERSION. */
+#define GAFFMEDLAR_VERSION "0.1.0"
+
 #define GAFFMEDLAR_OK 0
 #define GAFFMEDLAR_NO_READING 100
 #define GAFFMEDLAR_NO_FURTHER 101
