@@ -65,21 +65,21 @@ def quoted(word):
 
 
 def decoded(data):
-    """The text of a file's bytes."""
+    """The text of a file's bytes, without a byte order mark."""
     if data[:2] in (b"\xff\xfe", b"\xfe\xff"):
         raise TextFault(1, "the text is UTF-16; save it as UTF-8")
     try:
-        return data.decode("utf-8")
+        text = data.decode("utf-8")
     except UnicodeDecodeError as e:
         before = data[:e.start]
         column = e.start - (before.rfind(b"\n") + 1) + 1
         raise TextFault(before.count(b"\n") + 1, "byte %d of the line (%d) is no UTF-8; save the text as UTF-8" % (column, data[e.start]))
+    return text[1:] if text.startswith("\ufeff") else text
 
 
 def lines_of(text):
     """Each line that says something, from a text or the bytes of one: its number, its words, its comment."""
-    text = decoded(text) if isinstance(text, bytes) else text
-    text = text[1:] if text.startswith("\ufeff") else text
+    text = decoded(text if isinstance(text, bytes) else text.encode("utf-8", "surrogatepass"))
     for number, line in enumerate(text.split("\n"), 1):
         line = line[:-1] if line.endswith("\r") else line
         hidden = HIDDEN.search(line)
@@ -140,6 +140,9 @@ def parse_history(text):
             numbers.append(4 * number_of(name[0], line, "the %s's name" % kind, MOST // 4) + KINDS.index(kind))
             tokens.append(TokenLine(line, comment))
     return HistoryText([len(tokens)] + numbers, tokens)
+
+
+PARSE = {"grammar": parse_grammar, "history": parse_history}
 
 
 # ---- to text

@@ -1,0 +1,215 @@
+"""What is wrong with a grammar or a history, and where, in words: for ./check and tools/text.
+
+The fault is the one that the reader of frames.py finds; the refusal's words and what to do are those of docs/refusals.tsv.
+"""
+import os
+
+from frame_text import PARSE, decoded, rule_text
+from frames import FIELDS, Reader, Refused, numbers_bytes, read_history, read_stages_and_rules, token_words
+from refusal_table import table
+from streams import CouldNotRun, printable, why
+
+ROOT = os.path.join(os.path.dirname(os.path.realpath(__file__)), "..")
+
+# A rule or a token, by the kind of file.
+ITEM = {"grammar": "rule", "history": "token"}
+
+# As many bytes of a row, steps, and characters of a line are shown.
+SHOWN_BYTES, SHOWN_STEPS, SHOWN_LINE = 16, 8, 72
+
+
+def count(n, what):
+    return "%s %s%s" % ("{:,}".format(n), what, "" if n == 1 else "s")
+
+
+class Text:
+    """A readable form and what it says; raises TextFault where it can't be read."""
+
+    def __init__(self, kind, data, name=None):
+        self.name = name
+        self.parsed = PARSE[kind](data)
+        self.data = numbers_bytes(self.parsed.numbers)
+        self.lines = decoded(data).split("\n")
+        self.items = self.parsed.rules if kind == "grammar" else self.parsed.tokens
+
+    def line(self, refused):
+        """The number of the line at fault. A count that is too large is at fault where the first one too many stands."""
+        if refused.item is not None:
+            return self.items[refused.item].line
+        if refused.field != "stage count" and len(self.items) > refused.allowed[1]:
+            return self.items[refused.allowed[1]].line
+        return self.parsed.stages_line
+
+    def named(self, line):
+        return "line %d" % line + (" of %s" % self.name if self.name else "")
+
+    def shown(self, line):
+        said = printable(self.lines[line - 1].strip().replace("\t", " "))
+        return "%s: %s" % (self.named(line), said if len(said) <= SHOWN_LINE else said[:SHOWN_LINE] + " ..")
+
+
+class File:
+    """The bytes of a file, or as many as have to be looked at, and its length (None: longer than these).
+
+    `text` is the readable form that says the same, where there is one; `bytes_shown` is off where there is only that.
+    """
+
+    def __init__(self, kind, data, size, text=None, bytes_shown=True):
+        self.kind, self.data, self.size, self.text, self.bytes_shown = kind, data, size, text, bytes_shown
+
+    def verdict(self):
+        """The counts of a file that is in order, in words, and the refusal; one of them is None."""
+        try:
+            if self.kind == "grammar":
+                stages, rules = read_stages_and_rules(self.data)
+                return count(stages, "stage") + ", " + count(len(rules), "rule"), None
+            return count(len(read_history(self.data)), "token"), None
+        except Refused as refused:
+            return None, refused
+
+    def bytes(self, at, end):
+        """The bytes from `at` on and before `end`, with where they are."""
+        there = " ".join(map(str, self.data[at:min(end, at + SHOWN_BYTES)])) + (" .." if end > at + SHOWN_BYTES else "")
+        if end - at == 1:
+            return "byte %d: %s" % (at, there)
+        return "bytes %d %s %d: %s" % (at, "and" if end - at == 2 else "to", end - 1, there)
+
+    def item(self, item, at):
+        """A rule or token that passed by itself, with where it is."""
+        reader = Reader(self.data)
+        reader.at = at
+        if self.kind == "grammar":
+            rule = [reader.number("form")]
+            words = rule_text(rule + [reader.number(field) for field in FIELDS[rule[0]]])
+        else:
+            words = token_words(reader.number("token"))
+        places = [self.text.named(self.text.items[item].line)] if self.text else []
+        places += [self.bytes(at, reader.at)] if self.bytes_shown else []
+        return "%s %d (%s), %s" % (ITEM[self.kind], item, words, ", ".join(places))
+
+    def place(self, refused):
+        """The bytes at fault and the line."""
+        if self.bytes_shown:
+            yield self.bytes(refused.at, refused.end)
+            if self.kind == "grammar" and refused.item is not None and refused.start < refused.at:
+                yield "the rule begins at byte %d: %s" % (refused.start, " ".join(map(str, self.data[refused.start:refused.end])))
+        if self.text:
+            yield self.text.shown(self.text.line(refused))
+
+
+# ---- what is found, for each refusal
+def field_words(file, refused):
+    """The number at fault: of which rule or token it is, and which of its fields."""
+    if refused.item is None:
+        return "the " + refused.field
+    if file.kind == "history":
+        return "token %d" % refused.item
+    if refused.field == "form":
+        return "rule %d, its form" % refused.item
+    return "rule %d (form %d), field %s (%s)" % (refused.item, refused.form, refused.field, FIELDS[refused.form][refused.field])
+
+
+def cut_off(file, refused):
+    """1: what is due, and how much of it is there."""
+    what = field_words(file, refused)
+    there = "and the file ends there, after %s" % count(len(file.data), "byte") if file.data else "and the file is empty"
+    if refused.at == refused.end:
+        yield "%s is due at byte %d, %s" % (what, refused.at, there)
+    else:
+        yield "%s: byte %d says that another follows, %s" % (what, refused.at, there)
+        yield from file.place(refused)
+    if refused.item is not None:
+        yield "%ss due by the count: %d; there, and whole: %d" % (ITEM[file.kind], refused.due, refused.item)
+
+
+def number_form(file, refused):
+    """2: what is wrong with the second byte."""
+    first, second = file.data[refused.at:refused.end]
+    if second == 0:
+        said = "its second byte is 0; in the shortest form it is the one byte %d" % (first - 128)
+    else:
+        said = "its second byte is %d, which says that a third follows, and two are the most" % second
+    yield "%s: %s" % (field_words(file, refused), said)
+    yield from file.place(refused)
+
+
+def out_of_range(file, refused):
+    """3 to 7 and 10: the number found, and those that are allowed."""
+    least, most = refused.allowed
+    allowed = "%d alone is" % least if least == most else "%d to %s are" % (least, "{:,}".format(most))
+    said = "%s: %s, where %s allowed" % (field_words(file, refused), "{:,}".format(refused.value), allowed)
+    yield said + (", the stage count being %d" % (most + 1) if refused.number == 6 else "")
+    yield from file.place(refused)
+    for item, at in refused.others:
+        yield "before it: " + file.item(item, at)
+
+
+def rule_twice(file, refused):
+    """8: this rule and the earlier one."""
+    earlier = refused.others[0]
+    yield "rule %d (form %d) equals rule %d" % (refused.item, refused.form, earlier[0])
+    yield file.item(refused.item, refused.at)
+    yield file.item(*earlier)
+
+
+def bytes_follow(file, refused):
+    """9: how many, and where they begin."""
+    size = len(file.data) if file.size is None else file.size
+    many = ("more than " if file.size is None else "") + count(size - refused.at, "byte")
+    item = "%s %d, the last of %d" % (ITEM[file.kind], refused.due - 1, refused.due) if refused.due else "the token count, which is 0"
+    yield "%s too many, from byte %d on, behind %s" % (many, refused.at, item)
+    yield file.bytes(refused.at, size)
+
+
+def no_token(file, refused):
+    """11: above 255, or of kind 3."""
+    item, value = refused.item, refused.value
+    if value > 255:
+        words = " (%s)" % token_words(value) if value % 4 < 3 else ""
+        yield "token %d%s: %s, which is above 255; names 0 to 63 are allowed" % (item, words, "{:,}".format(value))
+    else:
+        yield "token %d: %d, which is 4 × %d + 3: name %d and kind 3, where kinds 0, 1 and 2 are allowed" % (item, value, value // 4, value // 4)
+    yield from file.place(refused)
+
+
+def no_step_open(file, refused):
+    """12: the close."""
+    yield "token %d (%s): a close, and no step is open there" % (refused.item, token_words(refused.value))
+    yield from file.place(refused)
+
+
+def still_open(file, refused):
+    """13: the opens of the steps that are still open."""
+    steps, last = refused.others, refused.due - 1
+    if len(steps) == 1:
+        yield "1 step is still open after token %d, the last; its open is" % last
+    else:
+        yield "%d steps are still open after token %d, the last; their opens are, the outermost first," % (len(steps), last)
+    for item, at in steps[:SHOWN_STEPS]:
+        yield "  " + file.item(item, at)
+    if len(steps) > SHOWN_STEPS:
+        yield "  and %d more; the innermost is %s" % (len(steps) - SHOWN_STEPS, file.item(*steps[-1]))
+
+
+def too_deep(file, refused):
+    """14: the open that is one too many."""
+    yield "token %d (%s): an open, and %d steps are open there" % (refused.item, token_words(refused.value), len(refused.others))
+    yield from file.place(refused)
+    yield "the outermost open step began with " + file.item(*refused.others[0])
+    yield "the innermost open step began with " + file.item(*refused.others[-1])
+
+
+FOUND = {1: cut_off, 2: number_form, 8: rule_twice, 9: bytes_follow, 11: no_token, 12: no_step_open, 13: still_open, 14: too_deep}
+
+
+def report(name, file, refused):
+    """The lines on a file that is refused."""
+    try:
+        row = table(ROOT)[refused.number - 1]
+    except OSError as e:
+        raise CouldNotRun("docs/refusals.tsv: can't be read: %s" % why(e))
+    line = "" if file.bytes_shown else "line %d: " % file.text.line(refused)
+    yield "%s: %srefused by %d: %s" % (name, line, refused.number, row["words"])
+    for said in FOUND.get(refused.number, out_of_range)(file, refused):
+        yield "  " + said
+    yield "  what to do: " + row["do"]
