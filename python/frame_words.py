@@ -4,46 +4,40 @@ The bytes are read by tools/frames.py, the texts by tools/frame_text.py.
 """
 import os
 import re
-import sys
 from typing import NamedTuple, Optional
 
-import program
-
-sys.path.insert(0, os.path.join(program.ROOT, "tools"))
-from frame_text import TextFault, parse_grammar, parse_history  # noqa: E402
-from frames import KINDS, numbers_bytes, read_grammar, read_history, token_words  # noqa: E402
+from faults import Text
+from frame_text import TextFault
+from frames import KINDS, read_grammar, read_history, token_words
+from streams import CouldNotRun, printable, read_text
 
 
 class Note(NamedTuple):
-    """What a text says of a rule or a token."""
+    """What a readable form says of a rule or a token."""
     line: int
     comment: str
 
 
-class Text(NamedTuple):
-    """A readable text beside a file: its name, a note for each rule or token, and why there are none."""
+class Notes(NamedTuple):
+    """The readable form beside a file: its name, a note for each rule or token, and why there are none."""
     name: str
     notes: list
     fault: Optional[str]
 
 
-def text_beside(path, data, parse, lines):
-    """The text with the name of the file but .txt at its end, where it is there and has the file's bytes."""
+def notes_beside(path, kind, data):
+    """Those of the text that has the file's name but .txt at its end, where it is there and says the same."""
     beside = os.path.splitext(path)[0] + ".txt"
-    name = program.shown(os.path.basename(beside))
+    name = printable(os.path.basename(beside))
     if beside == path or not os.path.isfile(beside):
-        return Text(name, [], None)
+        return Notes(name, [], None)
     try:
-        with open(beside, "rb") as f:
-            parsed = parse(f.read(1 << 20))
-        if numbers_bytes(parsed.numbers) == data:
-            return Text(name, [Note(line.line, program.shown(line.comment.replace("\t", " "))) for line in lines(parsed)], None)
-        fault = "it is the text of another file"
-    except TextFault as e:
-        fault = str(e)
-    except OSError as e:
-        fault = e.strerror
-    return Text(name, [], "%s is left out: %s" % (name, fault))
+        text = Text(kind, read_text(beside))
+    except (CouldNotRun, TextFault):
+        return Notes(name, [], "%s lies beside it and can't be read as a %s" % (name, kind))
+    if text.data != data:
+        return Notes(name, [], "%s lies beside it and says something else" % name)
+    return Notes(name, [Note(item.line, printable(item.comment.replace("\t", " "))) for item in text.items], None)
 
 
 def rule_sentence(rule):
@@ -61,8 +55,8 @@ class FrameWords:
     def __init__(self, grammar_path, grammar, history_path, history):
         self.rules, self.tokens = read_grammar(grammar), read_history(history)
         self.partner, self.around, self.depth = structure(self.tokens)
-        self.grammar_text = text_beside(grammar_path, grammar, parse_grammar, lambda parsed: parsed.rules)
-        self.history_text = text_beside(history_path, history, parse_history, lambda parsed: parsed.tokens)
+        self.grammar_text = notes_beside(grammar_path, "grammar", grammar)
+        self.history_text = notes_beside(history_path, "history", history)
 
     def faults(self):
         """Why a text beside a file is not used."""
