@@ -314,7 +314,10 @@ class Sets:
 
     def rules(self, position: int) -> List[int]:
         """The rules that stand at the position in some reading, smaller numbers first."""
-        return [rule for rule in range(128) if self.contains(position, rule)]
+        if not 0 <= position < self.positions():
+            return []
+        words = enumerate(self._words[4 * position:4 * position + 4])
+        return [32 * k + b for k, word in words if word for b in range(32) if word >> b & 1]
 
     def words(self) -> array:
         """Four words for each position, as sets_into writes them; a copy."""

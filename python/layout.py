@@ -8,7 +8,8 @@ WIDTH = 100
 
 def colour_is_due():
     """On a terminal, unless the environment says no."""
-    return sys.stdout.isatty() and not os.environ.get("NO_COLOR") and os.environ.get("TERM") not in (None, "dumb")
+    terminal = sys.stdout is not None and sys.stdout.isatty()
+    return terminal and not os.environ.get("NO_COLOR") and os.environ.get("TERM") not in (None, "dumb")
 
 
 def styled(code, lines):

@@ -109,10 +109,10 @@ class InRoom(unittest.TestCase):
     def path(self, *names):
         return os.path.join(self.room, *names)
 
-    def frame(self, name, grammar=None, history=None, **more):
+    def frame(self, name, grammar=None, history=None, grammar_text=None, history_text=None):
         """A folder with these files; None for one that isn't there."""
         os.makedirs(self.path(name), exist_ok=True)
-        for file, data in [("grammar.bin", grammar), ("history.bin", history)] + [(key + ".txt", text) for key, text in more.items()]:
+        for file, data in [("grammar.bin", grammar), ("history.bin", history), ("grammar.txt", grammar_text), ("history.txt", history_text)]:
             if data is not None:
                 with open(self.path(name, file), "wb") as f:
                     f.write(data.encode() if isinstance(data, str) else data)
