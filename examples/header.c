@@ -1,7 +1,7 @@
 /* Checks what gaffmedlar.h does by itself: NULL for what has length 0, and the words of the answers.
  *
  * Build, in the repository's root:
- *     rt staticlib gaffmedlar
+ *     tools/build library
  *     cc -O2 -Iinclude -o target/header_c examples/header.c target/staticlib/libgaffmedlar.a
  */
 #include "gaffmedlar.h"

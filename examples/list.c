@@ -4,7 +4,7 @@
  * written whole.
  *
  * Build, in the repository's root:
- *     rt staticlib gaffmedlar
+ *     tools/build library
  *     cc -O2 -Iinclude -o target/list_c examples/list.c target/staticlib/libgaffmedlar.a
  */
 #include "gaffmedlar.h"

@@ -3,7 +3,7 @@
  * each function is called in a thread with the stack that gaffmedlar.h says is enough.
  *
  * Build, in the repository's root:
- *     rt staticlib gaffmedlar
+ *     tools/build library
  *     cc -O2 -pthread -Iinclude -o target/stack_c examples/stack.c target/staticlib/libgaffmedlar.a
  */
 #define _XOPEN_SOURCE 700

@@ -1,5 +1,5 @@
 //! Finds `libgaffmedlar.a`: in the folder that GAFFMEDLAR_LIB_DIR names, else in the repository's target/staticlib, where
-//! `rt staticlib gaffmedlar` writes it.
+//! `tools/build library` writes it.
 use std::env;
 use std::path::PathBuf;
 
@@ -15,7 +15,7 @@ fn main() {
     let archive = folder.join("libgaffmedlar.a");
     if !archive.exists() {
         panic!(
-            "no {}: run `rt staticlib gaffmedlar` in the repository's root, or set GAFFMEDLAR_LIB_DIR to the folder that has libgaffmedlar.a",
+            "no {}: run `tools/build library` in the repository's root, or set GAFFMEDLAR_LIB_DIR to the folder that has libgaffmedlar.a",
             archive.display()
         );
     }

@@ -1,9 +1,10 @@
 //! Times each service of the proved library beside the same algorithm in plain Rust, on the same files, in one run.
 //!
-//!     bench [--quick] [--out DIR]
+//!     bench [--quick] [--docs] [--out DIR]
 //!
-//! Prints a table, and writes bench.csv and bench.svg into DIR (docs/ of the repository unless given). A time is
-//! processor time, the best of several rounds; the two sides take turns. `--quick` makes the rounds short.
+//! Prints a table, and writes bench.csv and bench.svg into DIR: target/bench of the repository unless given, docs/ with
+//! `--docs`. A time is processor time, the best of several rounds; the two sides take turns. `--quick` makes the rounds
+//! short.
 
 mod clock;
 mod plain;
@@ -12,9 +13,12 @@ mod plot;
 use frames::{grammar_file, history_file, Rule, Token, G};
 use gaffmedlar::raw;
 use plot::{svg, Line, Panel};
-use std::fmt::Write;
+use std::fmt::Write as _;
+use std::fs::File;
 use std::hint::black_box;
-use std::path::PathBuf;
+use std::io::Write as _;
+use std::path::{Path, PathBuf};
+use std::process::ExitCode;
 use std::time::Duration;
 
 #[derive(Clone, Copy, PartialEq, Eq)]
@@ -193,12 +197,17 @@ struct Row {
     rust: f64,
 }
 
-fn run(quick: bool) -> Vec<Row> {
-    let (round, rounds) = if quick {
+/// How long a round is at least, and how many there are.
+fn rounds(quick: bool) -> (Duration, usize) {
+    if quick {
         (Duration::from_micros(500), 3)
     } else {
         (Duration::from_millis(2), 40)
-    };
+    }
+}
+
+fn run(quick: bool) -> Vec<Row> {
+    let (round, rounds) = rounds(quick);
     let unambiguous = grammar_file(
         1,
         &[
@@ -319,21 +328,81 @@ fn panel(rows: &[Row], group: &str, title: &str, across: &str) -> Panel {
     }
 }
 
-fn main() {
-    let mut quick = false;
-    let mut folder = PathBuf::from(env!("CARGO_MANIFEST_DIR")).join("../../docs");
-    let mut words = std::env::args().skip(1);
+const USAGE: &str = "usage: bench [--quick] [--docs] [--out DIR]
+
+Prints a table of times, and writes bench.csv and bench.svg into target/bench.
+
+  --quick      short rounds, for a try
+  --docs       writes into docs/, whose files are under version control
+  --out DIR    writes into DIR";
+
+struct Options {
+    quick: bool,
+    folder: PathBuf,
+}
+
+/// None where only the usage is asked for.
+fn options() -> Result<Option<Options>, String> {
+    let root = PathBuf::from(env!("CARGO_MANIFEST_DIR")).join("../..");
+    let mut options = Options {
+        quick: false,
+        folder: root.join("target/bench"),
+    };
+    let mut words = std::env::args_os().skip(1);
     while let Some(word) = words.next() {
-        match (&word[..], words.len()) {
-            ("--quick", _) => quick = true,
-            ("--out", 1..) => folder = words.next().expect("a word is left").into(),
-            _ => {
-                eprintln!("usage: bench [--quick] [--out DIR]");
-                std::process::exit(2);
-            }
+        match word.to_str() {
+            Some("--quick") => options.quick = true,
+            Some("--docs") => options.folder = root.join("docs"),
+            Some("--out") => options.folder = words.next().ok_or("--out needs a folder")?.into(),
+            Some("-h" | "--help") => return Ok(None),
+            _ => return Err(format!("{} is no option\n{USAGE}", word.to_string_lossy())),
         }
     }
-    let rows = run(quick);
+    Ok(Some(options))
+}
+
+/// The two files, opened before anything is measured, so that a place that can't be written is found at once. What they
+/// held stays until there is something to put in its place.
+struct Outputs {
+    csv: Output,
+    svg: Output,
+}
+
+struct Output {
+    path: PathBuf,
+    file: File,
+}
+
+impl Output {
+    fn open(path: PathBuf) -> Result<Output, String> {
+        let file = File::options().append(true).create(true).open(&path);
+        let file = file.map_err(|error| format!("{}: {error}", path.display()))?;
+        Ok(Output { path, file })
+    }
+
+    fn put(&mut self, text: &str) -> Result<(), String> {
+        let written = self.file.set_len(0);
+        let written = written.and_then(|()| self.file.write_all(text.as_bytes()));
+        written.map_err(|error| format!("{}: {error}", self.path.display()))?;
+        println!("wrote {}", self.path.display());
+        Ok(())
+    }
+}
+
+impl Outputs {
+    fn open(folder: &Path) -> Result<Outputs, String> {
+        let made = std::fs::create_dir_all(folder).and_then(|()| folder.canonicalize());
+        let folder = made.map_err(|error| format!("{}: {error}", folder.display()))?;
+        Ok(Outputs {
+            csv: Output::open(folder.join("bench.csv"))?,
+            svg: Output::open(folder.join("bench.svg"))?,
+        })
+    }
+}
+
+fn measure(options: &Options) -> Result<(), String> {
+    let mut outputs = Outputs::open(&options.folder)?;
+    let rows = run(options.quick);
     let mut ratios: Vec<f64> = rows.iter().map(|row| row.library / row.rust).collect();
     ratios.sort_by(f64::total_cmp);
     println!(
@@ -351,15 +420,27 @@ fn main() {
             "rules",
         ),
     ];
-    let below = "solid: the proved library; dashed: the same algorithm in plain Rust; one core, release builds, best of 40 rounds";
-    let write = |name: &str, text: String| {
-        let path = folder.join(name);
-        if let Err(error) = std::fs::write(&path, text) {
-            eprintln!("{}: {error}", path.display());
-            std::process::exit(1);
+    let below = format!(
+        "solid: the proved library; dashed: the same algorithm in plain Rust; one core, release builds, best of {} rounds",
+        rounds(options.quick).1
+    );
+    outputs.csv.put(&csv(&rows))?;
+    outputs.svg.put(&svg(&panels, &below))
+}
+
+fn main() -> ExitCode {
+    match options() {
+        Ok(None) => println!("{USAGE}"),
+        Ok(Some(options)) => {
+            if let Err(error) = measure(&options) {
+                eprintln!("{error}");
+                return ExitCode::FAILURE;
+            }
         }
-        println!("wrote {name}");
-    };
-    write("bench.csv", csv(&rows));
-    write("bench.svg", svg(&panels, below));
+        Err(text) => {
+            eprintln!("{text}");
+            return ExitCode::from(2);
+        }
+    }
+    ExitCode::SUCCESS
 }

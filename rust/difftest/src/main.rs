@@ -2,17 +2,20 @@
 //! lent buffer, and the elements around them.
 //!
 //!     difftest [--cases N] [--long] [--seed S] [--self-test]
+//!     difftest --help
 //!
 //! A case is a grammar file and a history file, with which every service is called once, and a list of calls made.
 //! `--long` runs ten million cases. `--self-test` plants a fault after the other in the library's answers and sees that
-//! each is found and made small.
+//! each is found and made small. How far it is goes to stderr.
 
 mod case;
 mod make;
+mod progress;
 mod random;
 mod shrink;
 
 use case::{compare, hex, Case, Difference, Fault, Service, FAULTS};
+use progress::Progress;
 use random::Random;
 use reference::Work;
 use std::process::ExitCode;
@@ -27,10 +30,22 @@ const LENGTHS: u64 = 60;
 /// The reference is held against itself in one case of so many.
 const SELF_EVERY: u64 = 8;
 
+const USAGE: &str = "usage: difftest [--cases N] [--long] [--seed S] [--self-test]
+
+Compares the proved library with the reference, on 200,000 cases unless told.
+
+  --cases N      on N cases
+  --long         on ten million
+  --seed S       on other cases; the same for the same S, which is 1 unless given
+  --self-test    plants faults in the library's answers and sees that each is found
+
+Status: 0 no difference, 1 a difference or an answer that was not met, 2 wrong words.";
+
 struct Options {
     cases: u64,
     seed: u64,
     self_test: bool,
+    help: bool,
 }
 
 fn options() -> Result<Options, String> {
@@ -38,6 +53,7 @@ fn options() -> Result<Options, String> {
         cases: CASES,
         seed: 1,
         self_test: false,
+        help: false,
     };
     let mut words = std::env::args().skip(1);
     while let Some(word) = words.next() {
@@ -50,9 +66,8 @@ fn options() -> Result<Options, String> {
             "--seed" => options.seed = number()?,
             "--long" => options.cases = LONG,
             "--self-test" => options.self_test = true,
-            _ => {
-                return Err("usage: difftest [--cases N] [--long] [--seed S] [--self-test]".into())
-            }
+            "-h" | "--help" => options.help = true,
+            _ => return Err(format!("{word} is no option\n{USAGE}")),
         }
     }
     Ok(options)
@@ -222,7 +237,9 @@ fn compare_all(options: &Options) -> bool {
     }
     let mut seen = Seen::new();
     let mut calls = 0u64;
+    let mut progress = Progress::new(options.cases);
     for number in 0..options.cases {
+        progress.at(number);
         let mut random = Random::new(options.seed.wrapping_mul(0x1000_0000_0000) ^ number);
         let case = make::case(&mut random, LIMIT_EVERY);
         let found = compare(&case, None, |service, outcome| {
@@ -247,10 +264,8 @@ fn compare_all(options: &Options) -> bool {
             println!("  history  {}", hex(&case.history));
             return false;
         }
-        if number % 1_000_000 == 999_999 {
-            println!("{} cases, {:.0?}", number + 1, start.elapsed());
-        }
     }
+    progress.end();
     let whole = seen.report();
     println!(
         "{} cases, {calls} calls, all files of two bytes at most, {LENGTHS} files at all lengths of buffers, seed {}: no difference, {:.1} s",
@@ -286,22 +301,31 @@ fn self_test(options: &Options) -> bool {
     true
 }
 
-fn run() -> bool {
-    match options() {
+fn run() -> ExitCode {
+    let well = match options() {
+        Ok(options) if options.help => {
+            println!("{USAGE}");
+            true
+        }
         Ok(options) if options.self_test => self_test(&options),
         Ok(options) => compare_all(&options),
         Err(text) => {
             eprintln!("{text}");
-            false
+            return ExitCode::from(2);
         }
+    };
+    if well {
+        ExitCode::SUCCESS
+    } else {
+        ExitCode::FAILURE
     }
 }
 
 fn main() -> ExitCode {
     // the reference recurses as deep as a history is long
     let worker = std::thread::Builder::new().stack_size(256 << 20).spawn(run);
-    match worker.expect("a thread").join() {
-        Ok(true) => ExitCode::SUCCESS,
-        _ => ExitCode::FAILURE,
-    }
+    worker
+        .expect("a thread")
+        .join()
+        .unwrap_or(ExitCode::FAILURE)
 }

@@ -1,7 +1,7 @@
 //! Reads edit histories by a visibly pushdown grammar.
 //!
 //! Every function here calls one proved service of the archive `libgaffmedlar.a` and turns its number into an enum. The files
-//! are byte strings of any content; a file or a buffer that does not pass is answered by a [`Refusal`], and then no
+//! are byte strings of any content; a file or a buffer that does not pass is answered by a [`Refused`], and then no
 //! element of a buffer changes. README.md says what the two files hold.
 //!
 //! A history of n tokens has positions 0 to n. A reading has one rule number for each of them, so it is n + 1 bytes.
@@ -89,7 +89,32 @@ impl fmt::Display for Refusal {
     }
 }
 
-impl std::error::Error for Refusal {}
+/// One of the two files.
+#[derive(Clone, Copy, Debug, PartialEq, Eq, Hash)]
+pub enum File {
+    Grammar,
+    History,
+}
+
+/// A file or a buffer was turned down: why, and which file is at fault.
+#[derive(Clone, Copy, Debug, PartialEq, Eq, Hash)]
+pub struct Refused {
+    pub refusal: Refusal,
+    /// None where it is neither file but the call: 15 and 16.
+    pub file: Option<File>,
+}
+
+impl fmt::Display for Refused {
+    fn fmt(&self, f: &mut fmt::Formatter<'_>) -> fmt::Result {
+        match self.file {
+            Some(File::Grammar) => write!(f, "the grammar: {}", self.refusal),
+            Some(File::History) => write!(f, "the history: {}", self.refusal),
+            None => write!(f, "{}", self.refusal),
+        }
+    }
+}
+
+impl std::error::Error for Refused {}
 
 /// Bytes of the longest reading: of a history of 1,024 tokens.
 pub const READING_MAX: usize = 1025;
@@ -134,7 +159,7 @@ pub enum CallAnswer {
     Written,
     NoReading,
     NoFurther,
-    Refused(Refusal),
+    Refused(Refused),
 }
 
 /// The archive gave a number that its promises rule out: another archive was linked.
@@ -149,26 +174,38 @@ fn refusal(number: u8) -> Refusal {
     Refusal::of_number(number).unwrap_or_else(|| foreign(number))
 }
 
-fn done(number: u8) -> Result<(), Refusal> {
+/// The refusal by a number of a call with this grammar. The grammar comes before the history: where its own check refuses
+/// it, the number is the grammar's, else it is the history's or the call's.
+fn refused(number: u8, grammar: &[u8]) -> Refused {
+    let refusal = refusal(number);
+    let file = match refusal {
+        Refusal::BufferShort | Refusal::NotAReading => None,
+        _ if wire::grammar_check(grammar).answer == 0 => Some(File::History),
+        _ => Some(File::Grammar),
+    };
+    Refused { refusal, file }
+}
+
+fn done(number: u8, grammar: &[u8]) -> Result<(), Refused> {
     match number {
         0 => Ok(()),
-        k => Err(refusal(k)),
+        k => Err(refused(k, grammar)),
     }
 }
 
-fn call_answer(number: u8) -> CallAnswer {
+fn call_answer(number: u8, grammar: &[u8]) -> CallAnswer {
     match number {
         0 => CallAnswer::Written,
         100 => CallAnswer::NoReading,
         101 => CallAnswer::NoFurther,
-        k => CallAnswer::Refused(refusal(k)),
+        k => CallAnswer::Refused(refused(k, grammar)),
     }
 }
 
 /// Checks a grammar file.
-pub fn grammar_check(grammar: &[u8]) -> Result<GrammarCounts, Refusal> {
+pub fn grammar_check(grammar: &[u8]) -> Result<GrammarCounts, Refused> {
     let reply = wire::grammar_check(grammar);
-    done(reply.answer)?;
+    done(reply.answer, grammar)?;
     Ok(GrammarCounts {
         stages: reply.stages.into(),
         rules: reply.rules.into(),
@@ -176,27 +213,32 @@ pub fn grammar_check(grammar: &[u8]) -> Result<GrammarCounts, Refusal> {
 }
 
 /// Checks a history file and gives its number of tokens.
-pub fn history_check(history: &[u8]) -> Result<usize, Refusal> {
+pub fn history_check(history: &[u8]) -> Result<usize, Refused> {
     let reply = wire::history_check(history);
-    done(reply.answer)?;
-    Ok(reply.tokens.into())
+    match reply.answer {
+        0 => Ok(reply.tokens.into()),
+        k => Err(Refused {
+            refusal: refusal(k),
+            file: Some(File::History),
+        }),
+    }
 }
 
 /// Writes the first reading into the buffer's first n + 1 bytes.
-pub fn first_reading(grammar: &[u8], history: &[u8], reading: &mut [u8]) -> Result<First, Refusal> {
+pub fn first_reading(grammar: &[u8], history: &[u8], reading: &mut [u8]) -> Result<First, Refused> {
     match wire::first_reading(grammar, history, reading) {
         0 => Ok(First::Written),
         100 => Ok(First::NoReading),
-        k => Err(refusal(k)),
+        k => Err(refused(k, grammar)),
     }
 }
 
 /// Overwrites the reading in the buffer's first n + 1 bytes by the next one.
-pub fn next_reading(grammar: &[u8], history: &[u8], reading: &mut [u8]) -> Result<Next, Refusal> {
+pub fn next_reading(grammar: &[u8], history: &[u8], reading: &mut [u8]) -> Result<Next, Refused> {
     match wire::next_reading(grammar, history, reading) {
         0 => Ok(Next::Written),
         101 => Ok(Next::NoFurther),
-        k => Err(refusal(k)),
+        k => Err(refused(k, grammar)),
     }
 }
 
@@ -216,13 +258,16 @@ pub fn run_calls(
         .collect();
     let mut answers = vec![0; kinds.len()];
     match wire::run_calls(grammar, history, &kinds, &mut answers, buffer) {
-        0 => answers.into_iter().map(call_answer).collect(),
+        0 => answers
+            .into_iter()
+            .map(|answer| call_answer(answer, grammar))
+            .collect(),
         k => foreign(k),
     }
 }
 
 /// The set of each position: the rules that stand there in some reading.
-pub fn sets(grammar: &[u8], history: &[u8]) -> Result<Sets, Refusal> {
+pub fn sets(grammar: &[u8], history: &[u8]) -> Result<Sets, Refused> {
     let mut words = vec![0; WORDS_MAX];
     sets_into(grammar, history, &mut words)?;
     words.truncate(4 * (history_check(history)? + 1));
@@ -231,8 +276,8 @@ pub fn sets(grammar: &[u8], history: &[u8]) -> Result<Sets, Refusal> {
 
 /// The same as words in the caller's buffer: rule 32k + b stands at position p in some reading exactly when bit b of word
 /// 4p + k is 1. The buffer needs 4(n + 1) words; [`WORDS_MAX`] are enough for every history.
-pub fn sets_into(grammar: &[u8], history: &[u8], words: &mut [u32]) -> Result<(), Refusal> {
-    done(wire::sets(grammar, history, words))
+pub fn sets_into(grammar: &[u8], history: &[u8], words: &mut [u32]) -> Result<(), Refused> {
+    done(wire::sets(grammar, history, words), grammar)
 }
 
 /// What [`sets`] gives.
@@ -268,15 +313,15 @@ impl Sets {
 }
 
 /// How many positions have more than one rule in their set.
-pub fn doubtful_count(grammar: &[u8], history: &[u8]) -> Result<usize, Refusal> {
+pub fn doubtful_count(grammar: &[u8], history: &[u8]) -> Result<usize, Refused> {
     let reply = wire::doubtful_count(grammar, history);
-    done(reply.answer)?;
+    done(reply.answer, grammar)?;
     Ok(reply.count as usize)
 }
 
 /// Writes n + 1 bytes: byte i is 1 where the first i tokens alone have a reading, else 0.
-pub fn stop_marks(grammar: &[u8], history: &[u8], marks: &mut [u8]) -> Result<(), Refusal> {
-    done(wire::stop_marks(grammar, history, marks))
+pub fn stop_marks(grammar: &[u8], history: &[u8], marks: &mut [u8]) -> Result<(), Refused> {
+    done(wire::stop_marks(grammar, history, marks), grammar)
 }
 
 /// The readings of a history in their order, each by one call.
@@ -286,9 +331,9 @@ pub fn stop_marks(grammar: &[u8], history: &[u8], marks: &mut [u8]) -> Result<()
 /// for reading in gaffmedlar::readings(&grammar, &history)? {
 ///     println!("{reading:?}");
 /// }
-/// # Ok::<(), gaffmedlar::Refusal>(())
+/// # Ok::<(), gaffmedlar::Refused>(())
 /// ```
-pub fn readings<'a>(grammar: &'a [u8], history: &'a [u8]) -> Result<Readings<'a>, Refusal> {
+pub fn readings<'a>(grammar: &'a [u8], history: &'a [u8]) -> Result<Readings<'a>, Refused> {
     grammar_check(grammar)?;
     let tokens = history_check(history)?;
     let mut reading = vec![0; tokens + 1];
@@ -389,6 +434,67 @@ mod tests {
         assert_eq!(none.words(), [0; 8]);
     }
 
+    fn of_grammar<T>(refusal: Refusal) -> Result<T, Refused> {
+        let file = Some(File::Grammar);
+        Err(Refused { refusal, file })
+    }
+
+    fn of_history<T>(refusal: Refusal) -> Result<T, Refused> {
+        let file = Some(File::History);
+        Err(Refused { refusal, file })
+    }
+
+    fn of_call(refusal: Refusal) -> Refused {
+        let file = None;
+        Refused { refusal, file }
+    }
+
+    /// 1, 2 and 9 can be of either file, and the grammar comes first.
+    #[test]
+    fn which_file() {
+        let refusals: [(Refusal, &[u8], &[u8]); 3] = [
+            (Refusal::BytesEnd, &[1], &[1]),
+            (Refusal::NumberForm, &[128, 0], &[128, 0]),
+            (Refusal::BytesFollow, &[1, 1, 0, 0, 5], &[0, 5]),
+        ];
+        for (refusal, bad_grammar, bad_history) in refusals {
+            assert_eq!(grammar_check(bad_grammar), of_grammar(refusal));
+            assert_eq!(history_check(bad_history), of_history(refusal));
+            for (grammar, due) in [
+                (bad_grammar, of_grammar(refusal)),
+                (&G, of_history(refusal)),
+            ] {
+                let buffer = &mut [0; 8];
+                assert_eq!(
+                    first_reading(grammar, bad_history, buffer),
+                    due.map(|()| First::Written)
+                );
+                assert_eq!(
+                    next_reading(grammar, bad_history, buffer),
+                    due.map(|()| Next::Written)
+                );
+                assert_eq!(stop_marks(grammar, bad_history, buffer), due);
+                assert_eq!(sets_into(grammar, bad_history, &mut []), due);
+                assert_eq!(doubtful_count(grammar, bad_history), due.map(|()| 0));
+                assert_eq!(readings(grammar, bad_history).err(), due.err());
+                let answers = run_calls(grammar, bad_history, &[Call::Next], buffer);
+                assert_eq!(answers, [CallAnswer::Refused(due.unwrap_err())]);
+            }
+            assert_eq!(
+                first_reading(bad_grammar, &[0], &mut [0]),
+                of_grammar(refusal)
+            );
+        }
+        assert_eq!(
+            grammar_check(&[1]).unwrap_err().to_string(),
+            "the grammar: the bytes end inside a number or before one that is due (1)"
+        );
+        assert_eq!(
+            sets(&G, &[1, 1]).unwrap_err().to_string(),
+            "the history: a step still open after the last token (13)"
+        );
+    }
+
     #[test]
     fn refusals_and_other_answers() {
         let mut buffer = [7; 2];
@@ -398,22 +504,30 @@ mod tests {
         );
         assert_eq!(
             first_reading(&G, &[1, 0], &mut buffer[..1]),
-            Err(Refusal::BufferShort)
+            Err(of_call(Refusal::BufferShort))
         );
         assert_eq!(
             first_reading(&[1, 0], &[1, 1], &mut []),
-            Err(Refusal::RuleCount)
+            of_grammar(Refusal::RuleCount)
         );
-        assert_eq!(sets_into(&G, &[1, 1], &mut []), Err(Refusal::StillOpen));
-        assert_eq!(sets_into(&G, &[0], &mut []), Err(Refusal::BufferShort));
-        assert_eq!(sets(&[1, 0], &[1, 1]), Err(Refusal::RuleCount));
+        assert_eq!(
+            sets_into(&G, &[1, 1], &mut []),
+            of_history(Refusal::StillOpen)
+        );
+        let short = of_call(Refusal::BufferShort);
+        assert_eq!(sets_into(&G, &[0], &mut []), Err(short));
+        assert_eq!(
+            short.to_string(),
+            "a lent buffer shorter than its service writes or reads (15)"
+        );
+        assert_eq!(sets(&[1, 0], &[1, 1]), of_grammar(Refusal::RuleCount));
         assert_eq!(buffer, [7; 2]);
         let mut buffer = [9];
         let calls = [Call::Next, Call::First, Call::Next];
         assert_eq!(
             run_calls(&G, &[0], &calls, &mut buffer),
             [
-                CallAnswer::Refused(Refusal::NotAReading),
+                CallAnswer::Refused(of_call(Refusal::NotAReading)),
                 CallAnswer::Written,
                 CallAnswer::NoFurther
             ]
