@@ -11,6 +11,7 @@ ROOT = os.path.dirname(os.path.dirname(os.path.realpath(__file__)))
 sys.path[:0] = [os.path.join(ROOT, "python"), os.path.join(ROOT, "tools")]
 subprocess.run([os.path.join(ROOT, "tools", "build"), "library"], check=True, stdin=subprocess.DEVNULL)
 
+from commands import started  # noqa: E402
 from frames import CLOSE, G, MARK, OPEN, grammar_bytes, history_bytes  # noqa: E402
 
 LIBRARY = os.path.join(ROOT, "target", "shared", "libgaffmedlar.so")
@@ -118,16 +119,15 @@ class InRoom(unittest.TestCase):
                     f.write(data.encode() if isinstance(data, str) else data)
         return self.path(name)
 
-    def run_command(self, status, *words, **more):
+    def run_command(self, status, *words, cwd=None, env=None):
         """What a command prints and says; its status is the one due. The library that was made at the start is used."""
-        more.setdefault("env", dict(os.environ, GAFFMEDLAR_LIBRARY=LIBRARY))
         if os.path.realpath(words[0]) in PROGRAMS:
             words = (sys.executable,) + words  # saves the time in which env looks for it
-        done = subprocess.run(words, stdin=subprocess.DEVNULL, stdout=subprocess.PIPE, stderr=subprocess.PIPE, cwd=more.pop("cwd", self.room), **more)
-        out, err = done.stdout.decode(), done.stderr.decode()
-        self.assertEqual(done.returncode, status, out[-2000:] + err[-2000:])
-        self.assertNotIn("Traceback", err)
-        return out, err
+        said = started(words, cwd=cwd or self.room, env=env or dict(os.environ, GAFFMEDLAR_LIBRARY=LIBRARY))
+        out = said.out.decode()
+        self.assertEqual(said.status, status, out[-2000:] + said.err[-2000:])
+        self.assertFalse(said.traceback, said.err)
+        return out, said.err
 
 
 def seeded(seed):
