@@ -11,11 +11,14 @@ ROOT = os.path.dirname(os.path.dirname(os.path.realpath(__file__)))
 sys.path[:0] = [os.path.join(ROOT, "python"), os.path.join(ROOT, "tools")]
 subprocess.run([os.path.join(ROOT, "tools", "build"), "library"], check=True, stdin=subprocess.DEVNULL)
 
-from commands import started  # noqa: E402
+from commands import command, started  # noqa: E402
 from frames import CLOSE, G, MARK, OPEN, grammar_bytes, history_bytes  # noqa: E402
 
 LIBRARY = os.path.join(ROOT, "target", "shared", "libgaffmedlar.so")
-PROGRAMS = [os.path.join(ROOT, name) for name in ("survey", "explain")]
+# The library that has just been made; so nothing has to look whether it is new.
+os.environ["GAFFMEDLAR_LIBRARY"] = LIBRARY
+# Each runs in a child of the test.
+PROGRAMS = {path: command(path) for path in (os.path.join(ROOT, "survey"), os.path.join(ROOT, "explain"))}
 SAMPLES = sorted(os.listdir(os.path.join(ROOT, "samples")))
 
 
@@ -120,10 +123,13 @@ class InRoom(unittest.TestCase):
         return self.path(name)
 
     def run_command(self, status, *words, cwd=None, env=None):
-        """What a command prints and says; its status is the one due. The library that was made at the start is used."""
-        if os.path.realpath(words[0]) in PROGRAMS:
-            words = (sys.executable,) + words  # saves the time in which env looks for it
-        said = started(words, cwd=cwd or self.room, env=env or dict(os.environ, GAFFMEDLAR_LIBRARY=LIBRARY))
+        """What a command prints and says; its status is the one due."""
+        if words[0] in PROGRAMS and env is None:
+            os.chdir(cwd or self.room)
+            said = PROGRAMS[words[0]](*words[1:])
+            os.chdir(ROOT)
+        else:
+            said = started(words, cwd=cwd or self.room, env=env)
         out = said.out.decode()
         self.assertEqual(said.status, status, out[-2000:] + said.err[-2000:])
         self.assertFalse(said.traceback, said.err)
