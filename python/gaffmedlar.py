@@ -1,0 +1,389 @@
+"""Reads edit histories by a visibly pushdown grammar: the proved library, from Python.
+
+    import gaffmedlar
+    for reading in gaffmedlar.readings(grammar, history):
+        print(*reading)
+
+Every function here calls one proved service of libgaffmedlar.so and turns its number into a value, or into the exception
+Refusal. The services are proved; this module is outside the proofs, and tested.
+
+Files are bytes of any content: a bytes object, a bytearray, a memoryview of bytes. What is not a bytes object is copied
+before the call, so nothing can change it meanwhile. A buffer is memory of the caller's that a service writes: a bytearray
+or another writable row of bytes. A bytes object is never written: where one is handed over as a buffer, that is a
+TypeError. No other thread may use a buffer during the call; otherwise calls from several threads don't disturb each other,
+and they run side by side, since the interpreter's lock is released during a call.
+
+A history of n tokens has positions 0 to n. A reading has one rule number for each of them, so it is n + 1 bytes. A call
+that answers a refusal, "none" or "no further" writes nothing.
+
+The library is the file that the environment variable GAFFMEDLAR_LIBRARY names; otherwise it is looked for beside the
+installed module, and in the repository's target/shared.
+"""
+from __future__ import annotations
+
+import ctypes
+import enum
+import os
+from array import array
+from typing import Any, Iterable, Iterator, List, NamedTuple, Optional, Union
+
+__version__ = "0.1.0"
+
+__all__ = [
+    "Call", "CallAnswer", "First", "GrammarCounts", "Next", "READING_MAX", "REFUSALS", "Refusal", "RefusalRow", "Sets",
+    "WORDS_MAX", "doubtful_count", "first_reading", "grammar_check", "history_check", "next_reading", "readings",
+    "run_calls", "sets", "sets_into", "stop_marks",
+]
+
+READING_MAX = 1025
+"""Bytes of the longest reading: of a history of 1,024 tokens."""
+WORDS_MAX = 4 * READING_MAX
+"""Words of the sets of such a history."""
+
+
+# ---- refusals
+class RefusalRow(NamedTuple):
+    """A row of the table of refusals; `whose` is grammar, history, both (either file) or call."""
+    number: int
+    name: str
+    whose: str
+    words: str
+
+
+REFUSALS = tuple(RefusalRow(*row) for row in (
+    (1, "BYTES_END", "both", "the bytes end inside a number or before one that is due"),
+    (2, "NUMBER_FORM", "both", "a two-byte number whose second byte is 0 or has its top bit set"),
+    (3, "STAGE_COUNT", "grammar", "stage count not 1 to 32"),
+    (4, "RULE_COUNT", "grammar", "rule count not 1 to 128"),
+    (5, "FORM", "grammar", "form above 2"),
+    (6, "STAGE", "grammar", "a stage number not below the stage count"),
+    (7, "NAME", "grammar", "a name above 63"),
+    (8, "RULE_TWICE", "grammar", "a rule equal in form and all fields to an earlier rule"),
+    (9, "BYTES_FOLLOW", "both", "bytes follow the last rule or token"),
+    (10, "TOKEN_COUNT", "history", "token count above 1,024"),
+    (11, "TOKEN", "history", "a token number above 255, or one that leaves 3 when divided by 4"),
+    (12, "CLOSE_WITHOUT_OPEN", "history", "a close with no step open"),
+    (13, "STILL_OPEN", "history", "a step still open after the last token"),
+    (14, "TOO_DEEP", "history", "an open while 128 steps are open"),
+    (15, "BUFFER_SHORT", "call", "a lent buffer shorter than its service writes or reads"),
+    (16, "NOT_A_READING", "call", "the first n + 1 bytes handed to \"next reading\" are no reading of this history"),
+))
+"""All refusals, in the order of their numbers. The table is that of docs/refusals.tsv."""
+
+
+class Refusal(Exception):
+    """A file or a buffer was turned down.
+
+    number   document 01's number, 1 to 16
+    name     the number's name, as in the C header: "STILL_OPEN"
+    words    what is wrong, in words
+    file     "grammar" or "history", whichever file is at fault; None where it is the call (15, 16)
+    """
+
+    def __init__(self, number: int, file: Optional[str]):
+        super().__init__(number, file)
+        row = REFUSALS[number - 1]
+        self.number, self.name, self.words, self.file = row.number, row.name, row.words, file
+
+    def __str__(self) -> str:
+        return "%s%s (%d)" % ("the %s: " % self.file if self.file else "", self.words, self.number)
+
+
+# ---- answers
+class GrammarCounts(NamedTuple):
+    """The counts of a grammar that passes."""
+    stages: int
+    rules: int
+
+
+class First(enum.Enum):
+    """What first_reading answers."""
+    WRITTEN = 0
+    """The first n + 1 bytes of the buffer are the first reading."""
+    NO_READING = 100
+    """"None": the history has no reading; no byte is written."""
+
+
+class Next(enum.Enum):
+    """What next_reading answers."""
+    WRITTEN = 0
+    """The first n + 1 bytes of the buffer are the reading after the one that they held."""
+    NO_FURTHER = 101
+    """"No further": they hold the last reading; no byte is written."""
+
+
+class Call(enum.Enum):
+    """A call of a list for run_calls."""
+    FIRST = 0
+    NEXT = 1
+
+
+class CallAnswer(enum.Enum):
+    """What a call of a list answers, where it isn't refused."""
+    WRITTEN = 0
+    NO_READING = 100
+    NO_FURTHER = 101
+
+
+# ---- the shared library
+class _GrammarReply(ctypes.Structure):
+    _fields_ = [("answer", ctypes.c_uint8), ("stages", ctypes.c_uint16), ("rules", ctypes.c_uint16)]
+
+
+class _HistoryReply(ctypes.Structure):
+    _fields_ = [("answer", ctypes.c_uint8), ("tokens", ctypes.c_uint16)]
+
+
+class _CountReply(ctypes.Structure):
+    _fields_ = [("answer", ctypes.c_uint8), ("count", ctypes.c_uint32)]
+
+
+_READ = [ctypes.c_char_p, ctypes.c_size_t]
+_LENT = [ctypes.c_void_p, ctypes.c_size_t]
+# What include/gaffmedlar.h declares: the reply, and a pointer and a number of elements for each file, list and buffer.
+_SERVICES = {
+    "grammar_check": (_GrammarReply, _READ),
+    "history_check": (_HistoryReply, _READ),
+    "first_reading": (ctypes.c_uint8, _READ + _READ + _LENT),
+    "next_reading": (ctypes.c_uint8, _READ + _READ + _LENT),
+    "run_calls": (ctypes.c_uint8, _READ + _READ + _READ + _LENT + _LENT),
+    "sets": (ctypes.c_uint8, _READ + _READ + _LENT),
+    "doubtful_count": (_CountReply, _READ + _READ),
+    "stop_marks": (ctypes.c_uint8, _READ + _READ + _LENT),
+}
+# Where the library lies, seen from this module's folder: installed, and in the repository.
+_PLACES = ("../libgaffmedlar.so", "../../libgaffmedlar.so", "../../lib/libgaffmedlar.so", "../target/shared/libgaffmedlar.so")
+
+
+def _library_path() -> str:
+    named = os.environ.get("GAFFMEDLAR_LIBRARY")
+    if named:
+        return named
+    here = os.path.dirname(os.path.realpath(__file__))
+    places = [os.path.normpath(os.path.join(here, place)) for place in _PLACES]
+    for place in places:
+        if os.path.exists(place):
+            return place
+    raise ImportError("libgaffmedlar.so is not there. In Gaffmedlar's folder run 'tools/build library', which makes it; or set "
+                      "GAFFMEDLAR_LIBRARY to its path. Looked for: " + ", ".join(places))
+
+
+def _load(path: str) -> ctypes.CDLL:
+    try:
+        # with a slash in it the name is a path, and the system's own folders are not searched
+        library = ctypes.CDLL(os.path.abspath(path))
+        for name, (reply, arguments) in _SERVICES.items():
+            function = getattr(library, "gaffmedlar_" + name)
+            function.restype, function.argtypes = reply, arguments
+    except (OSError, AttributeError) as e:
+        raise ImportError("%s can't be used as libgaffmedlar.so: %s" % (path, e)) from None
+    return library
+
+
+_library = _load(_library_path())
+
+
+# ---- what is handed over
+def _file(data: Any) -> bytes:
+    """A file's bytes; a copy where they could change during the call."""
+    if type(data) is bytes:
+        return data
+    with memoryview(data) as view:
+        if view.itemsize != 1:
+            raise TypeError("a file is bytes, and this has elements of %d bytes" % view.itemsize)
+        return view.tobytes()
+
+
+def _lent(buffer: Any, item: Any = ctypes.c_uint8, formats: str = "Bc", what: str = "bytes: a bytearray, for instance") -> Any:
+    """The caller's buffer as an array over the same memory."""
+    with memoryview(buffer) as view:
+        fits = view.format.lstrip("@=<") in formats and view.itemsize == ctypes.sizeof(item)
+        if view.readonly or not fits or not view.c_contiguous:
+            raise TypeError("a buffer is a writable row of " + what)
+        length = view.nbytes // view.itemsize
+    if length == 0:
+        return (item * 0)()  # some address: the library takes no null pointer
+    lent = (item * length).from_buffer(buffer)
+    if ctypes.addressof(lent) % ctypes.alignment(item):
+        del lent
+        raise ValueError("the buffer's words are not aligned")
+    return lent
+
+
+def _lent_words(buffer: Any) -> Any:
+    return _lent(buffer, ctypes.c_uint32, "IL", "32-bit words: array('I', ..), for instance")
+
+
+def _call(service: str, *values: Any) -> Any:
+    """Calls a service with the address and the number of elements of each value.
+
+    A buffer's array is an argument of this function alone, so that an exception which is raised for the answer doesn't
+    keep it, and with it the caller's buffer, from being released.
+    """
+    arguments = [part for value in values for part in (value, len(value))]
+    return getattr(_library, "gaffmedlar_" + service)(*arguments)
+
+
+# ---- answers from numbers
+def _refusal(number: int, grammar: Optional[bytes], history: Optional[bytes]) -> Refusal:
+    """The refusal of a call with these files; None for a file that the service doesn't take."""
+    if not 1 <= number <= len(REFUSALS):
+        raise RuntimeError("libgaffmedlar.so answered %d, which no promise allows: was another library loaded?" % number)
+    whose = REFUSALS[number - 1].whose
+    if whose == "both":
+        of_grammar = grammar is not None and _call("grammar_check", grammar).answer != 0
+        whose = "grammar" if of_grammar else "history"
+    return Refusal(number, None if whose == "call" else whose)
+
+
+def _done(number: int, grammar: Optional[bytes], history: Optional[bytes]) -> None:
+    if number != 0:
+        raise _refusal(number, grammar, history)
+
+
+# ---- the services
+def grammar_check(grammar: Any) -> GrammarCounts:
+    """Checks a grammar file and gives its counts. Raises Refusal (1 to 9)."""
+    grammar = _file(grammar)
+    reply = _call("grammar_check", grammar)
+    _done(reply.answer, grammar, None)
+    return GrammarCounts(reply.stages, reply.rules)
+
+
+def history_check(history: Any) -> int:
+    """Checks a history file and gives its number of tokens. Raises Refusal (1, 2, 9 to 14)."""
+    history = _file(history)
+    reply = _call("history_check", history)
+    _done(reply.answer, None, history)
+    return reply.tokens
+
+
+def first_reading(grammar: Any, history: Any, reading: Any) -> First:
+    """Writes the first reading into the first n + 1 bytes of the buffer `reading`. Raises Refusal (1 to 15)."""
+    grammar, history = _file(grammar), _file(history)
+    number = _call("first_reading", grammar, history, _lent(reading))
+    if number == First.NO_READING.value:
+        return First.NO_READING
+    _done(number, grammar, history)
+    return First.WRITTEN
+
+
+def next_reading(grammar: Any, history: Any, reading: Any) -> Next:
+    """Overwrites the reading in the first n + 1 bytes of the buffer `reading` by the next one. Raises Refusal (1 to 16).
+
+    The buffer itself is written, so it has to be a bytearray or another writable row of bytes.
+    """
+    grammar, history = _file(grammar), _file(history)
+    number = _call("next_reading", grammar, history, _lent(reading))
+    if number == Next.NO_FURTHER.value:
+        return Next.NO_FURTHER
+    _done(number, grammar, history)
+    return Next.WRITTEN
+
+
+def run_calls(grammar: Any, history: Any, calls: Iterable[Call], buffer: Any) -> List[Union[CallAnswer, Refusal]]:
+    """Makes the calls of a list, each on the buffer as the one before left it, and gives the answer to each.
+
+    A refusal is such an answer, and is not raised.
+    """
+    grammar, history = _file(grammar), _file(history)
+    kinds = bytes(Call(call).value for call in calls)
+    answers = bytearray(len(kinds))
+    _done(_call("run_calls", grammar, history, kinds, _lent(answers), _lent(buffer)), grammar, history)
+    known = {answer.value: answer for answer in CallAnswer}
+    for number in set(answers) - set(known):
+        known[number] = _refusal(number, grammar, history)
+    return [known[number] for number in answers]
+
+
+class Sets:
+    """What `sets` gives: the rules that stand at each position in some reading."""
+
+    def __init__(self, words: array):
+        self._words = words
+
+    def positions(self) -> int:
+        """How many positions there are: n + 1."""
+        return len(self._words) // 4
+
+    def contains(self, position: int, rule: int) -> bool:
+        """Whether the rule stands at the position in some reading; False where there is no such position or rule."""
+        if not (0 <= position < self.positions() and 0 <= rule < 128):
+            return False
+        return self._words[4 * position + rule // 32] >> rule % 32 & 1 == 1
+
+    def rules(self, position: int) -> List[int]:
+        """The rules that stand at the position in some reading, smaller numbers first."""
+        if not 0 <= position < self.positions():
+            return []
+        words = enumerate(self._words[4 * position:4 * position + 4])
+        return [32 * k + b for k, word in words if word for b in range(32) if word >> b & 1]
+
+    def words(self) -> array:
+        """Four words for each position, as sets_into writes them; a copy."""
+        return self._words[:]
+
+
+def _word_array(length: int) -> array:
+    """So many words of 32 bits, all 0."""
+    code = "I" if array("I").itemsize == 4 else "L"
+    return array(code, bytes(4 * length))
+
+
+def sets(grammar: Any, history: Any) -> Sets:
+    """The set of each position: the rules that stand there in some reading. Raises Refusal (1 to 14)."""
+    grammar, history = _file(grammar), _file(history)
+    words = _word_array(WORDS_MAX)
+    sets_into(grammar, history, words)
+    return Sets(words[:4 * (history_check(history) + 1)])
+
+
+def sets_into(grammar: Any, history: Any, words: Any) -> None:
+    """The same as 32-bit words in the caller's buffer, array('I', ..) for instance. Raises Refusal (1 to 15).
+
+    Rule 32 k + b stands at position p in some reading exactly when bit b of word 4 p + k is 1. The buffer needs 4 (n + 1)
+    words; WORDS_MAX are enough for every history.
+    """
+    grammar, history = _file(grammar), _file(history)
+    _done(_call("sets", grammar, history, _lent_words(words)), grammar, history)
+
+
+def doubtful_count(grammar: Any, history: Any) -> int:
+    """How many positions have more than one rule in their set. Raises Refusal (1 to 14)."""
+    grammar, history = _file(grammar), _file(history)
+    reply = _call("doubtful_count", grammar, history)
+    _done(reply.answer, grammar, history)
+    return reply.count
+
+
+def stop_marks(grammar: Any, history: Any, marks: Any = None) -> Any:
+    """Writes n + 1 bytes: byte i is 1 where the first i tokens alone have a reading, else 0. Raises Refusal (1 to 15).
+
+    They are written into the buffer `marks`, and into a new bytearray of n + 1 bytes where none is handed over. Gives the
+    buffer.
+    """
+    grammar, history = _file(grammar), _file(history)
+    if marks is None:
+        grammar_check(grammar)
+        marks = bytearray(history_check(history) + 1)
+    _done(_call("stop_marks", grammar, history, _lent(marks)), grammar, history)
+    return marks
+
+
+def readings(grammar: Any, history: Any) -> Iterator[bytes]:
+    """The readings of a history in their order, each made by one call when it is asked for.
+
+    A reading is a bytes object: reading[p] is the rule at position p. Refusal (1 to 14) is raised by the call itself, not by
+    the first step of the iteration.
+    """
+    grammar, history = _file(grammar), _file(history)
+    grammar_check(grammar)
+    buffer = bytearray(history_check(history) + 1)
+    written = first_reading(grammar, history, buffer) is First.WRITTEN
+    return _each_reading(grammar, history, buffer, written)
+
+
+def _each_reading(grammar: bytes, history: bytes, buffer: bytearray, written: bool) -> Iterator[bytes]:
+    while written:
+        yield bytes(buffer)
+        written = next_reading(grammar, history, buffer) is Next.WRITTEN

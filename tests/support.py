@@ -1,0 +1,140 @@
+"""What the tests in Python share: the library made, its module and the reader of tools/ at hand, and frames by fixed seeds."""
+import os
+import random
+import shutil
+import subprocess
+import sys
+import tempfile
+import unittest
+
+ROOT = os.path.dirname(os.path.dirname(os.path.realpath(__file__)))
+sys.path[:0] = [os.path.join(ROOT, "python"), os.path.join(ROOT, "tools")]
+subprocess.run([os.path.join(ROOT, "tools", "build"), "library"], check=True, stdin=subprocess.DEVNULL)
+
+from commands import command, started  # noqa: E402
+from frames import CLOSE, G, MARK, OPEN, grammar_bytes, history_bytes  # noqa: E402
+
+LIBRARY = os.path.join(ROOT, "target", "shared", "libgaffmedlar.so")
+# The library that has just been made; so nothing has to look whether it is new.
+os.environ["GAFFMEDLAR_LIBRARY"] = LIBRARY
+# Each runs in a child of the test.
+PROGRAMS = {path: command(path) for path in (os.path.join(ROOT, "survey"), os.path.join(ROOT, "explain"))}
+SAMPLES = sorted(os.listdir(os.path.join(ROOT, "samples")))
+
+
+def sample(name, file):
+    with open(os.path.join(ROOT, "samples", name, file), "rb") as f:
+        return f.read()
+
+
+def random_tokens(draw, length):
+    """A well-matched row of tokens with names 0 and 1."""
+    tokens, opens = [], 0
+    while len(tokens) + opens < length:
+        kind = draw.choice((0, 0, 1, 2))
+        if kind == 2 and opens == 0:
+            continue
+        opens += (kind == 1) - (kind == 2)
+        tokens.append(4 * draw.randrange(2) + kind)
+    return tokens + [2] * opens
+
+
+def random_frame(draw):
+    """A grammar and a history that both pass; most of these have readings."""
+    stages = draw.randint(1, 3)
+    def stage():
+        return draw.randrange(stages)
+    def rule():
+        form = draw.choice((1, 1, 2, 2, 2))
+        if form == 1:
+            return (1, stage(), draw.randrange(2), stage())
+        return (2, stage(), draw.randrange(2), stage(), draw.randrange(2), stage())
+    rules = {(0, k): None for k in range(stages)}
+    rules.update((rule(), None) for _ in range(draw.randint(4, 24)))
+    rules = list(rules)
+    draw.shuffle(rules)
+    return grammar_bytes(stages, rules), history_bytes(random_tokens(draw, draw.randint(0, 12)))
+
+
+def damaged(draw, data):
+    """A file with a few bytes changed, left out, put in, or with its end cut off."""
+    data = bytearray(data)
+    for _ in range(draw.randint(1, 3)):
+        at, byte = draw.randint(0, len(data)), draw.choice((0, 1, 2, 3, 31, 32, 33, 63, 64, 127, 128, 129, 255, draw.randrange(256)))
+        what = draw.randrange(4)
+        if what == 0:
+            data[at:at + 1] = [byte]
+        elif what == 1:
+            data[at:at] = [byte]
+        elif what == 2:
+            del data[at:at + 1]
+        elif draw.randrange(4) == 0:
+            del data[at:]
+    return bytes(data)
+
+
+def frame_with(*widths):
+    """One step behind the other, each with a name of its own and as many rules as its width: the product of the widths is how many
+    readings there are."""
+    stages = 1 + max(widths)
+    steps = [[2, 0, name, 1 + k, name, 0] for name, width in enumerate(widths) for k in range(width)]
+    rules = [[0, 0]] + steps + [[0, 1 + k] for k in range(stages - 1)]
+    return grammar_bytes(stages, rules), history_bytes([t for name in range(len(widths)) for t in (4 * name + 1, 4 * name + 2)])
+
+
+class Listing:
+    """What a listing says."""
+
+    def __init__(self, text):
+        self.lines = text.splitlines()
+        self.last = self.lines[-1]
+        said = dict(line.split(" ", 1) for line in self.lines if ":" not in line and " " in line)
+        self.refused = self.last if self.last.startswith("refused") else None
+        self.tokens, self.doubtful = (int(said.get(word, 0)) for word in ("tokens", "doubtful"))
+        self.readings = [tuple(map(int, line.partition(":")[2].split())) for line in self.lines if ":" in line]
+        self.more = self.last == "more 1000"
+
+
+class InRoom(unittest.TestCase):
+    """A test with a temporary folder, in which commands run."""
+
+    def setUp(self):
+        self.room = os.path.realpath(tempfile.mkdtemp())
+        self.addCleanup(self.clear)
+
+    def clear(self):
+        for folder, below, _ in os.walk(self.room):
+            for name in below:
+                path = os.path.join(folder, name)
+                if not os.path.islink(path):
+                    os.chmod(path, 0o700)
+        shutil.rmtree(self.room)
+
+    def path(self, *names):
+        return os.path.join(self.room, *names)
+
+    def frame(self, name, grammar=None, history=None, grammar_text=None, history_text=None):
+        """A folder with these files; None for one that isn't there."""
+        os.makedirs(self.path(name), exist_ok=True)
+        for file, data in [("grammar.bin", grammar), ("history.bin", history), ("grammar.txt", grammar_text), ("history.txt", history_text)]:
+            if data is not None:
+                with open(self.path(name, file), "wb") as f:
+                    f.write(data.encode() if isinstance(data, str) else data)
+        return self.path(name)
+
+    def run_command(self, status, *words, cwd=None, env=None):
+        """What a command prints and says; its status is the one due."""
+        if words[0] in PROGRAMS and env is None:
+            os.chdir(cwd or self.room)
+            said = PROGRAMS[words[0]](*words[1:])
+            os.chdir(ROOT)
+        else:
+            said = started(words, cwd=cwd or self.room, env=env)
+        out = said.out.decode()
+        self.assertEqual(said.status, status, out[-2000:] + said.err[-2000:])
+        self.assertFalse(said.traceback, said.err)
+        return out, said.err
+
+
+def seeded(seed):
+    return random.Random(seed)
