@@ -9,8 +9,8 @@ ghost use Prim.Native.Nat.{_*_, _≤_, _<_};
 ghost use Rattle.vpg.specs.Steps.{left};
 ghost use Rattle.tables.specs.Table.{sixOf, ruleFrom, sixIn, ruleIn, rulesIn, putSix, sameRule, earlier};
 
-// The rules of a grammar, six numbers to each; at most 128.
-pub type Table = [u16; 768];
+// The rules of a grammar, at most 128, six numbers to each; behind them, from number 768 on, room for the index that crates/rule_index keeps.
+pub type Table = [u16; 1186];
 
 // What a grammar file says before its rules: how many nonterminals there are, the start, and how many rules.
 pub struct Head {

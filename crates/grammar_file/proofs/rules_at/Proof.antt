@@ -18,7 +18,7 @@ use Rattle.grammar_file.proofs.rules_at.Tie as tie
 abbrev Inv-loop : tie.InvT-loop
 Inv-loop s from head table₀ count at₀ k₀ table at k =
     (k ≤ head .rules)
-    × (length table ≡ 768)
+    × (length table ≡ 1186)
     × (table ≡ tableOf (rulesIn table k))
     × (rulesFrom (bytes s) (head .nonterminals) (head .start) (head .rules - k) at (rulesIn table k) ≡ rulesFrom (bytes s) (head .nonterminals) (head .start) (head .rules) from [])
 

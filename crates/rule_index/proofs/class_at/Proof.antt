@@ -1,0 +1,53 @@
+-- `rule_index::class_at` meets its contract.
+use borrow.Author.Needs.{needs}
+use Rattle.rule_index.proofs.class_at.Statement.{statement}
+use Rattle.rule_index.proofs.class_at.Tie as tie
+
+enum-known-token : tie.Need-enum-known-token
+enum-known-token c = search needs
+
+number-requires : tie.Need-number-requires
+number-requires c κs = search needs
+
+mul-result : tie.Need-mul-result
+mul-result c = search needs
+
+enum-known-token-2 : tie.Need-enum-known-token-2
+enum-known-token-2 c = search needs
+
+number-requires-2 : tie.Need-number-requires-2
+number-requires-2 c κs = search needs
+
+mul-result-2 : tie.Need-mul-result-2
+mul-result-2 c = search needs
+
+add-result : tie.Need-add-result
+add-result c = search needs
+
+enum-told : tie.Need-enum-told
+enum-told c = search needs
+
+returns : tie.Need-returns
+returns c = simp (c .number .ensures, c .before .before .token .given .1)
+
+returns-2 : tie.Need-returns-2
+returns-2 c = simp (c .number2 .ensures, c .before .before .token2 .given .1)
+
+returns-3 : tie.Need-returns-3
+returns-3 c = search needs
+
+pub class-at-spec : {M : Type 1} → statement M
+class-at-spec =
+    tie.close
+    (tie.spec
+    enum-known-token
+    number-requires
+    mul-result
+    enum-known-token-2
+    number-requires-2
+    mul-result-2
+    add-result
+    enum-told
+    returns
+    returns-2
+    returns-3)
