@@ -47,7 +47,8 @@ pub fn last_position(
         p -= 1;
         let context = levels::context_at(tokens, closes, masks, p);
         let nonterminal = at[p];
-        let mut r = rule_index::next_of(table, reading[p] as usize);
+        let old = reading[p] as usize;
+        let mut r = rule_index::next_of(table, old);
         while r < count {
             if first_run::fits(table, r, nonterminal, context) {
                 break 'search Found::At(p, r);

@@ -16,13 +16,13 @@ use Rattle.next_run.proofs.last_position.Statement.{statement}
 use Rattle.next_run.proofs.last_position.Tie as tie
 
 abbrev Inv-loop : tie.InvT-loop
-Inv-loop table tokens closes masks at reading count p context nonterminal r₀ r =
+Inv-loop table tokens closes masks at reading count p context nonterminal old r₀ r =
     (getD reading p 0 < r)
     × NoneBetween table (getD reading p 0) nonterminal context r
     × (r < count → classOf (ruleIn table r) ≡ classAt (tokenHere context))
 
 abbrev μ-loop : tie.MeasureT-loop
-μ-loop table tokens closes masks at reading count p context nonterminal r₀ r = count - r
+μ-loop table tokens closes masks at reading count p context nonterminal old r₀ r = count - r
 
 abbrev Inv-search : tie.InvT-search
 Inv-search table tokens closes masks at reading count p₀ p = (p ≤ length tokens + 1) × NoneFrom table count (tokensOf tokens) at reading p
@@ -57,11 +57,11 @@ element-copy-out-nonterminal c =
     let s = c .before .before .before .before .before in
     omega (arith, s .pre .0 .tokens .few)
 
-shared-slice-read-next-of : tie.Need-shared-slice-read-next-of Inv-loop μ-loop Inv-search μ-search
-shared-slice-read-next-of c = search needs
+shared-slice-read-old : tie.Need-shared-slice-read-old Inv-loop μ-loop Inv-search μ-search
+shared-slice-read-old c = search needs
 
-cast-next-of : tie.Need-cast-next-of Inv-loop μ-loop Inv-search μ-search
-cast-next-of c = omega (arith, c .shared-slice-known3 .given (c .before .before .before .before .search .p - 1))
+cast-old : tie.Need-cast-old Inv-loop μ-loop Inv-search μ-search
+cast-old c = omega (arith, c .shared-slice-known3 .given (c .before .before .before .before .search .p - 1))
 
 next-of-requires : tie.Need-next-of-requires Inv-loop μ-loop Inv-search μ-search
 next-of-requires c κs =
@@ -162,8 +162,8 @@ last-position-spec =
     context-at-requires
     mul-nonterminal
     element-copy-out-nonterminal
-    shared-slice-read-next-of
-    cast-next-of
+    shared-slice-read-old
+    cast-old
     next-of-requires
     loop-holds
     search-less
