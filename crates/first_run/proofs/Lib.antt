@@ -1,3 +1,4 @@
 pub mod Passing
 pub mod Sofar
+pub mod Walking
 pub mod Whole

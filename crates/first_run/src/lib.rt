@@ -13,7 +13,8 @@ ghost use Rattle.listing_model.specs.believed.Listing.{first, overEntries};
 ghost use Rattle.listing_model.specs.Calls.{callOn};
 ghost use Rattle.level_theory.specs.Walk.{inner, later};
 ghost use Rattle.tables.specs.Table.{ruleFrom, ruleIn};
-ghost use Rattle.tables.specs.Ready.{Below, Ready, rulesOf, grammarIn};
+ghost use Rattle.tables.specs.Ready.{Below, rulesOf, grammarIn};
+ghost use Rattle.rule_index.specs.Index.{FirstEmpty, Indexed};
 ghost use Rattle.history_file.specs.believed.HistoryFile.{tokensOf};
 ghost use Rattle.levels.specs.Levels.{Setting};
 ghost use Rattle.first_run.specs.Fill.{ruleFits, Smallest, Derives, Filled};
@@ -31,18 +32,34 @@ pub fn fits(table: &Table, r: usize, nonterminal: u16, context: Context) -> bool
     }
 }
 
+// The empty rule of the nonterminal; the number of rules where there is none. No rule is for a nonterminal from 32 on.
+fn empty_rule(table: &Table, head: Head, nonterminal: u16) -> usize
+    requires { ⌜ Indexed (now table) head ⌝ }
+    ensures { λ r. ⌜ FirstEmpty (now (table .entry)) (head .rules) nonterminal r ⌝ }
+{
+    if nonterminal < 32 {
+        rule_index::end_of(table, nonterminal as usize)
+    } else {
+        head.rules
+    }
+}
+
 // The smallest rule for the nonterminal that can stand here; the number of rules where there is none.
 pub fn smallest(table: &Table, head: Head, nonterminal: u16, context: Context) -> usize
-    requires { ⌜ Ready (now table) head ⌝ }
+    requires { ⌜ Indexed (now table) head ⌝ }
     ensures { λ r. ⌜ Smallest (now (table .entry)) head nonterminal context r ⌝ }
 {
+    if 2 <= context.kind {
+        return empty_rule(table, head, nonterminal);
+    }
     let count = head.rules;
-    let mut r: usize = 0;
+    let class = rule_index::class_at(contexts::token_of(context));
+    let mut r = rule_index::first_of(table, class);
     while r < count {
         if fits(table, r, nonterminal, context) {
             return r;
         }
-        r += 1;
+        r = rule_index::next_of(table, r);
     }
     r
 }

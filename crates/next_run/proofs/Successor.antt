@@ -2,15 +2,16 @@
 use Prim.Native.Nat.{ℕ, zero, suc, _+_, _-_, _<_, _≤_}
 use native.Mathlib.Nat.{eq-or-lt-of-le}
 use native.Mathlib.Omega.{arith}
-use mathlib.Core.Path.{_≡_, sym, _∙_, ap, ap₂, subst}
+use mathlib.Core.Path.{_≡_, refl, sym, _∙_, ap, ap₂, subst}
 use mathlib.Core.Logic.{⊎-elim}
 use mathlib.Core.Bool.{true, false, false≢true}
 use mathlib.Core.List.{List, [], _∷_, _++_}
-use mathlib.Core.Option.{Option·some-injective}
+use mathlib.Core.Option.{some, Option·some-injective}
 use borrow.Author.Tests.{eqb-true, eq-eqb}
 use lib.Dec.{eqb}
-use lib.ListN.{length, take, drop, getD, take-append-drop, drop-of-length-le}
+use lib.ListN.{length, take, drop, getD, getElem?, take-append-drop, drop-of-length-le}
 use lib.Seq.{drop-cons, take-take}
+use Rattle.vpg.specs.declared.Rule.{Rule}
 use Rattle.vpg.specs.declared.Token.{Token}
 use Rattle.vpg.specs.believed.Grammar.{Rules}
 use Rattle.vpg.specs.Extremes.{Least, Next, Last}
@@ -22,14 +23,14 @@ use Rattle.vpg.proofs.Ascends.{entries-ascending}
 use Rattle.laws.proofs.Bools.{and-left, and-right, both}
 use Rattle.listing_model.proofs.Calls.{next-refused, next-written, next-no-further}
 use Rattle.vpg.proofs.Take.{end}
-use Rattle.level_theory.specs.Masks.{finishes}
+use Rattle.level_theory.specs.Masks.{finishes, masks}
 use Rattle.level_theory.specs.Pending.{pendingAt, closeOf, dueAt}
 use Rattle.level_theory.specs.Walk.{Run, testAt}
 use Rattle.level_theory.specs.Local.{stateAt}
-use Rattle.level_theory.proofs.Alive.{Passes, run-fits}
+use Rattle.level_theory.proofs.Alive.{Passes, goes-applies, run-fits}
 use Rattle.level_theory.proofs.Search.{None, end-last, end-next}
 use Rattle.level_theory.proofs.Walk.{passes-end, end-passes}
-use Rattle.level_theory.proofs.Local.{Turn, turn, RunFrom, LastFrom, NextFrom, run-left, last-left, next-here, next-all}
+use Rattle.level_theory.proofs.Local.{Turn, turn, RunFrom, LastFrom, NextFrom, leads, run-left, last-left, next-here, next-all}
 use Rattle.tables.specs.declared.Head.{Head}
 use Rattle.tables.specs.Table.{ruleIn}
 use Rattle.tables.specs.Ready.{rulesOf, grammarIn}
@@ -42,7 +43,7 @@ use Rattle.first_run.specs.Fill.{stateOf, Derives}
 use Rattle.replay.specs.Replayed.{Reads}
 use Rattle.replay.proofs.Replaying.{number, numbers, state-start}
 use Rattle.next_run.specs.declared.Branch.{Branch}
-use Rattle.next_run.specs.Next.{fitsAt, NoneFrom, LastAt, Follows, onward, Rewritten}
+use Rattle.next_run.specs.Next.{fitsAt, EachFits, NoneFrom, LastAt, Follows, onward, Rewritten}
 
 module _ {t : List ℕ} {head : Head} {ts m mask : List ℕ} (set-up : Setting t head ts m mask) (buf : List ℕ) (long : length ts < length buf) where
   abbrev W : List Token
@@ -91,6 +92,30 @@ module _ {t : List ℕ} {head : Head} {ts m mask : List ℕ} (set-up : Setting t
     run-from : (d p : ℕ) → p + d ≡ length W → RunFrom G W at f E p
     run-from zero p e = let q : p ≡ length W = omega arith in rw q run-end
     run-from (suc d) p e = run-left G W at f E p (k .leads p (omega arith)) (omega (arith, numbers ts buf long, tokens-length ts)) (run-from d (suc p) (omega arith))
+
+    -- ── each number is a rule that fits where it stands ──
+
+    fits-rule : (q r : ℕ) (R : Rule) → getElem? G r ≡ some R → left R ≡ getD at q 0 → testAt G (drop q W) R ≡ true → (r < head .rules) × (fitsAt t (head .rules) W at q r ≡ true)
+    fits-rule q r R i a x =
+        let l = rules-below t (head .rules) r i in
+        let e : ruleIn t r ≡ R = Option·some-injective _ _ (sym (rules-at t (head .rules) r l) ∙ i) in
+        (l, both (eq-eqb _ _ (ap left e ∙ a)) (rw e x))
+
+    fits-before : (q : ℕ) → q < length W → (getD E q 0 < head .rules) × (fitsAt t (head .rules) W at q (getD E q 0) ≡ true)
+    unfolding testAt
+    fits-before q l =
+        let d = k .leads q l in
+        let v = leads G W at f E q d (omega (arith, numbers ts buf long, tokens-length ts)) in
+        let s = stateAt W at f (suc q) in
+        let a = goes-applies (masks G (drop (suc q) W)) (v .goes) (run-fits G (drop (suc q) W) (s .0) (s .1) (drop (suc q) E) (run-from (length W - suc q) (suc q) (omega arith))) in
+        fits-rule q (getD E q 0) (v .rule) (v .is) (a .from) (rw (d .here) (a .applied))
+
+    fits-end : (getD E (length W) 0 < head .rules) × (fitsAt t (head .rules) W at (length W) (getD E (length W) 0) ≡ true)
+    unfolding testAt
+    fits-end = fits-rule (length W) (getD E (length W) 0) (Rule.Empty (getD at (length W) 0)) (k .ends) refl (rw done refl)
+
+    pub each-fits : EachFits t (head .rules) W at buf
+    each-fits q l = rw (← (number ts buf q (omega (arith, tokens-length ts)))) (⊎-elim (λ e. rw e fits-end) (λ h. fits-before q h) (eq-or-lt-of-le l))
 
     -- the state at position 0 is the start, with nothing due
     at-start : (P : State → Type 0) → P (stateAt W at f 0) → P (head .start, [])

@@ -27,6 +27,10 @@ use Rattle.next_run.specs.declared.NextAnswer.{NextAnswer}
 abbrev pub fitsAt : List ℕ → ℕ → List Token → List ℕ → ℕ → ℕ → Bool
 fitsAt t n w at q r = eqb (left (ruleIn t r)) (getD at q 0) && testAt (rulesIn t n) (drop q w) (ruleIn t r)
 
+-- each number of e is a rule that fits where it stands
+abbrev pub EachFits : List ℕ → ℕ → List Token → List ℕ → List ℕ → Type 0
+EachFits t n w at e = (q : ℕ) → q ≤ length w → (getD e q 0 < n) × (fitsAt t n w at q (getD e q 0) ≡ true)
+
 -- from position p on no rule with a larger number than the one in e fits
 abbrev pub NoneFrom : List ℕ → ℕ → List Token → List ℕ → List ℕ → ℕ → Type 0
 NoneFrom t n w at e p = (q : ℕ) → p ≤ q → q ≤ length w → (r : ℕ) → getD e q 0 < r → r < n → fitsAt t n w at q r ≡ false

@@ -14,7 +14,7 @@ ghost use Rattle.tables.specs.Ready.{rulesOf, grammarIn};
 ghost use Rattle.history_file.specs.believed.HistoryFile.{tokensOf};
 ghost use Rattle.levels.specs.Levels.{Setting};
 ghost use Rattle.first_run.specs.Fill.{Derives};
-ghost use Rattle.next_run.specs.Next.{LastPosition, onward, Rewritten, nextSaid};
+ghost use Rattle.next_run.specs.Next.{EachFits, LastPosition, onward, Rewritten, nextSaid};
 
 // The position and the rule found, or nothing.
 pub enum Found {
@@ -22,7 +22,8 @@ pub enum Found {
     Nothing,
 }
 
-// The last position at which a larger rule still leads to a reading, and the smallest such rule there.
+// The last position at which a larger rule still leads to a reading, and the smallest such rule there: it comes behind the one in the buffer in
+// its class.
 pub fn last_position(
     table: &Table,
     head: Head,
@@ -34,6 +35,7 @@ pub fn last_position(
 ) -> Found
     requires { ⌜ Setting (now table) head (now tokens) (now closes) (now masks) ⌝ }
     requires { ⌜ length (now tokens) < length (now reading) ⌝ }
+    requires { ⌜ EachFits (now table) (head .rules) (tokensOf (now tokens)) (now at) (now reading) ⌝ }
     ensures { λ r. ⌜ LastPosition (now (table .entry)) (head .rules) (tokensOf (now (tokens .entry))) (now (at .entry)) (now (reading .entry)) r ⌝ }
 {
     let count = head.rules;
@@ -45,12 +47,13 @@ pub fn last_position(
         p -= 1;
         let context = levels::context_at(tokens, closes, masks, p);
         let nonterminal = at[p];
-        let mut r = reading[p] as usize + 1;
+        let old = reading[p] as usize;
+        let mut r = rule_index::next_of(table, old);
         while r < count {
             if first_run::fits(table, r, nonterminal, context) {
                 break 'search Found::At(p, r);
             }
-            r += 1;
+            r = rule_index::next_of(table, r);
         }
     };
     found

@@ -10,7 +10,8 @@ ghost use lib.ListN.{length};
 ghost use Rattle.listing_model.specs.believed.Listing.{first, next, overEntries};
 ghost use Rattle.listing_model.specs.Calls.{callOn};
 ghost use Rattle.level_theory.specs.Pending.{WellMatched};
-ghost use Rattle.tables.specs.Ready.{Ready, grammarIn};
+ghost use Rattle.tables.specs.Ready.{grammarIn};
+ghost use Rattle.rule_index.specs.Index.{Indexed};
 ghost use Rattle.history_file.specs.believed.HistoryFile.{tokensOf};
 ghost use Rattle.history_file.specs.HistoryTokens.{Tokens};
 ghost use Rattle.service.specs.Opening.{refusalOf};
@@ -34,7 +35,7 @@ fn refused(opened: Opened) -> Answer
 }
 
 fn first_on(table: &Table, head: Head, tokens: &[u32], reading: &mut [u8]) -> Answer
-    requires { ⌜ Ready (now table) head ⌝ }
+    requires { ⌜ Indexed (now table) head ⌝ }
     requires { ⌜ Tokens (now tokens) × WellMatched (tokensOf (now tokens)) ⌝ }
     requires { ⌜ length (now tokens) < length (now reading) ⌝ }
     ensures { λ r. ⌜ (said r, now (reading .exit)) ≡ callOn (overEntries (grammarIn (now (table .entry)) head) (tokensOf (now (tokens .entry)))) first (now (reading .entry)) ⌝ }
@@ -49,7 +50,7 @@ fn first_on(table: &Table, head: Head, tokens: &[u32], reading: &mut [u8]) -> An
 }
 
 fn next_on(table: &Table, head: Head, tokens: &[u32], reading: &mut [u8]) -> Answer
-    requires { ⌜ Ready (now table) head ⌝ }
+    requires { ⌜ Indexed (now table) head ⌝ }
     requires { ⌜ Tokens (now tokens) × WellMatched (tokensOf (now tokens)) ⌝ }
     requires { ⌜ length (now tokens) < length (now reading) ⌝ }
     ensures { λ r. ⌜ (said r, now (reading .exit)) ≡ callOn (overEntries (grammarIn (now (table .entry)) head) (tokensOf (now (tokens .entry)))) next (now (reading .entry)) ⌝ }

@@ -2,3 +2,4 @@ pub mod Building
 pub mod Chains
 pub mod Classes
 pub mod Kept
+pub mod Walk

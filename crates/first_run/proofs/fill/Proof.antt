@@ -29,21 +29,21 @@ context-at-requires c κs =
 
 smallest-requires : tie.Need-smallest-requires Inv-loop μ-loop
 smallest-requires c κs =
-    c .before .before .before .before .before .before .pre .0 .ready
+    c .before .before .before .before .before .before .pre .0 .indexed
 
 six-in-requires : tie.Need-six-in-requires Inv-loop μ-loop
 six-in-requires c κs =
     let l = c .before .before .before in
     let s = l .before .before .before .before in
     let a = s .args in
-    omega (arith, s .pre .0 .ready .few, found-rule (s .pre .0) (a .from) (a .out .now) (s .pre .1 .0 .2) (l .loop .inv) (c .before .context-at .result) (c .before .context-at .ensures) (c .smallest .result) (c .smallest .ensures))
+    omega (arith, s .pre .0 .indexed .ready .few, found-rule (s .pre .0) (a .from) (a .out .now) (s .pre .1 .0 .2) (l .loop .inv) (c .before .context-at .result) (c .before .context-at .ensures) (c .smallest .result) (c .smallest .ensures))
 
 cast-out : tie.Need-cast-out Inv-loop μ-loop
 cast-out c =
     let l = c .before .before .before .before in
     let s = l .before .before .before .before in
     let a = s .args in
-    omega (arith, s .pre .0 .ready .few, found-rule (s .pre .0) (a .from) (a .out .now) (s .pre .1 .0 .2) (l .loop .inv) (c .before .before .context-at .result) (c .before .before .context-at .ensures) (c .before .smallest .result) (c .before .smallest .ensures))
+    omega (arith, s .pre .0 .indexed .ready .few, found-rule (s .pre .0) (a .from) (a .out .now) (s .pre .1 .0 .2) (l .loop .inv) (c .before .before .context-at .result) (c .before .before .context-at .ensures) (c .before .smallest .result) (c .before .smallest .ensures))
 
 slice-write-out : tie.Need-slice-write-out Inv-loop μ-loop
 slice-write-out c = search needs
@@ -103,14 +103,14 @@ context-at-requires-2 c κs =
 
 smallest-requires-2 : tie.Need-smallest-requires-2 Inv-loop μ-loop
 smallest-requires-2 c κs =
-    c .before .before .before .before .before .before .pre .0 .ready
+    c .before .before .before .before .before .before .pre .0 .indexed
 
 cast-out-2 : tie.Need-cast-out-2 Inv-loop μ-loop
 cast-out-2 c =
     let l = c .before .before .before in
     let s = l .before .before .before .before in
     let a = s .args in
-    omega (arith, s .pre .0 .ready .few, found-rule (s .pre .0) (a .from) (a .out .now) (s .pre .1 .0 .2) (l .loop .inv) (c .before .context-at2 .result) (c .before .context-at2 .ensures) (c .smallest2 .result) (c .smallest2 .ensures))
+    omega (arith, s .pre .0 .indexed .ready .few, found-rule (s .pre .0) (a .from) (a .out .now) (s .pre .1 .0 .2) (l .loop .inv) (c .before .context-at2 .result) (c .before .context-at2 .ensures) (c .smallest2 .result) (c .smallest2 .ensures))
 
 slice-write-out-2 : tie.Need-slice-write-out-2 Inv-loop μ-loop
 slice-write-out-2 c = search needs

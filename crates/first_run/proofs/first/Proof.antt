@@ -14,7 +14,7 @@ cast-has : tie.Need-cast-has
 cast-has c = search needs
 
 has-requires : tie.Need-has-requires
-has-requires c κs = c .before .before .before .pre .0 .ready .start-small
+has-requires c κs = c .before .before .before .pre .0 .indexed .ready .start-small
 
 fill-requires : tie.Need-fill-requires
 fill-requires c κs =

@@ -4,18 +4,25 @@ use Prim.Native.Nat.{suc, _+_, _-_, _≤_, _<_}
 use mathlib.Core.Path.{_≡_, sym, _∙_}
 use native.Mathlib.Omega.{arith}
 use lib.ListN.{length, getD}
+use Rattle.contexts.specs.Context.{tokenHere}
+use Rattle.tables.specs.Table.{ruleIn}
+use Rattle.rule_index.specs.Classes.{classAt, classOf}
+use Rattle.rule_index.proofs.Walk.{goes-on}
 use Rattle.history_file.specs.believed.HistoryFile.{tokensOf}
 use Rattle.levels.proofs.Levels.{tokens-length}
 use Rattle.next_run.specs.Next.{NoneFrom}
-use Rattle.next_run.proofs.Positions.{NoneBetween, between-more, none-end, none-next, found-at}
+use Rattle.next_run.proofs.Positions.{NoneBetween, between-first, between-more, none-end, class-here, none-next, found-at}
 use Rattle.next_run.proofs.last_position.Statement.{statement}
 use Rattle.next_run.proofs.last_position.Tie as tie
 
 abbrev Inv-loop : tie.InvT-loop
-Inv-loop table tokens closes masks at reading count p context nonterminal r₀ r = (getD reading p 0 < r) × NoneBetween table (getD reading p 0) nonterminal context r
+Inv-loop table tokens closes masks at reading count p context nonterminal old r₀ r =
+    (getD reading p 0 < r)
+    × NoneBetween table (getD reading p 0) nonterminal context r
+    × (r < count → classOf (ruleIn table r) ≡ classAt (tokenHere context))
 
 abbrev μ-loop : tie.MeasureT-loop
-μ-loop table tokens closes masks at reading count p context nonterminal r₀ r = count - r
+μ-loop table tokens closes masks at reading count p context nonterminal old r₀ r = count - r
 
 abbrev Inv-search : tie.InvT-search
 Inv-search table tokens closes masks at reading count p₀ p = (p ≤ length tokens + 1) × NoneFrom table count (tokensOf tokens) at reading p
@@ -24,8 +31,7 @@ abbrev μ-search : tie.MeasureT-search
 μ-search table tokens closes masks at reading count p₀ p = p
 
 add-p : tie.Need-add-p Inv-loop μ-loop Inv-search μ-search
-add-p c =
-    omega (arith, c .before .before .pre .0 .tokens .few)
+add-p c = omega (arith, c .before .before .pre .0 .tokens .few)
 
 search-holds : tie.Need-search-holds Inv-loop μ-loop Inv-search μ-search
 search-holds c =
@@ -38,71 +44,91 @@ sub-p c = search needs
 
 context-at-requires : tie.Need-context-at-requires Inv-loop μ-loop Inv-search μ-search
 context-at-requires c κs =
-    let l = c .before in
-    let s = l .before .before .before in
+    let s = c .before .before .before .before in
     (s .pre .0 .tokens, (omega arith, s .pre .0 .matched))
 
 mul-nonterminal : tie.Need-mul-nonterminal Inv-loop μ-loop Inv-search μ-search
 mul-nonterminal c =
-    let l = c .before .before in
-    let s = l .before .before .before in
+    let s = c .before .before .before .before .before in
     omega (arith, s .pre .0 .tokens .few)
 
 element-copy-out-nonterminal : tie.Need-element-copy-out-nonterminal Inv-loop μ-loop Inv-search μ-search
 element-copy-out-nonterminal c =
-    let l = c .before .before in
-    let s = l .before .before .before in
+    let s = c .before .before .before .before .before in
     omega (arith, s .pre .0 .tokens .few)
 
-shared-slice-read-r : tie.Need-shared-slice-read-r Inv-loop μ-loop Inv-search μ-search
-shared-slice-read-r c = search needs
+shared-slice-read-old : tie.Need-shared-slice-read-old Inv-loop μ-loop Inv-search μ-search
+shared-slice-read-old c = search needs
 
-cast-r : tie.Need-cast-r Inv-loop μ-loop Inv-search μ-search
-cast-r c =
-    omega (arith, c .shared-slice-known3 .given (c .before .before .before .before .search .p - 1))
+cast-old : tie.Need-cast-old Inv-loop μ-loop Inv-search μ-search
+cast-old c = omega (arith, c .shared-slice-known3 .given (c .before .before .before .before .search .p - 1))
 
-add-r : tie.Need-add-r Inv-loop μ-loop Inv-search μ-search
-add-r c =
-    omega (arith, c .shared-slice-known3 .given (c .before .before .before .before .search .p - 1))
+next-of-requires : tie.Need-next-of-requires Inv-loop μ-loop Inv-search μ-search
+next-of-requires c κs =
+    let l = c .before .before .before .before in
+    let s = l .before .before .before in
+    omega (arith, s .pre .0 .indexed .ready .few, s .pre .1 .1 (l .search .p - 1) (omega (arith, tokens-length (s .args .tokens .now))) .0)
 
 loop-holds : tie.Need-loop-holds Inv-loop μ-loop Inv-search μ-search
 loop-holds c =
-    (omega arith, λ q h k. absurd (omega arith))
+    let l = c .before .before .before .before .before in
+    let s = l .before .before .before in
+    let a = s .args in
+    let q = c .before .before .before in
+    let p = l .search .p - 1 in
+    let b = getD (a .reading .now) p 0 in
+    let x = q .context-at .result in
+    let h = s .pre .1 .1 p (omega (arith, tokens-length (a .tokens .now))) in
+    let k = class-here (a .table .now) (a .head .rules) (tokensOf (a .tokens .now)) (a .masks .now) (a .at .now) (a .reading .now) (s .pre .0 .leveled) p x (q .context-at .ensures) b (h .1) in
+    let f = goes-on (s .pre .0 .indexed) b (classAt (tokenHere x)) (c .next-of .result) (h .0) k (c .next-of .ensures) in
+    (f .from, between-first (a .table .now) b (getD (a .at .now) p 0) x f (λ i m n. absurd (omega arith)), f .of-class)
 
 search-less : tie.Need-search-less Inv-loop μ-loop Inv-search μ-search
 search-less c = search needs
 
 search-again : tie.Need-search-again Inv-loop μ-loop Inv-search μ-search
 search-again c =
-    let l = c .before .before .before .before .before .before in
+    let l = c .before .before .before .before .before .before .before in
     let s = l .before .before .before in
     let a = s .args in
     let i = c .before in
-    let q = c .before .before .before .before in
+    let q = c .before .before .before .before .before in
     let p = l .search .p - 1 in
     let e : suc p ≡ l .search .p = omega arith in
     (omega arith, none-next (a .table .now) (a .head .rules) (tokensOf (a .tokens .now)) (a .masks .now) (a .at .now) (a .reading .now) (s .pre .0 .leveled) p (q .context-at .result) (q .context-at .ensures) (i .loop .r) (c .loop-test .left) (i .loop .inv .1) (rw e (l .search .inv .1)))
 
 fits-requires : tie.Need-fits-requires Inv-loop μ-loop Inv-search μ-search
 fits-requires c κs =
-    let l = c .before .before .before .before .before .before in
-    let s = l .before .before .before in
-    (omega (arith, s .pre .0 .ready .few), s .pre .0 .ready .small _ (c .loop-test .taken))
+    let s = c .before .before .before .before .before .before .before .before .before .before in
+    (omega (arith, s .pre .0 .indexed .ready .few), s .pre .0 .indexed .ready .small _ (c .loop-test .taken))
 
-add-r-2 : tie.Need-add-r-2 Inv-loop μ-loop Inv-search μ-search
-add-r-2 c = search needs
+next-of-requires-2 : tie.Need-next-of-requires-2 Inv-loop μ-loop Inv-search μ-search
+next-of-requires-2 c κs =
+    let s = c .before .before .before .before .before .before .before .before .before .before .before .before in
+    omega (arith, s .pre .0 .indexed .ready .few)
 
 loop-less : tie.Need-loop-less Inv-loop μ-loop Inv-search μ-search
-loop-less c = search needs
+loop-less c =
+    let n = c .before .before .before in
+    let i = n .before in
+    let q = i .before .before .before .before in
+    let s = q .before .before .before .before .before in
+    let x = q .context-at .result in
+    let f = goes-on (s .pre .0 .indexed) (i .loop .r) (classAt (tokenHere x)) (c .next-of2 .result) (n .loop-test .taken) (i .loop .inv .2 (n .loop-test .taken)) (c .next-of2 .ensures) in
+    omega (arith, f .from)
 
 loop-again : tie.Need-loop-again Inv-loop μ-loop Inv-search μ-search
 loop-again c =
-    let l = c .before .before .before .before .before .before .before .before in
-    let s = l .before .before .before in
+    let n = c .before .before .before in
+    let i = n .before in
+    let q = i .before .before .before .before in
+    let s = q .before .before .before .before .before in
+    let x = q .context-at .result in
+    let f = goes-on (s .pre .0 .indexed) (i .loop .r) (classAt (tokenHere x)) (c .next-of2 .result) (n .loop-test .taken) (i .loop .inv .2 (n .loop-test .taken)) (c .next-of2 .ensures) in
     let a = s .args in
-    let i = c .before .before .before in
-    let no = sym (c .before .fits2 .ensures) ∙ c .if2 .left in
-    (omega arith, between-more (a .table .now) _ _ _ (i .loop .r) (i .loop .inv .1) no)
+    let no = sym (c .before .before .fits2 .ensures) ∙ c .before .if2 .left in
+    let h = between-more (a .table .now) _ _ _ (i .loop .r) (i .loop .inv .1) no in
+    (omega (arith, f .from), between-first (a .table .now) _ _ x f (λ j m k. h j m (omega arith)), f .of-class)
 
 returns : tie.Need-returns Inv-loop μ-loop Inv-search μ-search
 returns c =
@@ -111,11 +137,11 @@ returns c =
 
 returns-2 : tie.Need-returns-2 Inv-loop μ-loop Inv-search μ-search
 returns-2 c =
-    let l = c .before .before .before .before .before .before .before .before in
+    let l = c .before .before .before .before .before .before .before .before .before in
     let s = l .before .before .before in
     let a = s .args in
     let i = c .before .before .before in
-    let q = c .before .before .before .before .before .before in
+    let q = c .before .before .before .before .before .before .before in
     let p = l .search .p - 1 in
     let e : suc p ≡ l .search .p = omega arith in
     let yes = sym (c .before .fits2 .ensures) ∙ c .if2 .taken in
@@ -136,14 +162,14 @@ last-position-spec =
     context-at-requires
     mul-nonterminal
     element-copy-out-nonterminal
-    shared-slice-read-r
-    cast-r
-    add-r
+    shared-slice-read-old
+    cast-old
+    next-of-requires
     loop-holds
     search-less
     search-again
     fits-requires
-    add-r-2
+    next-of-requires-2
     loop-less
     loop-again
     returns

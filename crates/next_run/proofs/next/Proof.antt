@@ -1,7 +1,7 @@
 -- `next_run::next` meets its contract.
 use native.Mathlib.Omega.{arith}
 use Rattle.levels.proofs.Levels.{tokens-length}
-use Rattle.next_run.proofs.Successor.{none-refused, no-further-is, rewrite-derives, written-is}
+use Rattle.next_run.proofs.Successor.{none-refused, each-fits, no-further-is, rewrite-derives, written-is}
 use borrow.Author.Needs.{needs}
 use Rattle.next_run.proofs.next.Statement.{statement}
 use Rattle.next_run.proofs.next.Tie as tie
@@ -10,7 +10,10 @@ replay-requires : tie.Need-replay-requires
 replay-requires c κs = c .before .before .before .pre
 
 last-position-requires : tie.Need-last-position-requires
-last-position-requires c κs = c .before .before .before .before .before .before .before .before .pre
+last-position-requires c κs =
+    let s = c .before .before .before .before .before .before .before .before in
+    let k = rw (c .before .before .before .if1 .taken) at (c .before .before .before .before .replay .ensures) in
+    (s .pre .0, (s .pre .1, each-fits (s .pre .0) (s .args .reading .now) (s .pre .1) k))
 
 enum-told : tie.Need-enum-told
 enum-told c = search needs

@@ -53,14 +53,14 @@ stands-requires : tie.Need-stands-requires Inv-loop μ-loop
 stands-requires c κs =
     let l = c .before .before .before in
     let s = l .before .before .before in
-    s .pre .0 .ready
+    s .pre .0 .indexed .ready
 
 six-in-requires : tie.Need-six-in-requires Inv-loop μ-loop
 six-in-requires c κs =
     let l = c .before .before .before .before .before in
     let s = l .before .before .before in
     let a = s .args in
-    omega (arith, s .pre .0 .ready .few, rule-below (s .pre .0) (a .reading .now) (s .pre .1) (l .loop .inv) (c .before .before .context-at .result) (c .before .before .context-at .ensures) (sym (c .before .stands .ensures) ∙ c .if1 .taken))
+    omega (arith, s .pre .0 .indexed .ready .few, rule-below (s .pre .0) (a .reading .now) (s .pre .1) (l .loop .inv) (c .before .before .context-at .result) (c .before .before .context-at .ensures) (sym (c .before .stands .ensures) ∙ c .if1 .taken))
 
 mul-j : tie.Need-mul-j Inv-loop μ-loop
 mul-j c = search needs
@@ -157,7 +157,7 @@ stands-requires-2 : tie.Need-stands-requires-2 Inv-loop μ-loop
 stands-requires-2 c κs =
     let l = c .before .before .before in
     let s = l .before .before .before in
-    s .pre .0 .ready
+    s .pre .0 .indexed .ready
 
 returns-2 : tie.Need-returns-2 Inv-loop μ-loop
 returns-2 c =
