@@ -25,7 +25,7 @@ pub struct Context {
     pub after: u32,
 }
 
-fn token_of(context: Context) -> Token
+pub fn token_of(context: Context) -> Token
     ensures { λ r. ⌜ r ≡ tokenHere context ⌝ }
 {
     history_file::token_with(context.kind, context.name)
