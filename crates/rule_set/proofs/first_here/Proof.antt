@@ -1,5 +1,6 @@
 -- `first_here`: every class is below 256.
 use borrow.Author.Needs.{needs}
+use native.Mathlib.Omega.{arith}
 use Rattle.rule_index.proofs.Classes.{class-small}
 use Rattle.rule_set.proofs.first_here.Statement.{statement}
 use Rattle.rule_set.proofs.first_here.Tie as tie
@@ -11,7 +12,7 @@ class-at-requires : tie.Need-class-at-requires
 class-at-requires c κs = search needs
 
 first-of-requires : tie.Need-first-of-requires
-first-of-requires c κs = rw (c .class-at .ensures) (class-small (c .before .token-of .result))
+first-of-requires c κs = omega (arith, class-small (c .before .token-of .result))
 
 returns : tie.Need-returns
 returns c = rw (c .first-of .ensures, c .before .class-at .ensures, c .before .before .token-of .ensures)
