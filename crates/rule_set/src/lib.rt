@@ -21,13 +21,13 @@ pub struct Ways {
     pub behind: u32,
 }
 
-// Whether the nonterminal of rule r can stand here, and the rule too. Few rules can, whatever their nonterminal: that is asked first.
+// Whether the nonterminal of rule r can stand here, and the rule too. Of the rules of a token's class most can: that is asked last.
 fn keeps(here: u32, table: &Table, r: usize, context: Context) -> bool
     requires { ⌜ (r < 128) × Below 32 (ruleIn (now table) r) ⌝ }
     ensures { λ x. ⌜ x ≡ keepsAt here context (ruleIn (now (table .entry)) r) ⌝ }
 {
-    if contexts::applies(table, r, context) {
-        bits::has(here, tables::left_in(table, r) as usize)
+    if bits::has(here, tables::left_in(table, r) as usize) {
+        contexts::applies(table, r, context)
     } else {
         false
     }
