@@ -1,6 +1,7 @@
 -- Contexts and words: the rules that can stand at a place are those that can stand before the tokens there.
 use Prim.Native.Nat.{ℕ, zero, suc}
 use mathlib.Core.Path.{_≡_, sym, _∙_}
+use mathlib.Core.Logic.{_≢_}
 use mathlib.Core.Bool.{Bool, true, false, cond, _&&_, _||_, or-false, and-true, and-false}
 use mathlib.Core.List.{List}
 use lib.Dec.{eqb}
@@ -12,9 +13,12 @@ use Rattle.vpg.specs.Steps.{left}
 use Rattle.level_theory.specs.Masks.{lefts}
 use Rattle.tables.specs.Table.{ruleIn, rulesIn}
 use Rattle.contexts.specs.declared.Context.{Context}
-use Rattle.contexts.specs.Context.{appliesTo, levelIn}
+use Rattle.rule_index.specs.Classes.{classAt, classOf}
+use Rattle.rule_index.proofs.Classes.{class-apart}
+use Rattle.contexts.specs.Context.{tokenHere, afterClose, appliesTo, levelIn}
 
-with-bit : (q : Bool) (m l L : ℕ) (s : Bool) → bit m L ≡ s → bit (cond q (addBit m l) m) L ≡ (s || (eqb l L && q))
+-- a digit of a word to which a number is added, if a test passes
+pub with-bit : (q : Bool) (m l L : ℕ) (s : Bool) → bit m L ≡ s → bit (cond q (addBit m l) m) L ≡ (s || (eqb l L && q))
 with-bit true m l L s e = bit-add m l L ∙ rw (e, eqb-comm L l, and-true (eqb l L))
 with-bit false m l L s e = e ∙ sym (rw (and-false (eqb l L)) (or-false s))
 
@@ -25,3 +29,11 @@ level-bit t p zero L = bit-zero L
 level-bit t p (suc n) L =
     with-bit (appliesTo (ruleIn t n) p) (levelIn t p n) (left (ruleIn t n)) L _ (level-bit t p n L)
     ∙ sym (any-snoc (λ R. eqb (left R) L && appliesTo R p) (rulesIn t n) (ruleIn t n))
+
+-- a rule of another class than that of the token here can't stand, and adds nothing to the level
+pub applies-apart : (t : List ℕ) (p : Context) (q : ℕ) → classOf (ruleIn t q) ≢ classAt (tokenHere p) → appliesTo (ruleIn t q) p ≡ false
+applies-apart t p q = class-apart (bit (p .inside)) (afterClose p) (tokenHere p) (ruleIn t q)
+
+pub level-apart : (t : List ℕ) (p : Context) (q : ℕ) → classOf (ruleIn t q) ≢ classAt (tokenHere p) → levelIn t p (suc q) ≡ levelIn t p q
+unfolding levelIn
+level-apart t p q d = rw (applies-apart t p q d)

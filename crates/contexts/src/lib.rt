@@ -11,7 +11,8 @@ ghost use Prim.Native.Nat.{_<_};
 ghost use Rattle.bits.specs.Bit.{bit};
 ghost use Rattle.vpg.specs.Tests.{isMark, isOpen, anyClose};
 ghost use Rattle.tables.specs.Table.{ruleIn};
-ghost use Rattle.tables.specs.Ready.{Below, Ready};
+ghost use Rattle.tables.specs.Ready.{Below};
+ghost use Rattle.rule_index.specs.Index.{Indexed};
 ghost use Rattle.contexts.specs.Context.{tokenHere, afterClose, appliesTo, withLeft, levelIn};
 
 // What stands at a position: the kind and the name of the token, the nonterminals that derive what follows it, and for an open the name of
@@ -25,6 +26,7 @@ pub struct Context {
     pub after: u32,
 }
 
+// The token that stands here; at the end, a close.
 pub fn token_of(context: Context) -> Token
     ensures { λ r. ⌜ r ≡ tokenHere context ⌝ }
 {
@@ -113,17 +115,21 @@ fn with_left(set: u32, table: &Table, r: usize, context: Context) -> u32
     }
 }
 
-// The nonterminals of the rules that can stand here.
+// The nonterminals of the rules that can stand here. At a close these are the nonterminals that have an empty rule.
 pub fn level(table: &Table, head: Head, context: Context) -> u32
-    requires { ⌜ Ready (now table) head ⌝ }
+    requires { ⌜ Indexed (now table) head ⌝ }
     ensures { λ m. ⌜ m ≡ levelIn (now (table .entry)) context (head .rules) ⌝ }
 {
+    if 2 <= context.kind {
+        return rule_index::ends(table);
+    }
     let count = head.rules;
+    let class = rule_index::class_at(token_of(context));
     let mut set: u32 = 0;
-    let mut r: usize = 0;
+    let mut r = rule_index::first_of(table, class);
     while r < count {
         set = with_left(set, table, r, context);
-        r += 1;
+        r = rule_index::next_of(table, r);
     }
     set
 }

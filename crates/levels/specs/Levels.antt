@@ -14,7 +14,8 @@ use Rattle.level_theory.specs.Walk.{testAt}
 use Rattle.contexts.specs.declared.Context.{Context}
 use Rattle.contexts.specs.Context.{appliesTo}
 use Rattle.tables.specs.declared.Head.{Head}
-use Rattle.tables.specs.Ready.{Ready, rulesOf}
+use Rattle.tables.specs.Ready.{rulesOf}
+use Rattle.rule_index.specs.Index.{Indexed}
 use Rattle.history_file.specs.believed.HistoryFile.{tokensOf}
 use Rattle.history_file.specs.HistoryTokens.{Tokens}
 
@@ -36,9 +37,9 @@ Leveled g w mask p = (k : ℕ) → p ≤ k → k ≤ length w → (L : ℕ) → 
 abbrev pub Stands : List Token → List ℕ → ℕ → Context → Type 0
 Stands w mask p context = (g : Rules) → Leveled g w mask (suc p) → (R : Rule) → appliesTo R context ≡ testAt g (drop p w) R
 
--- what a pass over the tokens may take for granted: the rules, well-matched tokens, the matching closes and the levels
+-- what a pass over the tokens may take for granted: the rules and their index, well-matched tokens, the matching closes and the levels
 pub record Setting (table : List ℕ) (head : Head) (ts closes masks : List ℕ) : Type 0 where
-  pub ready : Ready table head
+  pub indexed : Indexed table head
   pub tokens : Tokens ts
   pub balanced : WellMatched (tokensOf ts)
   pub matched : Matched (tokensOf ts) closes 0

@@ -8,7 +8,8 @@ ghost use mathlib.Core.Path.{_≡_};
 ghost use Prim.Native.Nat.{_/_, _<_, _≤_};
 ghost use lib.ListN.{length};
 ghost use Rattle.contexts.specs.Context.{endContext};
-ghost use Rattle.tables.specs.Ready.{Ready, rulesOf};
+ghost use Rattle.tables.specs.Ready.{rulesOf};
+ghost use Rattle.rule_index.specs.Index.{Indexed};
 ghost use Rattle.history_file.specs.believed.HistoryFile.{tokensOf};
 ghost use Rattle.history_file.specs.HistoryTokens.{Tokens};
 ghost use Rattle.levels.specs.Levels.{nextTop, Matched, Leveled, Stands};
@@ -110,7 +111,7 @@ pub fn context_at(tokens: &[u32], closes: &Closes, masks: &Masks, p: usize) -> C
 
 // The nonterminals that derive the rest of the level from each position.
 pub fn masks_of(table: &Table, head: Head, tokens: &[u32], closes: &Closes) -> Masks
-    requires { ⌜ Ready (now table) head ⌝ }
+    requires { ⌜ Indexed (now table) head ⌝ }
     requires { ⌜ Tokens (now tokens) ⌝ }
     requires { ⌜ Matched (tokensOf (now tokens)) (now closes) 0 ⌝ }
     ensures { λ r. ⌜ (length r ≡ 1025) × Leveled (rulesOf (now (table .entry)) head) (tokensOf (now (tokens .entry))) r 0 ⌝ }

@@ -20,10 +20,10 @@ use Rattle.level_theory.specs.Kept.{goesTo, returnsTo, going, returning}
 use Rattle.tables.specs.Table.{ruleIn, rulesIn}
 use Rattle.rule_index.specs.Classes.{classAt, classOf}
 use Rattle.rule_index.specs.Index.{FirstFrom}
-use Rattle.rule_index.proofs.Classes.{class-apart}
 use Rattle.rule_index.proofs.Chains.{passed}
 use Rattle.contexts.specs.declared.Context.{Context}
-use Rattle.contexts.specs.Context.{tokenHere, afterClose}
+use Rattle.contexts.specs.Context.{tokenHere}
+use Rattle.contexts.proofs.Contexts.{applies-apart}
 use Rattle.rule_set.specs.Words.{Held, addIn}
 use Rattle.rule_set.specs.declared.Ways.{Ways}
 use Rattle.rule_set.specs.RuleSet.{keepsAt, withSome, waysWith, waysIn, wordsIn}
@@ -52,7 +52,7 @@ module _ (t : List ℕ) (here : ℕ) (context : Context) where
 
   -- a rule of another class than the token's is not in the set
   other-class : (q : ℕ) → classOf (ruleIn t q) ≢ Class → Keeps q ≡ false
-  other-class q d = rw (class-apart (bit (context .inside)) (afterClose context) (tokenHere context) (ruleIn t q) d) (and-false (bit here (left (ruleIn t q))))
+  other-class q d = rw (applies-apart t context q d) (and-false (bit here (left (ruleIn t q))))
 
   -- so up to the next rule of the class the ways and the words stay
   pub ways-passed : {rules k n : ℕ} → FirstFrom t rules (classAt (tokenHere context)) k n → waysIn t here context n ≡ waysIn t here context k
