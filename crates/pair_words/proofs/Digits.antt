@@ -1,7 +1,7 @@
 -- The digits of the words after a token.
 use Prim.Native.Nat.{ℕ, zero, suc, _^_, _<_}
 use native.Mathlib.Omega.{arith}
-use mathlib.Core.Path.{_≡_, refl, sym, _∙_, ap, ap₂}
+use mathlib.Core.Path.{_≡_, refl, sym, _∙_, ap}
 use mathlib.Core.Bool.{Bool, true, false, cond, not, _&&_, _||_, false≢true, or-false}
 use mathlib.Core.List.{List}
 use borrow.Author.Tests.{eqb-true, eq-eqb, ne-eqb}
@@ -18,7 +18,7 @@ use Rattle.vpg.specs.Steps.{left}
 use Rattle.tables.specs.Ready.{Below}
 use Rattle.tables.specs.Table.{ruleIn, rulesIn}
 use Rattle.pair_words.specs.declared.Pattern.{Pattern}
-use Rattle.pair_words.specs.Words.{matchesBy, followsBy, contextsBy, joined, gained, wordsAfter}
+use Rattle.pair_words.specs.Words.{matchesBy, followsBy, contextsBy, joined, wordsAfter}
 use Rattle.pair_words.proofs.Below.{follows-below}
 
 -- ── one set ──

@@ -5,7 +5,7 @@ use mathlib.Core.Path.{_≡_, _∙_, ap}
 use borrow.Author.Needs.{needs}
 use lib.ListN.{length}
 use Rattle.rule_index.specs.Classes.{classAt}
-use Rattle.rule_index.specs.Index.{firstIn, nextIn}
+use Rattle.rule_index.specs.Index.{firstIn}
 use Rattle.rule_index.proofs.Classes.{class-small}
 use Rattle.pair_words.specs.Words.{tokenBy}
 use Rattle.pair_words.proofs.Digits.{words-size}
@@ -39,9 +39,10 @@ gain-requires : tie.Need-gain-requires Inv-loop μ-loop
 gain-requires c κs =
     let s = c .before .before .before .before .before .before in
     let a = s .args in
-    let l = c .before .before .loop in
-    ((omega (arith, s .pre .ready .few), s .pre .ready .small (l .k) (c .before .loop-test .taken)),
-    ap length (l .inv .is) ∙ words-size (a .pattern) (a .from .now) (a .done) (a .table .now) (l .k))
+    let l = c .before .before .loop in (
+      (omega (arith, s .pre .ready .few), s .pre .ready .small (l .k) (c .before .loop-test .taken)),
+      ap length (l .inv .is) ∙ words-size (a .pattern) (a .from .now) (a .done) (a .table .now) (l .k),
+    )
 
 next-of-requires : tie.Need-next-of-requires Inv-loop μ-loop
 next-of-requires c κs = omega (arith, c .before .before .before .before .before .before .before .pre .ready .few)
