@@ -1,3 +1,3 @@
 pub mod Derivatives
-pub mod Fills
+pub mod Finished
 pub mod Grammars

@@ -7,6 +7,6 @@ use lib.ListN.{getD}
 use Rattle.bits.specs.Bit.{bit}
 use Rattle.pair_theory.specs.Pairs.{PairState}
 
--- digit L₂ of word L₁ says whether (L₁, L₂) is in the state
-pub record Encodes (rows : List ℕ) (S : PairState) : Type 0 where
-  pub at : (L₁ L₂ : ℕ) → L₁ < 32 → L₂ < 32 → bit (getD rows L₁ 0) L₂ ≡ S L₁ L₂
+-- digit L₁ of word L₂ says whether (L₁, L₂) is in the state
+pub record Encodes (words : List ℕ) (S : PairState) : Type 0 where
+  pub at : (L₁ L₂ : ℕ) → L₁ < 32 → L₂ < 32 → bit (getD words L₂ 0) L₁ ≡ S L₁ L₂

@@ -1,3 +1,3 @@
 pub mod Encodes
+pub mod Finished
 pub mod Wide
-pub mod Words

@@ -6,10 +6,9 @@ use Rattle.vpg.specs.Parts.{onward, beyond}
 use Rattle.vpg.specs.Steps.{left}
 use Rattle.tables.specs.Ready.{Small, Below}
 use Rattle.pair_words.specs.declared.Pattern.{Pattern}
-use Rattle.pair_words.specs.Row.{stepFollows, nextBy, followsBy}
+use Rattle.pair_words.specs.Words.{stepFollows, nextBy, followsBy}
 
 step-below : (p : Pattern) (L₁ L₂ : ℕ) → L₁ < 32 → L₂ < 32 → stepFollows p L₁ L₂ < 32
-step-below Pattern.Empty L₁ L₂ h k = h
 step-below (Pattern.Mark c) L₁ L₂ h k = h
 step-below (Pattern.Open a) L₁ L₂ h k = h
 step-below (Pattern.Step a b) L₁ L₂ h k = k

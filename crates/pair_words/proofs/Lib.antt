@@ -1,2 +1,3 @@
 pub mod Below
-pub mod Gathers
+pub mod Digits
+pub mod Walks

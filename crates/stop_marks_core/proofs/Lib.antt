@@ -1,3 +1,4 @@
 pub mod Depths
+pub mod Fills
 pub mod Stacks
 pub mod Turns

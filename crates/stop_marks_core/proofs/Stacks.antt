@@ -21,11 +21,11 @@ use Rattle.sets_theory.specs.believed.Sets.{one}
 use Rattle.sets_theory.proofs.Sets.{listed-cong, getD-listed}
 use Rattle.vpg.proofs.Tests.{name-open}
 use Rattle.tables.specs.declared.Head.{Head}
-use Rattle.tables.specs.Ready.{Ready}
+use Rattle.rule_index.specs.Index.{Indexed, endsIn}
 use Rattle.pair_states.specs.Encodes.{Encodes}
 use Rattle.pair_states.specs.Wide.{wideGrammar}
-use Rattle.pair_states.specs.Words.{mayEnd, emptiesOf}
-use Rattle.pair_states.proofs.Derivatives.{finished-some}
+use Rattle.pair_states.specs.Finished.{mayEnd}
+use Rattle.pair_states.proofs.Finished.{finished-some}
 use Rattle.stop_marks_core.specs.declared.Top.{Top}
 use Rattle.stop_marks_core.specs.Stack.{blockAt, Saved, Holds, markOf, CloseHolds, StepHolds}
 
@@ -62,7 +62,7 @@ module _ (stack : List ℕ) (d : ℕ) (rows : List ℕ) (room : d * 32 + 32 ≤ 
 
 -- words that agree encode the same
 encodes-same : (rows rows′ : List ℕ) (S : PairState) → ((k : ℕ) → k < 32 → getD rows′ k 0 ≡ getD rows k 0) → Encodes rows S → Encodes rows′ S
-encodes-same rows rows′ S e x = record { at = λ L₁ L₂ l₁ l₂. ap (λ (m : ℕ). bit m L₂) (e L₁ l₁) ∙ x .at L₁ L₂ l₁ l₂ }
+encodes-same rows rows′ S e x = record { at = λ L₁ L₂ l₁ l₂. ap (λ (m : ℕ). bit m L₁) (e L₂ l₂) ∙ x .at L₁ L₂ l₁ l₂ }
 
 -- ── push and pop ──
 
@@ -100,10 +100,10 @@ pub room : (t : Token) (a : OpenName) (d : ℕ) → t ≡ Token.Open a → openA
 room t a d e h = let l : openAfter (Token.Open a) d ≤ 128 = rw e at h in omega arith
 
 -- the marks agree
-pub mark-accepts : (table : List ℕ) (head : Head) → Ready table head → (empties : ℕ) → empties ≡ emptiesOf table head → (top : Top) (stack names : List ℕ) (x : Configuration) →
+pub mark-accepts : (table : List ℕ) (head : Head) → Indexed table head → (empties : ℕ) → empties ≡ endsIn table → (top : Top) (stack names : List ℕ) (x : Configuration) →
     Holds top stack names x → markOf top empties ≡ one (accepts (wideGrammar table head) x)
-mark-accepts table head ready empties e top stack names x h =
-    ap one (ap₂ _&&_ (saved-bottom stack names (top .depth) (x .1) (h .saved)) (ap (mayEnd (top .rows)) e ∙ finished-some table head ready (top .rows) (x .0) (h .state)))
+mark-accepts table head indexed empties e top stack names x h =
+    ap one (ap₂ _&&_ (saved-bottom stack names (top .depth) (x .1) (h .saved)) (ap (mayEnd (top .rows)) e ∙ finished-some table head indexed (top .rows) (x .0) (h .state)))
 
 -- over a close
 module _ (table : List ℕ) (head : Head) (stack names : List ℕ) (b : CloseName) where
@@ -134,7 +134,7 @@ module _ (table : List ℕ) (head : Head) (stack names : List ℕ) (b : CloseNam
   closed-none top none = record { holds = λ x h. go (x .0) (x .1) (subst (λ (d : ℕ). Saved stack names d (x .1)) none (h .saved)); steps-open = rw none }
     where
       go : (S : PairState) (T : PairStack) → Saved stack names 0 T → Holds (record { rows = replicate 32 0; depth = 0 }) stack names (closed (wideGrammar table head) b S T)
-      go S [] y = record { state = record { at = λ L₁ L₂ l₁ l₂. ap (λ (m : ℕ). bit m L₂) (getD-replicate 32 L₁ 0 0 l₁) ∙ bit-zero L₂ }; saved = tt }
+      go S [] y = record { state = record { at = λ L₁ L₂ l₁ l₂. ap (λ (m : ℕ). bit m L₁) (getD-replicate 32 L₂ 0 0 l₂) ∙ bit-zero L₁ }; saved = tt }
       go S (p ∷ T) y = absurd y
 
 -- over each kind of token

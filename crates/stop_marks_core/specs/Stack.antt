@@ -14,7 +14,7 @@ use Rattle.sets_theory.specs.believed.Sets.{one, listed}
 use Rattle.tables.specs.declared.Head.{Head}
 use Rattle.pair_states.specs.Encodes.{Encodes}
 use Rattle.pair_states.specs.Wide.{wideGrammar}
-use Rattle.pair_states.specs.Words.{mayEnd}
+use Rattle.pair_states.specs.Finished.{mayEnd}
 use Rattle.stop_marks_core.specs.declared.Top.{Top}
 
 -- the 32 words of step d

@@ -1,6 +1,6 @@
 // Stop marks (document 01, "Readings"): which beginnings of the tokens have a reading, by the pair states of Definition 4.2 of the paper.
 // One pass from left to right. The stack holds, for each open step, the 32 words of the state before its open, and the open's name.
-use pair_states::PairRows;
+use pair_words::Words;
 use tables::Head;
 use tables::Table;
 use vpg::CloseName;
@@ -13,10 +13,10 @@ ghost use lib.ListN.{length, drop};
 ghost use lib.Seq.{paste};
 ghost use Rattle.pair_theory.specs.Depth.{openAfter, Shallow};
 ghost use Rattle.sets_theory.specs.believed.Sets.{one, stopMarks};
-ghost use Rattle.tables.specs.Ready.{Ready, grammarIn};
+ghost use Rattle.tables.specs.Ready.{grammarIn};
 ghost use Rattle.history_file.specs.believed.HistoryFile.{tokensOf};
 ghost use Rattle.history_file.specs.HistoryTokens.{Tokens};
-ghost use Rattle.pair_states.specs.Words.{emptiesOf};
+ghost use Rattle.rule_index.specs.Index.{Indexed, endsIn};
 ghost use Rattle.stop_marks_core.specs.Stack.{blockAt, markOf, CloseHolds, StepHolds};
 
 // For each open step, the 32 words of the state before its open.
@@ -27,12 +27,12 @@ type Names = [u16; 128];
 
 // A state as 32 words, and how many steps are open.
 struct Top {
-    rows: PairRows,
+    rows: Words,
     depth: usize,
 }
 
 // Writes the state of step d. That there are 32 words is said too: a caller that has them in a struct doesn't know it otherwise.
-fn save(stack: &mut Stack, d: usize, rows: PairRows)
+fn save(stack: &mut Stack, d: usize, rows: Words)
     requires { ⌜ d < 128 ⌝ }
     requires { ⌜ length (now stack) ≡ 4096 ⌝ }
     ensures { λ _. ⌜ (now (stack .exit) ≡ paste (now (stack .entry)) (d * 32) rows 32) × (length rows ≡ 32) ⌝ }
@@ -46,7 +46,7 @@ fn save(stack: &mut Stack, d: usize, rows: PairRows)
 }
 
 // The state of step d.
-fn load(stack: &Stack, d: usize) -> PairRows
+fn load(stack: &Stack, d: usize) -> Words
     requires { ⌜ d < 128 ⌝ }
     ensures { λ r. ⌜ r ≡ blockAt (now (stack .entry)) d ⌝ }
 {
@@ -74,7 +74,7 @@ fn mark_of(top: Top, empties: u32) -> u8
     ensures { λ r. ⌜ r ≡ markOf top empties ⌝ }
 {
     let rows = top.rows;
-    number(tables::both(top.depth == 0, pair_states::may_end(rows, empties)))
+    number(tables::both(top.depth == 0, pair_states::may_end(&rows, empties)))
 }
 
 // Over a close: back to the state before the step's open. With no step open, no pair is left.
@@ -87,8 +87,8 @@ fn closed(
     stack: &Stack,
     names: &Names,
 ) -> Top
-    requires { ⌜ Ready (now table) head ⌝ }
-    requires { ⌜ empties ≡ emptiesOf (now table) head ⌝ }
+    requires { ⌜ Indexed (now table) head ⌝ }
+    requires { ⌜ empties ≡ endsIn (now table) ⌝ }
     requires { ⌜ top .depth ≤ 128 ⌝ }
     ensures { λ r. ⌜ CloseHolds (now (table .entry)) head b top (now (stack .entry)) (now (names .entry)) r ⌝ }
 {
@@ -104,7 +104,7 @@ fn closed(
     let a = OpenName(name);
     let rows = top.rows;
     Top {
-        rows: pair_states::after_close(table, head, empties, b, rows, a, saved),
+        rows: pair_states::after_close(table, head, empties, b, &rows, a, &saved),
         depth: d,
     }
 }
@@ -119,8 +119,8 @@ fn step(
     stack: &mut Stack,
     names: &mut Names,
 ) -> Top
-    requires { ⌜ Ready (now table) head ⌝ }
-    requires { ⌜ empties ≡ emptiesOf (now table) head ⌝ }
+    requires { ⌜ Indexed (now table) head ⌝ }
+    requires { ⌜ empties ≡ endsIn (now table) ⌝ }
     requires { ⌜ (top .depth ≤ 128) × (openAfter token (top .depth) ≤ 128) ⌝ }
     requires { ⌜ (length (now stack) ≡ 4096) × (length (now names) ≡ 128) ⌝ }
     ensures { λ r. ⌜ StepHolds (now (table .entry)) head token top (now (stack .entry)) (now (names .entry)) r (now (stack .exit)) (now (names .exit)) ⌝ }
@@ -129,14 +129,14 @@ fn step(
     let depth = top.depth;
     match token {
         Token::Mark(c) => Top {
-            rows: pair_states::after_mark(table, head, c, rows),
+            rows: pair_states::after_mark(table, head, c, &rows),
             depth,
         },
         Token::Open(a) => {
             save(stack, depth, rows);
             names[depth] = a.0;
             Top {
-                rows: pair_states::after_open(table, head, a, rows),
+                rows: pair_states::after_open(table, head, a, &rows),
                 depth: depth + 1,
             }
         }
@@ -146,13 +146,13 @@ fn step(
 
 // The stop marks of the positions 0 to n, for n tokens: out[i] is 1 where the first i tokens have a reading, else 0.
 pub fn marks(table: &Table, head: Head, tokens: &[u32], out: &mut [u8])
-    requires { ⌜ Ready (now table) head ⌝ }
+    requires { ⌜ Indexed (now table) head ⌝ }
     requires { ⌜ Tokens (now tokens) ⌝ }
     requires { ⌜ Shallow 128 (tokensOf (now tokens)) 0 ⌝ }
     requires { ⌜ length (now tokens) + 1 ≤ length (now out) ⌝ }
     ensures { λ _. ⌜ now (out .exit) ≡ stopMarks (grammarIn (now (table .entry)) head) (tokensOf (now (tokens .entry))) ++ drop (length (now (tokens .entry)) + 1) (now (out .entry)) ⌝ }
 {
-    let empties = pair_states::empties(table, head);
+    let empties = rule_index::ends(table);
     let mut stack = [0u32; 4096];
     let mut names = [0u16; 128];
     let mut top = Top {

@@ -1,4 +1,4 @@
--- `after_close`: row by row of the state before the open, by the contexts that may be finished.
+-- `after_close`: the words after the step, from those before its open, by the contexts that may be finished.
 use borrow.Author.Needs.{needs}
 use Rattle.pair_states.proofs.Derivatives.{close-encodes}
 use Rattle.pair_states.proofs.after_close.Statement.{statement}
@@ -7,13 +7,13 @@ use Rattle.pair_states.proofs.after_close.Tie as tie
 finished-of-requires : tie.Need-finished-of-requires
 finished-of-requires c κs = search needs
 
-rows-after-requires : tie.Need-rows-after-requires
-rows-after-requires c κs = search needs
+words-after-requires : tie.Need-words-after-requires
+words-after-requires c κs = search needs
 
 returns : tie.Need-returns
 returns c = λ S S₁ x y.
     let a = c .before .before in
-    rw (c .rows-after .ensures, c .before .finished-of .ensures, a .pre .1) (close-encodes _ _ (a .pre .0) (a .args .b) (a .args .a) (a .args .rows) (a .args .saved) S S₁ x y)
+    rw (c .words-after .ensures, c .before .finished-of .ensures, a .pre .1) (close-encodes _ _ (a .pre .0) (a .args .b) (a .args .a) (a .args .words .now) (a .args .saved .now) S S₁ x y)
 
 pub after-close-spec : {M : Type 1} → statement M
-after-close-spec = tie.close (tie.spec finished-of-requires rows-after-requires returns)
+after-close-spec = tie.close (tie.spec finished-of-requires words-after-requires returns)

@@ -1,12 +1,19 @@
--- `gain`: both tests say whether the rule passes.
-use mathlib.Core.Path.{sym, _∙_, ap}
-use borrow.Author.Needs.{needs}
-use Rattle.bits.specs.Bit.{bit, addBit}
+-- `gain`: the rule passes, and a word gains what it gives; or nothing changes.
+use native.Mathlib.Omega.{arith}
+use mathlib.Core.Path.{_≡_, sym, _∙_, ap}
 use Rattle.tables.specs.Table.{ruleIn}
-use Rattle.pair_words.specs.Row.{matchesBy, followsBy}
+use Rattle.pair_words.specs.Words.{matchesBy, followsBy}
 use Rattle.pair_words.proofs.Below.{follows-below}
+use Rattle.pair_words.proofs.Walks.{gains, gains-none}
+use borrow.Author.Needs.{needs}
 use Rattle.pair_words.proofs.gain.Statement.{statement}
 use Rattle.pair_words.proofs.gain.Tie as tie
+
+rule-of-requires : tie.Need-rule-of-requires
+rule-of-requires c κs = search needs
+
+matches-rule-requires : tie.Need-matches-rule-requires
+matches-rule-requires c κs = rw (c .rule-of .ensures) (c .before .pre .0 .1)
 
 left-in-requires : tie.Need-left-in-requires
 left-in-requires c κs = search needs
@@ -14,62 +21,87 @@ left-in-requires c κs = search needs
 wide-requires : tie.Need-wide-requires
 wide-requires c κs = search needs
 
-has-requires : tie.Need-has-requires
-has-requires c κs =
-    rw (c .wide .ensures ∙ c .before .left-in .ensures) (c .before .before .pre .1 .0)
-
-rule-of-requires : tie.Need-rule-of-requires
-rule-of-requires c κs = search needs
-
-matches-rule-requires : tie.Need-matches-rule-requires
-matches-rule-requires c κs =
-    let s = c .before .before .before .before .before in
-    rw (c .rule-of .ensures) (s .pre .1)
-
 follows-requires : tie.Need-follows-requires
 follows-requires c κs = search needs
 
-with-requires : tie.Need-with-requires
-with-requires c κs =
+mul-out : tie.Need-mul-out
+mul-out c =
+    let s = c .before .before .before .before .before .before in
+    let a = s .args in
+    let small = follows-below (a .pattern) (ruleIn (a .table .now) (a .k)) (s .pre .0 .1) in
+    let e : c .follows .result ≡ followsBy (a .pattern) (ruleIn (a .table .now) (a .k)) = c .follows .ensures ∙ ap (followsBy (a .pattern)) (c .before .before .before .before .before .rule-of .ensures) in
+    omega (arith, small, e)
+
+element-copy-out-out : tie.Need-element-copy-out-out
+element-copy-out-out c =
+    let s = c .before .before .before .before .before .before in
+    let a = s .args in
+    let small = follows-below (a .pattern) (ruleIn (a .table .now) (a .k)) (s .pre .0 .1) in
+    let e : c .follows .result ≡ followsBy (a .pattern) (ruleIn (a .table .now) (a .k)) = c .follows .ensures ∙ ap (followsBy (a .pattern)) (c .before .before .before .before .before .rule-of .ensures) in
+    omega (arith, small, e)
+
+mul-contexts : tie.Need-mul-contexts
+mul-contexts c = search needs
+
+element-copy-out-contexts : tie.Need-element-copy-out-contexts
+element-copy-out-contexts c = search needs
+
+contexts-requires : tie.Need-contexts-requires
+contexts-requires c κs =
     let s = c .before .before .before .before .before .before .before .before in
     let a = s .args in
-    let R = ruleIn (a .table .now) (a .k) in
-    rw (c .follows .ensures, c .before .before .before .rule-of .ensures) (follows-below (a .pattern) R (s .pre .1))
+    let small = follows-below (a .pattern) (ruleIn (a .table .now) (a .k)) (s .pre .0 .1) in
+    let e : c .before .before .follows .result ≡ followsBy (a .pattern) (ruleIn (a .table .now) (a .k)) = c .before .before .follows .ensures ∙ ap (followsBy (a .pattern)) (c .before .before .before .before .before .before .before .rule-of .ensures) in
+    omega (arith, small, e)
+
+mul-out-2 : tie.Need-mul-out-2
+mul-out-2 c =
+    let s = c .before .before .before .before .before .before .before .before .before in
+    let a = s .args in
+    let small = follows-below (a .pattern) (ruleIn (a .table .now) (a .k)) (s .pre .0 .1) in
+    let e : c .before .before .before .follows .result ≡ followsBy (a .pattern) (ruleIn (a .table .now) (a .k)) = c .before .before .before .follows .ensures ∙ ap (followsBy (a .pattern)) (c .before .before .before .before .before .before .before .before .rule-of .ensures) in
+    omega (arith, small, e)
+
+element-write-out : tie.Need-element-write-out
+element-write-out c =
+    let s = c .before .before .before .before .before .before .before .before .before in
+    let a = s .args in
+    let small = follows-below (a .pattern) (ruleIn (a .table .now) (a .k)) (s .pre .0 .1) in
+    let e : c .before .before .before .follows .result ≡ followsBy (a .pattern) (ruleIn (a .table .now) (a .k)) = c .before .before .before .follows .ensures ∙ ap (followsBy (a .pattern)) (c .before .before .before .before .before .before .before .before .rule-of .ensures) in
+    omega (arith, small, e)
 
 returns : tie.Need-returns
 returns c =
     let s = c .before .before .before .before .before .before .before .before .before in
     let a = s .args in
-    let in-row = ap (bit (a .row)) (sym (c .before .before .before .before .before .before .before .wide .ensures ∙ c .before .before .before .before .before .before .before .before .left-in .ensures)) ∙ sym (c .before .before .before .before .before .before .has .ensures) ∙ c .before .before .before .before .before .if1 .taken in
-    let matches = ap (matchesBy (a .pattern) (a .done)) (sym (c .before .before .before .before .rule-of .ensures)) ∙ sym (c .before .before .before .matches-rule .ensures) ∙ c .before .before .if2 .taken in
-    rw (in-row, matches) (c .with .ensures ∙ ap (addBit (a .set)) (c .before .follows .ensures ∙ ap (followsBy (a .pattern)) (c .before .before .before .before .rule-of .ensures)))
+    let rule = c .before .before .before .before .before .before .before .before .rule-of .ensures in
+    let matches = ap (matchesBy (a .pattern) (a .done)) (sym rule) ∙ sym (c .before .before .before .before .before .before .before .matches-rule .ensures) ∙ c .before .before .before .before .before .before .if1 .taken in
+    gains (a .pattern) (a .from .now) (a .done) (a .out .now) (ruleIn (a .table .now) (a .k)) _ _ _ matches
+    (c .before .before .before .before .wide .ensures ∙ c .before .before .before .before .before .left-in .ensures)
+    (c .before .before .before .follows .ensures ∙ ap (followsBy (a .pattern)) rule)
+    (c .contexts .ensures)
 
 returns-2 : tie.Need-returns-2
 returns-2 c =
-    let s = c .before .before .before .before .before .before .before in
-    let a = s .args in
-    let in-row = ap (bit (a .row)) (sym (c .before .before .before .before .before .wide .ensures ∙ c .before .before .before .before .before .before .left-in .ensures)) ∙ sym (c .before .before .before .before .has .ensures) ∙ c .before .before .before .if1 .taken in
-    let matches = ap (matchesBy (a .pattern) (a .done)) (sym (c .before .before .rule-of .ensures)) ∙ sym (c .before .matches-rule .ensures) ∙ c .if2 .left in
-    rw (in-row, matches)
-
-returns-3 : tie.Need-returns-3
-returns-3 c =
-    let s = c .before .before .before .before in
-    let a = s .args in
-    let in-row = ap (bit (a .row)) (sym (c .before .before .wide .ensures ∙ c .before .before .before .left-in .ensures)) ∙ sym (c .before .has .ensures) ∙ c .if1 .left in
-    rw in-row
+    let a = c .before .before .before .args in
+    let fails = ap (matchesBy (a .pattern) (a .done)) (sym (c .before .before .rule-of .ensures)) ∙ sym (c .before .matches-rule .ensures) ∙ c .if1 .left in
+    gains-none (a .pattern) (a .from .now) (a .done) (a .out .now) (ruleIn (a .table .now) (a .k)) fails
 
 pub gain-spec : {M : Type 1} → statement M
 gain-spec =
     tie.close
     (tie.spec
-    left-in-requires
-    wide-requires
-    has-requires
     rule-of-requires
     matches-rule-requires
+    left-in-requires
+    wide-requires
     follows-requires
-    with-requires
+    mul-out
+    element-copy-out-out
+    mul-contexts
+    element-copy-out-contexts
+    contexts-requires
+    mul-out-2
+    element-write-out
     returns
-    returns-2
-    returns-3)
+    returns-2)

@@ -9,9 +9,6 @@ use Rattle.pair_words.proofs.is_step.Tie as tie
 enum-told : tie.Need-enum-told
 enum-told c = search needs
 
-enum-told-2 : tie.Need-enum-told-2
-enum-told-2 c = search needs
-
 enum-known-pattern : tie.Need-enum-known-pattern
 enum-known-pattern c = search needs
 
@@ -43,13 +40,10 @@ returns : tie.Need-returns
 returns c = search needs
 
 returns-2 : tie.Need-returns-2
-returns-2 c = search needs
+returns-2 c = simp (c .before .before .pattern .given .1) (c .same-open .ensures)
 
 returns-3 : tie.Need-returns-3
-returns-3 c = simp (c .before .before .pattern .given .1) (c .same-open .ensures)
-
-returns-4 : tie.Need-returns-4
-returns-4 c =
+returns-3 c =
     let d = c .before .before .before .before .before in
     let h = c .before .before .has .ensures ∙ ap (bit (d .before .before .before .before .args .done)) (c .before .before .before .wide .ensures) in
     simp (d .before .before .pattern2 .given .1)
@@ -60,7 +54,6 @@ is-step-spec =
     tie.close
     (tie.spec
     enum-told
-    enum-told-2
     enum-known-pattern
     same-open-requires
     enum-known-pattern-2
@@ -72,5 +65,4 @@ is-step-spec =
     both-requires-2
     returns
     returns-2
-    returns-3
-    returns-4)
+    returns-3)

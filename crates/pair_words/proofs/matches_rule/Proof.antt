@@ -8,9 +8,6 @@ use Rattle.pair_words.proofs.matches_rule.Tie as tie
 enum-told : tie.Need-enum-told
 enum-told c = search needs
 
-is-empty-requires : tie.Need-is-empty-requires
-is-empty-requires c κs = search needs
-
 enum-known-rule : tie.Need-enum-known-rule
 enum-known-rule c = search needs
 
@@ -37,7 +34,6 @@ matches-rule-spec =
     tie.close
     (tie.spec
     enum-told
-    is-empty-requires
     enum-known-rule
     is-mark-requires
     enum-known-rule-2

@@ -24,9 +24,9 @@ after-close-requires c κs = search needs
 
 returns-2 : tie.Need-returns-2
 returns-2 c =
-    let a = c .before .before .before .before .before .before .before .args in
-    closed-step (a .table .now) (a .head) (a .stack .now) (a .names .now) (a .b) (a .top) (c .after-close .result) (c .before .before .before .before .before .if1 .left)
-    (rw (c .before .before .before .load .ensures) at (c .after-close .ensures))
+    let a = c .before .before .before .before .before .before .before .before .before .args in
+    closed-step (a .table .now) (a .head) (a .stack .now) (a .names .now) (a .b) (a .top) (c .after-close .result) (c .before .before .before .before .before .before .before .if1 .left)
+    (rw (c .before .before .before .before .before .load .ensures) at (c .after-close .ensures))
 
 pub closed-spec : {M : Type 1} → statement M
 closed-spec =

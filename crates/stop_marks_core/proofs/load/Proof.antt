@@ -4,7 +4,7 @@ use native.Mathlib.Omega.{arith}
 use mathlib.Core.Path.{_≡_, refl}
 use borrow.Author.Needs.{needs}
 use lib.ListN.{getD}
-use Rattle.pair_states.proofs.Fills.{Filled, fill-turn, fill-all}
+use Rattle.stop_marks_core.proofs.Fills.{Filled, fill-turn, fill-all}
 use Rattle.stop_marks_core.specs.Stack.{blockAt}
 use Rattle.stop_marks_core.proofs.load.Statement.{statement}
 use Rattle.stop_marks_core.proofs.load.Tie as tie

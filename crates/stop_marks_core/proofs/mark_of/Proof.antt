@@ -17,7 +17,7 @@ number-requires : tie.Need-number-requires
 number-requires c κs = search needs
 
 returns : tie.Need-returns
-returns c = c .number .ensures ∙ ap one (c .before .both .ensures ∙ ap (λ (b : Bool). eqb (c .before .before .before .before .before .args .top .depth) 0 && b) (c .before .before .may-end .ensures))
+returns c = c .number .ensures ∙ ap one (c .before .both .ensures ∙ ap (λ (b : Bool). eqb (c .before .before .before .before .before .before .args .top .depth) 0 && b) (c .before .before .may-end .ensures))
 
 pub mark-of-spec : {M : Type 1} → statement M
 mark-of-spec = tie.close (tie.spec may-end-requires both-requires number-requires returns)

@@ -16,8 +16,8 @@ Inv-loop table head tokens out₀ empties stack₀ names₀ top₀ i₀ out stac
 abbrev μ-loop : tie.MeasureT-loop
 μ-loop table head tokens out₀ empties stack₀ names₀ top₀ i₀ out stack names top i = length tokens - i
 
-empties-requires : tie.Need-empties-requires Inv-loop μ-loop
-empties-requires c κs = search needs
+ends-requires : tie.Need-ends-requires Inv-loop μ-loop
+ends-requires c κs = search needs
 
 begin-requires : tie.Need-begin-requires Inv-loop μ-loop
 begin-requires c κs = search needs
@@ -54,7 +54,7 @@ step-requires c κs =
     let s = c .before .before .before .before .before .before .before .before .before .before .before in
     let u = l .inv .1 in
     let d = depths u (c .before .before .before .before .before .loop-test .taken) in
-    (s .pre .0, (c .before .before .before .before .before .before .before .before .empties .ensures, (rw (c .before .before .token-of .ensures) d, (u .stack-size, u .names-size))))
+    (s .pre .0, (c .before .before .before .before .before .before .before .before .ends .ensures, (rw (c .before .before .token-of .ensures) d, (u .stack-size, u .names-size))))
 
 add-i : tie.Need-add-i Inv-loop μ-loop
 add-i c = search needs
@@ -65,7 +65,7 @@ loop-less c = search needs
 loop-again : tie.Need-loop-again Inv-loop μ-loop
 loop-again c =
     let l = c .before .before .before .before .before .before .before .loop in
-    let e = c .before .before .before .before .before .before .before .before .before .empties .ensures in
+    let e = c .before .before .before .before .before .before .before .before .before .ends .ensures in
     let s = c .before .before .before .before .before .before .before .before .before .before .before .before in
     let a = s .args in
     let u = l .inv .1 in
@@ -93,14 +93,14 @@ same-length c =
 returns : tie.Need-returns Inv-loop μ-loop
 returns c =
     let l = c .before .before .loop in
-    let e = c .before .before .before .before .empties .ensures in
+    let e = c .before .before .before .before .ends .ensures in
     let s = c .before .before .before .before .before .before .before in
     let a = s .args in
     let u = l .inv .1 in
     let is = c .mark-of2 .ensures ∙ mark-accepts (a .table .now) (a .head) (s .pre .0) _ e (l .top) (l .stack) (l .names) (u .configuration) (u .holds) in
     last-turn (a .table .now) (a .head) (a .tokens .now) (a .out .now)
     (l .i) (l .top) (l .stack) (l .names) (l .out) (c .mark-of2 .result) (s .pre .1 .1 .1) u is
-    (s .pre .0) (omega arith)
+    (s .pre .0 .ready) (omega arith)
 
 pub marks-spec : {M : Type 1} → statement M
 marks-spec =
@@ -108,7 +108,7 @@ marks-spec =
     (tie.spec
     Inv-loop
     μ-loop
-    empties-requires
+    ends-requires
     begin-requires
     loop-holds
     mark-of-requires

@@ -32,8 +32,8 @@ element-write-names c =
 after-open-requires : tie.Need-after-open-requires
 after-open-requires c κs = search needs
 
-add-t17 : tie.Need-add-t17
-add-t17 c = search needs
+add-t19 : tie.Need-add-t19
+add-t19 c = search needs
 
 enum-known-token-3 : tie.Need-enum-known-token-3
 enum-known-token-3 c = search needs
@@ -43,18 +43,18 @@ closed-requires c κs = search needs
 
 returns : tie.Need-returns
 returns c =
-    let s = c .before .before .before .before .before in
+    let s = c .before .before .before .before .before .before in
     let a = s .args in
-    rw (c .before .before .token .given .1)
+    rw (c .before .before .before .token .given .1)
     (mark-step (a .table .now) (a .head) (a .top) (a .stack .now) (a .names .now) (s .pre .1 .1 .1 .0) (s .pre .1 .1 .1 .1)
     _ (c .after-mark .result) (c .after-mark .ensures))
 
 returns-2 : tie.Need-returns-2
 returns-2 c =
-    let s = c .before .before .before .before .before .before .before in
-    let more = room (s .args .token) _ (s .args .top .depth) (c .before .before .before .before .token2 .given .1) (s .pre .1 .1 .0 .1) in
+    let s = c .before .before .before .before .before .before .before .before in
+    let more = room (s .args .token) _ (s .args .top .depth) (c .before .before .before .before .before .token2 .given .1) (s .pre .1 .1 .0 .1) in
     let a = s .args in
-    rw (c .before .before .before .before .token2 .given .1, c .before .save .ensures .0)
+    rw (c .before .before .before .before .before .token2 .given .1, c .before .before .save .ensures .0)
     (open-step (a .table .now) (a .head) (a .top) (a .stack .now) (a .names .now) (s .pre .1 .1 .1 .0) (s .pre .1 .1 .1 .1)
     _ (c .after-open .result) more (omega arith) (c .after-open .ensures))
 
@@ -77,7 +77,7 @@ step-spec =
     mul-names
     element-write-names
     after-open-requires
-    add-t17
+    add-t19
     enum-known-token-3
     closed-requires
     returns
