@@ -12,10 +12,10 @@ use Rattle.rule_index.proofs.add_rules.Statement.{statement}
 use Rattle.rule_index.proofs.add_rules.Tie as tie
 
 abbrev Inv-loop : tie.InvT-loop
-Inv-loop table₀ due₀ table due = (due ≤ due₀) × SameRules table₀ table × IndexedFrom table due₀ due
+Inv-loop table₀ rules due₀ table due = (due ≤ rules) × SameRules table₀ table × IndexedFrom table rules due
 
 abbrev μ-loop : tie.MeasureT-loop
-μ-loop table₀ due₀ table due = due
+μ-loop table₀ rules due₀ table due = due
 
 loop-holds : tie.Need-loop-holds Inv-loop μ-loop
 loop-holds c = (omega arith, same-self _, c .pre .2)
