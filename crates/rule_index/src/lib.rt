@@ -132,7 +132,8 @@ fn add_rules(table: &mut Table, head: Head)
     requires { ⌜ (length (now table) ≡ 1186) × Ready (now table) head × IndexedFrom (now table) (head .rules) (head .rules) ⌝ }
     ensures { λ _. ⌜ SameRules (now (table .entry)) (now (table .exit)) × IndexedFrom (now (table .exit)) (head .rules) 0 ⌝ }
 {
-    let mut due = head.rules;
+    let rules = head.rules;
+    let mut due = rules;
     while 0 < due {
         add_rule(table, due - 1);
         due -= 1;

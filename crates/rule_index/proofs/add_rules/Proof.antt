@@ -12,10 +12,10 @@ use Rattle.rule_index.proofs.add_rules.Statement.{statement}
 use Rattle.rule_index.proofs.add_rules.Tie as tie
 
 abbrev Inv-loop : tie.InvT-loop
-Inv-loop table₀ due₀ table due = (due ≤ due₀) × SameRules table₀ table × IndexedFrom table due₀ due
+Inv-loop table₀ rules due₀ table due = (due ≤ rules) × SameRules table₀ table × IndexedFrom table rules due
 
 abbrev μ-loop : tie.MeasureT-loop
-μ-loop table₀ due₀ table due = due
+μ-loop table₀ rules due₀ table due = due
 
 loop-holds : tie.Need-loop-holds Inv-loop μ-loop
 loop-holds c = (omega arith, same-self _, c .pre .2)
@@ -44,7 +44,7 @@ loop-again c =
     let k = ready-kept _ t (l .loop .inv .1) _ (l .before .pre .1) in
     let e : r + 1 ≡ l .loop .due = omega arith in (
       omega arith,
-      rw (c .add-rule .ensures) (same-on (l .loop .inv .1) (added-same t r)),
+      rw (c .add-rule .ensures) (same-on (l .loop .inv .1) (added-same t _)),
       rw (c .add-rule .ensures)
           (index-added t _ r (l .loop .inv .1 .size ∙ l .before .pre .0) (k .few) (omega arith) (k .small r (omega arith) .0) (rw e (l .loop .inv .2))),
     )
