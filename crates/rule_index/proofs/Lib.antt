@@ -1,3 +1,5 @@
+pub mod Building
 pub mod Chains
 pub mod Classes
+pub mod Kept
 pub mod Walk
