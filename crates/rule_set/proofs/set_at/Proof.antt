@@ -1,14 +1,12 @@
 -- `set_at`: on the way through the class of the token, up to rule r the ways and the words are those of the first r rules.
 use borrow.Author.Needs.{needs}
-use Prim.Native.Nat.{_+_, _-_, _<_, _≤_}
-use mathlib.Core.Path.{_≡_, sym, ap, _∙_}
-use native.Mathlib.Numerals.{add-one}
+use Prim.Native.Nat.{suc, _-_, _<_, _≤_}
+use mathlib.Core.Path.{_≡_, refl, sym, ap, _∙_}
 use native.Mathlib.Omega.{arith}
 use lib.ListN.{length}
 use Rattle.tables.specs.Table.{ruleIn}
 use Rattle.rule_index.specs.Classes.{classAt, classOf}
-use Rattle.rule_index.specs.Index.{FirstFrom}
-use Rattle.rule_index.proofs.Classes.{class-small}
+use Rattle.rule_index.proofs.Walk.{starts, goes-on}
 use Rattle.contexts.specs.Context.{tokenHere}
 use Rattle.rule_set.specs.declared.Ways.{Ways}
 use Rattle.rule_set.specs.RuleSet.{waysIn, wordsIn}
@@ -39,7 +37,7 @@ unfolding waysIn wordsIn
 loop-holds c =
     let s = c .before .before .before .before .before .before .before in
     let p = s .args .context in
-    let f : FirstFrom (s .args .table .now) (s .args .head .rules) (classAt (tokenHere p)) 0 (c .first-here .result) = rw (c .first-here .ensures) (s .pre .0 .firsts (classAt (tokenHere p)) (class-small (tokenHere p))) in
+    let f = starts (s .pre .0) (tokenHere p) (classAt (tokenHere p)) (c .first-here .result) refl (c .first-here .ensures) in
     let cleared = c .before .before .before .before .clear .ensures in
     (f .most, ap length cleared, c .before .no-ways .ensures ∙ sym (ways-passed (s .args .table .now) (s .args .here) p f), cleared ∙ sym (words-passed (s .args .table .now) (s .args .here) p f), f .of-class)
 
@@ -79,11 +77,11 @@ loop-again c =
     let l = c .before .before .before .before .before .before .before .before .before .before in
     let s = l .before .before .before .before .before .before .before .before in
     let p = s .args .context in
-    let f : FirstFrom (s .args .table .now) (s .args .head .rules) (classAt (tokenHere p)) (l .loop .r + 1) (n .next-of .result) = rw (n .next-of .ensures, ← (l .loop .inv .4 (n .before .loop-test .taken))) (s .pre .0 .nexts (l .loop .r) (n .before .loop-test .taken)) in
+    let f = goes-on (s .pre .0) (l .loop .r) (classAt (tokenHere p)) (n .next-of .result) (n .before .loop-test .taken) (l .loop .inv .4 (n .before .loop-test .taken)) (n .next-of .ensures) in
     let yes = sym (c .before .before .before .before .before .before .before .keeps .ensures) ∙ c .before .before .before .before .before .before .if1 .taken in
     let added = c .before .before .before .before .add .ensures in
-    let ways : c .ways-with .result ≡ waysIn (s .args .table .now) (s .args .here) p (l .loop .r + 1) = rw (add-one, yes, ← (l .loop .inv .2)) (c .ways-with .ensures ∙ rw (c .before .rule-of .ensures)) in
-    let words : c .before .before .before .before .add .last .0 ≡ wordsIn (s .args .table .now) (s .args .here) p (l .loop .r + 1) = rw (add-one, yes, ← (l .loop .inv .3)) added in (
+    let ways : c .ways-with .result ≡ waysIn (s .args .table .now) (s .args .here) p (suc (l .loop .r)) = rw (yes, ← (l .loop .inv .2)) (c .ways-with .ensures ∙ rw (c .before .rule-of .ensures)) in
+    let words : c .before .before .before .before .add .last .0 ≡ wordsIn (s .args .table .now) (s .args .here) p (suc (l .loop .r)) = rw (yes, ← (l .loop .inv .3)) added in (
       f .most,
       ap length added ∙ add-length 32 (l .loop .words) (l .loop .r) ∙ l .loop .inv .1,
       ways ∙ sym (ways-passed (s .args .table .now) (s .args .here) p f),
@@ -103,10 +101,10 @@ loop-again-2 c =
     let l = c .before .before .before .before in
     let s = l .before .before .before .before .before .before .before .before in
     let p = s .args .context in
-    let f : FirstFrom (s .args .table .now) (s .args .head .rules) (classAt (tokenHere p)) (l .loop .r + 1) (n .next-of .result) = rw (n .next-of .ensures, ← (l .loop .inv .4 (n .before .loop-test .taken))) (s .pre .0 .nexts (l .loop .r) (n .before .loop-test .taken)) in
+    let f = goes-on (s .pre .0) (l .loop .r) (classAt (tokenHere p)) (n .next-of .result) (n .before .loop-test .taken) (l .loop .inv .4 (n .before .loop-test .taken)) (n .next-of .ensures) in
     let no = sym (c .before .keeps .ensures) ∙ c .if1 .left in
-    let ways : l .loop .ways ≡ waysIn (s .args .table .now) (s .args .here) p (l .loop .r + 1) = rw (add-one, no) (l .loop .inv .2) in
-    let words : l .loop .words ≡ wordsIn (s .args .table .now) (s .args .here) p (l .loop .r + 1) = rw (add-one, no) (l .loop .inv .3) in
+    let ways : l .loop .ways ≡ waysIn (s .args .table .now) (s .args .here) p (suc (l .loop .r)) = rw no (l .loop .inv .2) in
+    let words : l .loop .words ≡ wordsIn (s .args .table .now) (s .args .here) p (suc (l .loop .r)) = rw no (l .loop .inv .3) in
     (f .most, l .loop .inv .1, ways ∙ sym (ways-passed (s .args .table .now) (s .args .here) p f), words ∙ sym (words-passed (s .args .table .now) (s .args .here) p f), f .of-class)
 
 same-length : tie.Need-same-length Inv-loop μ-loop

@@ -1,13 +1,11 @@
 -- `ways_at`: on the way through the class of the token, up to rule r the ways are those of the first r rules.
 use borrow.Author.Needs.{needs}
-use Prim.Native.Nat.{_+_, _-_, _<_, _≤_}
-use mathlib.Core.Path.{_≡_, sym, ap, _∙_}
-use native.Mathlib.Numerals.{add-one}
+use Prim.Native.Nat.{suc, _-_, _<_, _≤_}
+use mathlib.Core.Path.{_≡_, refl, sym, ap, _∙_}
 use native.Mathlib.Omega.{arith}
 use Rattle.tables.specs.Table.{ruleIn}
 use Rattle.rule_index.specs.Classes.{classAt, classOf}
-use Rattle.rule_index.specs.Index.{FirstFrom}
-use Rattle.rule_index.proofs.Classes.{class-small}
+use Rattle.rule_index.proofs.Walk.{starts, goes-on}
 use Rattle.contexts.specs.Context.{tokenHere}
 use Rattle.rule_set.specs.declared.Ways.{Ways}
 use Rattle.rule_set.specs.RuleSet.{waysIn}
@@ -32,7 +30,7 @@ unfolding waysIn
 loop-holds c =
     let s = c .before .before in
     let p = s .args .context in
-    let f : FirstFrom (s .args .table .now) (s .args .head .rules) (classAt (tokenHere p)) 0 (c .first-here .result) = rw (c .first-here .ensures) (s .pre .firsts (classAt (tokenHere p)) (class-small (tokenHere p))) in
+    let f = starts (s .pre) (tokenHere p) (classAt (tokenHere p)) (c .first-here .result) refl (c .first-here .ensures) in
     (f .most, c .before .no-ways .ensures ∙ sym (ways-passed (s .args .table .now) (s .args .here) p f), f .of-class)
 
 ways-turn-requires : tie.Need-ways-turn-requires Inv-loop μ-loop
@@ -59,8 +57,8 @@ loop-again c =
     let s = c .before .before .before .before .before .before in
     let p = s .args .context in
     let taken = c .before .before .loop-test .taken in
-    let f : FirstFrom (s .args .table .now) (s .args .head .rules) (classAt (tokenHere p)) (l .r + 1) (c .next-of .result) = rw (c .next-of .ensures, ← (l .inv .2 taken)) (s .pre .nexts (l .r) taken) in
-    let turned : c .before .ways-turn .result ≡ waysIn (s .args .table .now) (s .args .here) p (l .r + 1) = rw (add-one, ← (l .inv .1)) (c .before .ways-turn .ensures) in
+    let f = goes-on (s .pre) (l .r) (classAt (tokenHere p)) (c .next-of .result) taken (l .inv .2 taken) (c .next-of .ensures) in
+    let turned : c .before .ways-turn .result ≡ waysIn (s .args .table .now) (s .args .here) p (suc (l .r)) = rw (← (l .inv .1)) (c .before .ways-turn .ensures) in
     (f .most, turned ∙ sym (ways-passed (s .args .table .now) (s .args .here) p f), f .of-class)
 
 returns : tie.Need-returns Inv-loop μ-loop
