@@ -1,6 +1,7 @@
 # What the tests in Bash share. They run in the repository's root, with a temporary folder $room that is removed at the end.
 set -euo pipefail
 unset CDPATH
+umask 022
 root=$(cd "$(dirname "$(readlink -f "${BASH_SOURCE[0]}")")/.." && pwd -P)
 cd "$root"
 room=$(mktemp -d)
