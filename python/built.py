@@ -5,9 +5,8 @@ Both programs are outside what is proved. What they print of readings, sets and 
 import importlib
 import os
 import subprocess
-import traceback
 
-from streams import CouldNotRun, complain, why
+from streams import CouldNotRun, why
 
 ROOT = os.path.dirname(os.path.dirname(os.path.realpath(__file__)))
 
@@ -29,16 +28,3 @@ def library():
         return importlib.import_module("gaffmedlar")
     except ImportError as e:
         raise CouldNotRun(e)
-
-
-def guarded(main):
-    """The same program, but what nobody foresaw ends it by the status for that, and not by Python's own, which would say 'none'."""
-    def call(words):
-        try:
-            return main(words)
-        except CouldNotRun:
-            raise
-        except Exception as e:
-            complain("unforeseen", traceback.format_exc().rstrip())
-            raise CouldNotRun("a fault of the program itself: %r" % e)
-    return call

@@ -6,10 +6,9 @@ import os
 import re
 from typing import NamedTuple, Optional
 
-from faults import Text
-from frame_text import TextFault
+from faults import text_beside
 from frames import KINDS, read_grammar, read_history, token_words
-from streams import CouldNotRun, printable, read_text
+from streams import printable
 
 
 class Note(NamedTuple):
@@ -27,17 +26,10 @@ class Notes(NamedTuple):
 
 def notes_beside(path, kind, data):
     """Those of the text that has the file's name but .txt at its end, where it is there and says the same."""
-    beside = os.path.splitext(path)[0] + ".txt"
-    name = printable(os.path.basename(beside))
-    if beside == path or not os.path.isfile(beside):
-        return Notes(name, [], None)
-    try:
-        text = Text(kind, read_text(beside))
-    except (CouldNotRun, TextFault):
-        return Notes(name, [], "%s lies beside it and can't be read as a %s" % (name, kind))
-    if text.data != data:
-        return Notes(name, [], "%s lies beside it and says something else" % name)
-    return Notes(name, [Note(item.line, printable(item.comment.replace("\t", " "))) for item in text.items], None)
+    text, fault = text_beside(path, kind, data, os.path.basename)
+    if text is None:
+        return Notes("", [], fault)
+    return Notes(text.name, [Note(item.line, printable(item.comment.replace("\t", " "))) for item in text.items], None)
 
 
 def rule_sentence(rule):

@@ -4,10 +4,10 @@ The fault is the one that the reader of frames.py finds; the refusal's words and
 """
 import os
 
-from frame_text import PARSE, decoded, rule_text
+from frame_text import PARSE, TextFault, decoded, rule_text
 from frames import FIELDS, Reader, Refused, numbers_bytes, read_history, read_stages_and_rules, token_words
 from refusal_table import table
-from streams import CouldNotRun, printable, why
+from streams import CouldNotRun, printable, read_text, why
 
 ROOT = os.path.join(os.path.dirname(os.path.realpath(__file__)), "..")
 
@@ -46,6 +46,21 @@ class Text:
     def shown(self, line):
         said = printable(self.lines[line - 1].strip().replace("\t", " "))
         return "%s: %s" % (self.named(line), said if len(said) <= SHOWN_LINE else said[:SHOWN_LINE] + " ..")
+
+
+def text_beside(path, kind, data, name_of=str):
+    """The readable form beside a file where it says the same, and a word where it doesn't; its path is told by name_of."""
+    beside = os.path.splitext(path)[0] + ".txt"
+    if path == "-" or beside == path or not os.path.isfile(beside):
+        return None, None
+    name = printable(name_of(beside))
+    try:
+        text = Text(kind, read_text(beside), name)
+    except (CouldNotRun, TextFault):
+        return None, "%s lies beside it and can't be read as a %s" % (name, kind)
+    if text.data != data:
+        return None, "%s lies beside it and says something else" % name
+    return text, None
 
 
 class File:

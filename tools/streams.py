@@ -4,6 +4,7 @@ import signal
 import stat
 import sys
 import tempfile
+import traceback
 
 # The statuses of a command. 1 is left to ./list, where it says that there is no reading.
 DONE, REFUSED, COULD_NOT_RUN = 0, 2, 3
@@ -123,12 +124,18 @@ def complain(command, message):
 
 
 def run(command, main):
-    """Runs a command to its end: its status, or COULD_NOT_RUN with a message. An interrupt ends it without one."""
+    """Runs a command to its end: its status, or COULD_NOT_RUN with a message. An interrupt ends it without one.
+
+    What nobody foresaw ends it by that status too: Python's own would be 1, which says that there is no reading.
+    """
     signal.signal(signal.SIGINT, signal.SIG_DFL)
     try:
         status = main(sys.argv[1:])
     except CouldNotRun as e:
         complain(command, e)
+        status = COULD_NOT_RUN
+    except Exception as e:
+        complain(command, "a fault of the program itself: %r\n%s" % (e, traceback.format_exc().rstrip()))
         status = COULD_NOT_RUN
     # What could not be written is told already, and Python need not try it again.
     os._exit(status)
