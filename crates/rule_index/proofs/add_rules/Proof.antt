@@ -44,7 +44,7 @@ loop-again c =
     let k = ready-kept _ t (l .loop .inv .1) _ (l .before .pre .1) in
     let e : r + 1 ≡ l .loop .due = omega arith in (
       omega arith,
-      rw (c .add-rule .ensures) (same-on (l .loop .inv .1) (added-same t r)),
+      rw (c .add-rule .ensures) (same-on (l .loop .inv .1) (added-same t _)),
       rw (c .add-rule .ensures)
           (index-added t _ r (l .loop .inv .1 .size ∙ l .before .pre .0) (k .few) (omega arith) (k .small r (omega arith) .0) (rw e (l .loop .inv .2))),
     )
