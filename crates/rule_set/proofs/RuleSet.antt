@@ -2,7 +2,8 @@
 use Prim.Native.Nat.{ℕ, zero, suc, _≤_}
 use native.Mathlib.Omega.{arith}
 use mathlib.Core.Path.{_≡_, refl, sym, _∙_, ap}
-use mathlib.Core.Bool.{Bool, true, false, cond, _&&_, _||_, or-false}
+use mathlib.Core.Logic.{_≢_}
+use mathlib.Core.Bool.{Bool, true, false, cond, _&&_, _||_, or-false, and-false}
 use mathlib.Core.List.{List}
 use mathlib.Core.Option.{Option, none, some}
 use lib.ListN.{length, length-set}
@@ -13,10 +14,16 @@ use Rattle.bits.specs.Bit.{bit}
 use Rattle.bits.proofs.Bits.{bit-zero, bit-add}
 use Rattle.vpg.specs.declared.Rule.{Rule}
 use Rattle.vpg.specs.Parts.{onward, beyond, isIt}
+use Rattle.vpg.specs.Steps.{left}
 use Rattle.sets_theory.specs.believed.Sets.{count}
 use Rattle.level_theory.specs.Kept.{goesTo, returnsTo, going, returning}
 use Rattle.tables.specs.Table.{ruleIn, rulesIn}
+use Rattle.rule_index.specs.Classes.{classAt, classOf}
+use Rattle.rule_index.specs.Index.{FirstFrom}
+use Rattle.rule_index.proofs.Chains.{passed}
 use Rattle.contexts.specs.declared.Context.{Context}
+use Rattle.contexts.specs.Context.{tokenHere}
+use Rattle.contexts.proofs.Contexts.{applies-apart}
 use Rattle.rule_set.specs.Words.{Held, addIn}
 use Rattle.rule_set.specs.declared.Ways.{Ways}
 use Rattle.rule_set.specs.RuleSet.{keepsAt, withSome, waysWith, waysIn, wordsIn}
@@ -39,6 +46,28 @@ module _ (t : List ℕ) (here : ℕ) (context : Context) where
 
   abbrev Words-of : ℕ → List ℕ
   Words-of n = wordsIn t here context n
+
+  abbrev Class : ℕ
+  Class = classAt (tokenHere context)
+
+  -- a rule of another class than the token's is not in the set
+  other-class : (q : ℕ) → classOf (ruleIn t q) ≢ Class → Keeps q ≡ false
+  other-class q d = rw (applies-apart t context q d) (and-false (bit here (left (ruleIn t q))))
+
+  -- so up to the next rule of the class the ways and the words stay
+  pub ways-passed : {rules k n : ℕ} → FirstFrom t rules (classAt (tokenHere context)) k n → waysIn t here context n ≡ waysIn t here context k
+  unfolding waysIn
+  ways-passed = passed Ways-of t Class same
+    where
+      same : (q : ℕ) → classOf (ruleIn t q) ≢ Class → Ways-of (suc q) ≡ Ways-of q
+      same q d = rw (other-class q d)
+
+  pub words-passed : {rules k n : ℕ} → FirstFrom t rules (classAt (tokenHere context)) k n → wordsIn t here context n ≡ wordsIn t here context k
+  unfolding wordsIn
+  words-passed = passed Words-of t Class same
+    where
+      same : (q : ℕ) → classOf (ruleIn t q) ≢ Class → Words-of (suc q) ≡ Words-of q
+      same q d = rw (other-class q d)
 
   pub held-most : (n : ℕ) → waysIn t here context n .held ≤ n
   unfolding waysIn

@@ -7,7 +7,10 @@ ghost use mathlib.Core.Path.{_≡_};
 ghost use Prim.Native.Nat.{_<_};
 ghost use lib.ListN.{length, replicate};
 ghost use Rattle.tables.specs.Table.{ruleIn};
-ghost use Rattle.tables.specs.Ready.{Below, Ready};
+ghost use Rattle.tables.specs.Ready.{Below};
+ghost use Rattle.rule_index.specs.Classes.{classAt};
+ghost use Rattle.rule_index.specs.Index.{Indexed, firstIn};
+ghost use Rattle.contexts.specs.Context.{tokenHere};
 ghost use Rattle.rule_set.specs.Words.{addIn};
 ghost use Rattle.rule_set.specs.RuleSet.{keepsAt, nextWith, behindWith, waysWith, waysTurn, noWays, waysIn, wordsIn};
 
@@ -18,13 +21,13 @@ pub struct Ways {
     pub behind: u32,
 }
 
-// Whether the nonterminal of rule r can stand here, and the rule too. Few rules can, whatever their nonterminal: that is asked first.
+// Whether the nonterminal of rule r can stand here, and the rule too. Of the rules of a token's class most can: that is asked last.
 fn keeps(here: u32, table: &Table, r: usize, context: Context) -> bool
     requires { ⌜ (r < 128) × Below 32 (ruleIn (now table) r) ⌝ }
     ensures { λ x. ⌜ x ≡ keepsAt here context (ruleIn (now (table .entry)) r) ⌝ }
 {
-    if contexts::applies(table, r, context) {
-        bits::has(here, tables::left_in(table, r) as usize)
+    if bits::has(here, tables::left_in(table, r) as usize) {
+        contexts::applies(table, r, context)
     } else {
         false
     }
@@ -98,19 +101,27 @@ fn clear(words: &mut [u32])
     words[3] = 0;
 }
 
+// The first rule of the token's class; the number of rules where there is none.
+fn first_here(table: &Table, context: Context) -> usize
+    ensures { λ r. ⌜ r ≡ firstIn (now (table .entry)) (classAt (tokenHere context)) ⌝ }
+{
+    rule_index::first_of(table, rule_index::class_at(contexts::token_of(context)))
+}
+
 // The set of rules at a position where the nonterminals `here` can stand: it is written, rule 32k + b as digit b of word k.
+// Only the rules of the token's class are looked at.
 pub fn set_at(table: &Table, head: Head, here: u32, context: Context, words: &mut [u32]) -> Ways
-    requires { ⌜ Ready (now table) head ⌝ }
+    requires { ⌜ Indexed (now table) head ⌝ }
     requires { ⌜ length (now words) ≡ 4 ⌝ }
     ensures { λ x. ⌜ (x ≡ waysIn (now (table .entry)) here context (head .rules)) × (now (words .exit) ≡ wordsIn (now (table .entry)) here context (head .rules)) ⌝ }
 {
     let count = head.rules;
     clear(words);
     let mut ways = no_ways();
-    let mut r: usize = 0;
+    let mut r = first_here(table, context);
     while r < count {
         let k = r;
-        r += 1;
+        r = rule_index::next_of(table, k);
         if keeps(here, table, k, context) {
             add(words, k);
             ways = ways_with(ways, tables::rule_of(table, k));
@@ -133,15 +144,15 @@ fn ways_turn(ways: Ways, here: u32, table: &Table, r: usize, context: Context) -
 
 // The ways on alone, where nobody asks for the set.
 pub fn ways_at(table: &Table, head: Head, here: u32, context: Context) -> Ways
-    requires { ⌜ Ready (now table) head ⌝ }
+    requires { ⌜ Indexed (now table) head ⌝ }
     ensures { λ x. ⌜ x ≡ waysIn (now (table .entry)) here context (head .rules) ⌝ }
 {
     let count = head.rules;
     let mut ways = no_ways();
-    let mut r: usize = 0;
+    let mut r = first_here(table, context);
     while r < count {
         ways = ways_turn(ways, here, table, r, context);
-        r += 1;
+        r = rule_index::next_of(table, r);
     }
     ways
 }

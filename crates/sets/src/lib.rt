@@ -9,7 +9,8 @@ ghost use Prim.Native.Nat.{_+_, _*_, _≤_};
 ghost use lib.ListN.{length, drop};
 ghost use Rattle.sets_theory.specs.believed.Sets.{setWords, doubtfulCount};
 ghost use Rattle.level_theory.specs.Pending.{WellMatched};
-ghost use Rattle.tables.specs.Ready.{Ready, grammarIn};
+ghost use Rattle.tables.specs.Ready.{grammarIn};
+ghost use Rattle.rule_index.specs.Index.{Indexed};
 ghost use Rattle.history_file.specs.believed.HistoryFile.{tokensOf};
 ghost use Rattle.history_file.specs.HistoryTokens.{Tokens};
 ghost use Rattle.service.specs.believed.Given.{outcomeSaid};
@@ -22,7 +23,7 @@ pub enum CountAnswer {
 }
 
 fn sets_on(table: &Table, head: Head, tokens: &[u32], words: &mut [u32])
-    requires { ⌜ Ready (now table) head ⌝ }
+    requires { ⌜ Indexed (now table) head ⌝ }
     requires { ⌜ Tokens (now tokens) × WellMatched (tokensOf (now tokens)) ⌝ }
     requires { ⌜ 4 * (length (now tokens) + 1) ≤ length (now words) ⌝ }
     ensures { λ _. ⌜ now (words .exit) ≡ setWords (grammarIn (now (table .entry)) head) (tokensOf (now (tokens .entry))) ++ drop (4 * (length (now (tokens .entry)) + 1)) (now (words .entry)) ⌝ }
@@ -33,7 +34,7 @@ fn sets_on(table: &Table, head: Head, tokens: &[u32], words: &mut [u32])
 }
 
 fn doubtful_on(table: &Table, head: Head, tokens: &[u32]) -> u32
-    requires { ⌜ Ready (now table) head ⌝ }
+    requires { ⌜ Indexed (now table) head ⌝ }
     requires { ⌜ Tokens (now tokens) × WellMatched (tokensOf (now tokens)) ⌝ }
     ensures { λ r. ⌜ r ≡ doubtfulCount (grammarIn (now (table .entry)) head) (tokensOf (now (tokens .entry))) ⌝ }
 {

@@ -160,7 +160,7 @@ module _ {t : List ℕ} {head : Head} {ts m mask : List ℕ} (x : Setting t head
       words-here {ws} e = ext-getD 0 ws (listed 4 (setWord g W p)) (held .0 ∙ sym (length-listed 4 (setWord g W p))) word
         where
           held : (length ws ≡ 4) × Held 32 n (λ q. keepsAt here context (ruleIn t q)) ws
-          held = rw e (words-held t here context n (x .ready .few))
+          held = rw e (words-held t here context n (x .indexed .ready .few))
 
           word : (i : ℕ) → i < length ws → getD ws i 0 ≡ getD (listed 4 (setWord g W p)) i 0
           word i l =

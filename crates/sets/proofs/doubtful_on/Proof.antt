@@ -14,7 +14,7 @@ masks-of-requires c κs =
 doubtful-requires : tie.Need-doubtful-requires
 doubtful-requires c κs =
     let s = c .before .before .before .before .before .before in
-    record { ready = s .pre .0; tokens = s .pre .1 .0; balanced = s .pre .1 .1; matched = c .before .before .before .before .closes-of .ensures .1; leveled = c .before .before .masks-of .ensures .1 }
+    record { indexed = s .pre .0; tokens = s .pre .1 .0; balanced = s .pre .1 .1; matched = c .before .before .before .before .closes-of .ensures .1; leveled = c .before .before .masks-of .ensures .1 }
 
 returns : tie.Need-returns
 returns c = search needs

@@ -14,7 +14,7 @@ masks-of-requires c κs =
 sets-requires : tie.Need-sets-requires
 sets-requires c κs =
     let s = c .before .before .before .before .before .before .before .before in
-    (record { ready = s .pre .0; tokens = s .pre .1 .0 .0; balanced = s .pre .1 .0 .1; matched = c .before .before .before .before .before .closes-of .ensures .1; leveled = c .before .before .before .masks-of .ensures .1 }, s .pre .1 .1)
+    (record { indexed = s .pre .0; tokens = s .pre .1 .0 .0; balanced = s .pre .1 .0 .1; matched = c .before .before .before .before .before .closes-of .ensures .1; leveled = c .before .before .before .masks-of .ensures .1 }, s .pre .1 .1)
 
 same-length : tie.Need-same-length
 same-length c = search needs

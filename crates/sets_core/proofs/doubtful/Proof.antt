@@ -31,7 +31,7 @@ context-at-requires : tie.Need-context-at-requires Inv-loop μ-loop
 context-at-requires c κs = let s = c .before .before .before .before .before in (s .pre .tokens, (omega arith, s .pre .matched))
 
 ways-at-requires : tie.Need-ways-at-requires Inv-loop μ-loop
-ways-at-requires c κs = c .before .before .before .before .before .before .pre .ready
+ways-at-requires c κs = c .before .before .before .before .before .before .pre .indexed
 
 counted-requires : tie.Need-counted-requires Inv-loop μ-loop
 counted-requires c κs = omega (arith, c .before .before .before .before .before .before .before .pre .tokens .few, doubts-most (c .before .before .before .loop .inv .1))

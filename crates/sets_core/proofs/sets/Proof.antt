@@ -60,7 +60,7 @@ set-at-requires c κs =
     let l = c .before .before .before .loop in
     let e = written-length (l .inv .1) (omega (arith, s .pre .1)) in
     let four : 4 * l .p + 4 - 4 * l .p ≡ 4 = omega arith in
-    (s .pre .0 .ready, mid-len (4 * l .p) (4 * l .p + 4) (l .words) (omega (arith, s .pre .1, e)) ∙ four)
+    (s .pre .0 .indexed, mid-len (4 * l .p) (4 * l .p + 4) (l .words) (omega (arith, s .pre .1, e)) ∙ four)
 
 mul-onward : tie.Need-mul-onward Inv-loop μ-loop
 mul-onward c = search needs
