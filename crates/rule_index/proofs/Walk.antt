@@ -1,7 +1,7 @@
 -- A walk over a class: what it starts at, and what it goes on to.
 use Prim.Native.Nat.{ℕ, suc, _<_}
 use native.Mathlib.Numerals.{add-one}
-use mathlib.Core.Path.{_≡_, sym, _∙_, ap}
+use mathlib.Core.Path.{_≡_}
 use mathlib.Core.List.{List}
 use Rattle.vpg.specs.declared.Token.{Token}
 use Rattle.tables.specs.declared.Head.{Head}
