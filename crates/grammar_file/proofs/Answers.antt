@@ -1,15 +1,15 @@
 -- What the answer of `read_grammar` tells of the grammar file.
-use Prim.Native.Nat.{ℕ, _≤_}
-use mathlib.Core.Path.{_≡_, refl, ap}
-use mathlib.Core.List.{List}
+use Prim.Native.Nat.{ℕ, _+_, _≤_}
+use mathlib.Core.Path.{_≡_, refl, ap, _∙_}
+use mathlib.Core.List.{List, [], _∷_}
 use native.Mathlib.Omega.{arith}
-use lib.ListN.{length}
+use lib.ListN.{length, replicate, length-replicate}
 use Rattle.numbers.specs.believed.Number.{bytes}
 use Rattle.tables.specs.declared.Head.{Head}
-use Rattle.tables.specs.Table.{tableOf}
+use Rattle.tables.specs.Table.{sixOf, putSix, fill, tableOf}
 use Rattle.tables.specs.Ready.{Ready, grammarIn, headOf}
-use Rattle.tables.proofs.Tables.{rules-table}
-use Rattle.vpg.specs.believed.Grammar.{Grammar}
+use Rattle.tables.proofs.Tables.{length-put, rules-table}
+use Rattle.vpg.specs.believed.Grammar.{Rules, Grammar}
 use Rattle.grammar_file.specs.declared.GrammarAnswer.{GrammarAnswer}
 use Rattle.grammar_file.specs.declared.GrammarAnswer.the-variants.{Accepted, Refused}
 use Rattle.grammar_file.specs.believed.GrammarFile.{GrammarFile, accepted, refused, grammarOf}
@@ -21,9 +21,19 @@ use Rattle.grammar_file.proofs.Ready.{wellformed-ready}
 grammar-table : (g : Grammar) → length (g .rules) ≤ 128 → grammarIn (tableOf (g .rules)) (headOf g) ≡ g
 grammar-table g few = ap (λ rules. record { nonterminals = g .nonterminals; start = g .start; rules = rules }) (rules-table (g .rules) few)
 
+length-fill : (rs : Rules) (t : List ℕ) (k : ℕ) → length (fill t k rs) ≡ length t
+unfolding fill
+length-fill [] t k = refl
+length-fill (r ∷ rs) t k = length-fill rs (putSix t k (sixOf r)) (k + 1) ∙ length-put t k (sixOf r)
+
+length-table : (rs : Rules) → length (tableOf rs) ≡ 1186
+unfolding tableOf
+length-table rs = length-fill rs (replicate 1186 0) 0 ∙ length-replicate {A = ℕ} 1186 0
+
 -- what an accepted file says, by the head and the table
 pub record GrammarIs (s table : List ℕ) (head : Head) : Type 0 where
   pub is : grammarOf s ≡ accepted (grammarIn table head)
+  pub size : length table ≡ 1186
   pub ready : Ready table head
 
 module _ (s : List ℕ) {r : GrammarAnswer} {table : List ℕ} (says : _≡_ {A = GrammarAnswer × List ℕ} (r, table) (grammarRead (grammarOf s))) where
@@ -38,7 +48,7 @@ module _ (s : List ℕ) {r : GrammarAnswer} {table : List ℕ} (says : _≡_ {A 
       go (accepted g) p q t =
           let w = grammar-wellformed (bytes s) g p in
           let e : head ≡ headOf g = cc in
-          rw (e, t) (record { is = rw (grammar-table g (w .rules-most)) p; ready = wellformed-ready g w })
+          rw (e, t) (record { is = rw (grammar-table g (w .rules-most)) p; size = length-table (g .rules); ready = wellformed-ready g w })
 
   pub grammar-refused : (e : ℕ) → r ≡ Refused e → grammarOf s ≡ refused e
   grammar-refused e h = go (grammarOf s) answer-is

@@ -1,2 +1,4 @@
+pub mod Building
 pub mod Chains
 pub mod Classes
+pub mod Kept

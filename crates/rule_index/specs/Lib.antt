@@ -1,2 +1,3 @@
+pub mod Building
 pub mod Classes
 pub mod Index

@@ -1,12 +1,18 @@
 // The index of a table: the rules that can stand at a token, in rising order, and the empty rule of each nonterminal.
 // It stands behind the table's rules, so that it goes wherever they go.
+use tables::Head;
 use tables::Table;
 use vpg::Rule;
 use vpg::Token;
 ghost use mathlib.Core.Path.{_≡_};
-ghost use Prim.Native.Nat.{_<_};
+ghost use Prim.Native.Nat.{_<_, _≤_};
+ghost use lib.ListN.{length, take};
+ghost use Rattle.vpg.specs.Steps.{left};
+ghost use Rattle.tables.specs.Table.{ruleIn};
+ghost use Rattle.tables.specs.Ready.{Ready};
 ghost use Rattle.rule_index.specs.Classes.{classAt, classOf};
-ghost use Rattle.rule_index.specs.Index.{firstIn, nextIn, endIn, endsIn};
+ghost use Rattle.rule_index.specs.Index.{firstIn, nextIn, endIn, endsIn, Indexed};
+ghost use Rattle.rule_index.specs.Building.{SameRules, IndexedFrom, EndsBelow, linked, noted, added, withEnd, withEnds};
 
 // The class of a token.
 pub fn class_at(token: Token) -> usize
@@ -16,6 +22,17 @@ pub fn class_at(token: Token) -> usize
         Token::Mark(c) => 4 * (number(c.0) % 64),
         Token::Open(a) => 4 * (number(a.0) % 64) + 1,
         Token::Close(_) => 2,
+    }
+}
+
+// The class of a rule.
+pub fn class_of(rule: Rule) -> usize
+    ensures { λ r. ⌜ r ≡ classOf rule ⌝ }
+{
+    match rule {
+        Rule::Empty(_) => 2,
+        Rule::Mark(_, c, _) => 4 * (number(c.0) % 64),
+        Rule::Step(_, a, _, _, _) => 4 * (number(a.0) % 64) + 1,
     }
 }
 
@@ -62,4 +79,105 @@ pub fn ends(table: &Table) -> u32
     let low = wide(table[1184]);
     let high = wide(table[1185]);
     low + 65536 * high
+}
+
+// Makes the index of no rules: whatever is looked for, there is none.
+fn clear(table: &mut Table, rules: usize)
+    requires { ⌜ (length (now table) ≡ 1186) × (rules ≤ 128) ⌝ }
+    ensures { λ _. ⌜ SameRules (now (table .entry)) (now (table .exit)) × IndexedFrom (now (table .exit)) rules rules ⌝ }
+{
+    let none = rules as u16;
+    let mut i: usize = 768;
+    while i < 1184 {
+        table[i] = none;
+        i += 1;
+    }
+}
+
+// Puts rule r before the rules of its class that are in the chain.
+fn link(table: &mut Table, class: usize, r: usize)
+    requires { ⌜ (class < 256) × (r < 128) ⌝ }
+    ensures { λ _. ⌜ now (table .exit) ≡ linked (now (table .entry)) class r ⌝ }
+{
+    table[1024 + r] = table[768 + class];
+    table[768 + class] = r as u16;
+}
+
+// Notes rule r as its nonterminal's where it is empty.
+fn note_end(table: &mut Table, rule: Rule, r: usize)
+    requires { ⌜ (left rule < 32) × (r < 128) ⌝ }
+    ensures { λ _. ⌜ now (table .exit) ≡ noted (now (table .entry)) rule r ⌝ }
+{
+    match rule {
+        Rule::Empty(nonterminal) => {
+            table[1152 + number(nonterminal)] = r as u16;
+        }
+        Rule::Mark(_, _, _) => {}
+        Rule::Step(_, _, _, _, _) => {}
+    }
+}
+
+// Adds rule r to the index of the rules behind it.
+fn add_rule(table: &mut Table, r: usize)
+    requires { ⌜ (r < 128) × (left (ruleIn (now table) r) < 32) ⌝ }
+    ensures { λ _. ⌜ now (table .exit) ≡ added (now (table .entry)) r ⌝ }
+{
+    let rule = tables::rule_of(table, r);
+    link(table, class_of(rule), r);
+    note_end(table, rule, r);
+}
+
+// Adds all rules, from the last to the first, so that each chain rises.
+fn add_rules(table: &mut Table, head: Head)
+    requires { ⌜ (length (now table) ≡ 1186) × Ready (now table) head × IndexedFrom (now table) (head .rules) (head .rules) ⌝ }
+    ensures { λ _. ⌜ SameRules (now (table .entry)) (now (table .exit)) × IndexedFrom (now (table .exit)) (head .rules) 0 ⌝ }
+{
+    let rules = head.rules;
+    let mut due = rules;
+    while 0 < due {
+        add_rule(table, due - 1);
+        due -= 1;
+    }
+}
+
+// The word, with the nonterminal where that has an empty rule.
+fn with_end(table: &Table, rules: usize, word: u32, nonterminal: usize) -> u32
+    requires { ⌜ nonterminal < 32 ⌝ }
+    ensures { λ r. ⌜ r ≡ withEnd (now (table .entry)) rules word nonterminal ⌝ }
+{
+    if end_of(table, nonterminal) < rules {
+        return bits::with(word, nonterminal);
+    }
+    word
+}
+
+// The nonterminals that have an empty rule, looked up one by one.
+fn ends_of(table: &Table, rules: usize) -> u32
+    ensures { λ r. ⌜ EndsBelow (now (table .entry)) rules 32 r ⌝ }
+{
+    let mut word: u32 = 0;
+    let mut nonterminal: usize = 0;
+    while nonterminal < 32 {
+        word = with_end(table, rules, word, nonterminal);
+        nonterminal += 1;
+    }
+    word
+}
+
+// Writes the nonterminals that have an empty rule.
+fn put_ends(table: &mut Table, word: u32)
+    ensures { λ _. ⌜ now (table .exit) ≡ withEnds (now (table .entry)) word ⌝ }
+{
+    table[1184] = (word % 65536) as u16;
+    table[1185] = (word / 65536) as u16;
+}
+
+// Builds the index behind the rules of a table.
+pub fn index_rules(table: &mut Table, head: Head)
+    requires { ⌜ (length (now table) ≡ 1186) × Ready (now table) head ⌝ }
+    ensures { λ _. ⌜ (take 768 (now (table .exit)) ≡ take 768 (now (table .entry))) × Indexed (now (table .exit)) head ⌝ }
+{
+    clear(table, head.rules);
+    add_rules(table, head);
+    put_ends(table, ends_of(table, head.rules));
 }

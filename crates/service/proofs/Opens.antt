@@ -8,6 +8,8 @@ use borrow.Author.Tests.{lt-ltb, le-ltb}
 use lib.ListN.{length, take}
 use Rattle.vpg.specs.believed.Grammar.{Grammar}
 use Rattle.tables.specs.declared.Head.{Head}
+use Rattle.rule_index.specs.Index.{Indexed}
+use Rattle.rule_index.proofs.Kept.{grammar-kept}
 use Rattle.grammar_file.specs.believed.GrammarFile.{grammarOf}
 use Rattle.grammar_file.specs.believed.GrammarFile as grammar-file
 use Rattle.grammar_file.proofs.Answers.{GrammarIs}
@@ -57,8 +59,9 @@ is-open each size files table numbers head n k = record { passes = λ h m q. sam
     same : (h : Head) (m : ℕ) → Opened.Files head n ≡ Opened.Files h m → Open each size files h m table numbers
     same h m q = let a : head ≡ h = cc in let b : n ≡ m = cc in rw (← a, ← b) k
 
-module _ (each size : ℕ) (grammar history table : List ℕ) (head : Head) (k : GrammarIs grammar table head) where
-  -- what the history gives, with this grammar
+module _ (each size : ℕ) (grammar history read : List ℕ) (head : Head) (k : GrammarIs grammar read head)
+    (table : List ℕ) (same : take 768 table ≡ take 768 read) (indexed : Indexed table head) where
+  -- what the history gives, with this grammar, whose rules are indexed
   pub both-opened : (r : Opened) (numbers : List ℕ) → HistoryOpened each size history head r numbers → OpenedIs each size (filesIn grammar history) r table numbers
   both-opened (Opened.Refused e) numbers h = is-refused each size (filesIn grammar history) table numbers e (rw (k .is) (h _))
   both-opened (Opened.Files head′ n) numbers h =
@@ -66,8 +69,8 @@ module _ (each size : ℕ) (grammar history table : List ℕ) (head : Head) (k :
       rw (h .0)
       (is-open each size (filesIn grammar history) table numbers head n
       (record {
-        is = rw (k .is, x .is, x .count, le-ltb size (each * (n + 1)) (x .room));
-        ready = k .ready;
+        is = rw (grammar-kept read table same head (k .ready .few), k .is, x .is, x .count, le-ltb size (each * (n + 1)) (x .room));
+        indexed = indexed;
         count = x .count;
         long = x .long;
         room = x .room;

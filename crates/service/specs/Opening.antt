@@ -6,7 +6,8 @@ use mathlib.Core.List.{List}
 use lib.ListN.{length, take}
 use Rattle.level_theory.specs.Pending.{WellMatched}
 use Rattle.tables.specs.declared.Head.{Head}
-use Rattle.tables.specs.Ready.{Ready, grammarIn}
+use Rattle.tables.specs.Ready.{grammarIn}
+use Rattle.rule_index.specs.Index.{Indexed}
 use Rattle.history_file.specs.believed.HistoryFile.{tokensOf, historyOf}
 use Rattle.history_file.specs.believed.HistoryFile as history-file
 use Rattle.history_file.specs.HistoryTokens.{Tokens}
@@ -36,10 +37,10 @@ abbrev pub HistoryOpened : ℕ → ℕ → List ℕ → Head → Opened → List
 HistoryOpened each size history head (Opened.Files h n) numbers = (h ≡ head) × Numbers each size history n numbers
 HistoryOpened each size history head (Opened.Refused e) numbers = (g : Grammar) → opened each size (filesOf (grammar-file.accepted g) (historyOf history)) ≡ refused e
 
--- both files pass and the buffer has room: the grammar is that of head and table, the tokens are the first n numbers
+-- both files pass and the buffer has room: the grammar is that of head and table, with its index; the tokens are the first n numbers
 pub record Open (each size : ℕ) (files : Files) (head : Head) (n : ℕ) (table numbers : List ℕ) : Type 0 where
   pub is : opened each size files ≡ accepted (grammarIn table head) (take n numbers)
-  pub ready : Ready table head
+  pub indexed : Indexed table head
   pub count : length (take n numbers) ≡ n
   pub long : n ≤ length numbers
   pub room : each * (n + 1) ≤ size

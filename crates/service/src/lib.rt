@@ -1,5 +1,5 @@
-// The opening of every service over the two files: both are read into lent arrays, the grammar first, and the buffer is measured. Then the
-// service goes by what the opening found, or hands on the number of the refusal.
+// The opening of every service over the two files: both are read into lent arrays, the grammar first, the rules are indexed, and the buffer
+// is measured. Then the service goes by what the opening found, or hands on the number of the refusal.
 use grammar_file::GrammarAnswer;
 use history_file::HistoryAnswer;
 use history_file::TokenNumbers;
@@ -71,6 +71,9 @@ pub fn open_files(
     let read = grammar_file::read_grammar(grammar, table);
     match read {
         GrammarAnswer::Refused(e) => Opened::Refused(e),
-        GrammarAnswer::Accepted(head) => open_history(history, each, size, head, tokens),
+        GrammarAnswer::Accepted(head) => {
+            rule_index::index_rules(table, head);
+            open_history(history, each, size, head, tokens)
+        }
     }
 }

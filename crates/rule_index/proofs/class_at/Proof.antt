@@ -1,3 +1,4 @@
+-- `rule_index::class_at` meets its contract.
 use borrow.Author.Needs.{needs}
 use Rattle.rule_index.proofs.class_at.Statement.{statement}
 use Rattle.rule_index.proofs.class_at.Tie as tie

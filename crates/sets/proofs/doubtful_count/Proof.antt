@@ -39,7 +39,7 @@ doubtful-on-requires : tie.Need-doubtful-on-requires
 doubtful-on-requires c κs =
     let o = c .before .before .before .before .before .open-files .ensures in
     let k = o .passes _ _ (c .before .before .before .opened .given .1) in
-    (k .ready, (k .tokens, k .balanced))
+    (k .indexed .ready, (k .tokens, k .balanced))
 
 returns-2 : tie.Need-returns-2
 returns-2 c =
