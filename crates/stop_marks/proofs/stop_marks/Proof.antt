@@ -40,7 +40,7 @@ marks-requires : tie.Need-marks-requires
 marks-requires c κs =
     let o = c .before .before .before .before .before .before .open-files .ensures in
     let k = o .passes _ _ (c .before .before .before .before .opened .given .1) in
-    (k .indexed .ready, (k .tokens, (wellformed-shallow _ (k .wellformed), omega (arith, k .room, k .count))))
+    (k .indexed, (k .tokens, (wellformed-shallow _ (k .wellformed), omega (arith, k .room, k .count))))
 
 same-length : tie.Need-same-length
 same-length c = search needs
