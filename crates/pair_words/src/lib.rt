@@ -98,7 +98,7 @@ fn follows(pattern: Pattern, rule: Rule) -> usize
     }
 }
 
-// A nonterminal that is current in no context leads into no step.
+// After an open the inside has itself alone as context; from a nonterminal that is current in no context, none.
 fn itself(own: u32, next: usize) -> u32
     requires { ⌜ next < 32 ⌝ }
     ensures { λ r. ⌜ r ≡ cond (anyBelow 32 (bit own)) (addBit 0 next) 0 ⌝ }
@@ -109,7 +109,7 @@ fn itself(own: u32, next: usize) -> u32
     0
 }
 
-// The contexts in which it is current, where the rule's own nonterminal is in those of own.
+// The contexts in which it is current; own has those of the rule's own nonterminal.
 fn contexts(pattern: Pattern, own: u32, next: usize) -> u32
     requires { ⌜ next < 32 ⌝ }
     ensures { λ r. ⌜ r ≡ contextsBy pattern own next ⌝ }

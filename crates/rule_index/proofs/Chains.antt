@@ -1,14 +1,13 @@
 -- Walking a class from rule to rule passes over none of its rules: what a loop over all rules gathers, a loop over the class gathers too.
 use Prim.Native.Nat.{ℕ, zero, suc, _+_, _-_, _<_, _≤_}
 use native.Mathlib.Omega.{arith}
-use mathlib.Core.Path.{_≡_, refl, sym, _∙_}
-use mathlib.Core.Logic.{_≢_, ⊎-elim}
+use mathlib.Core.Path.{_≡_, _∙_}
+use mathlib.Core.Logic.{_≢_}
 use mathlib.Core.List.{List}
 use native.Mathlib.Nat.{add-zero}
-use Rattle.tables.specs.declared.Head.{Head}
 use Rattle.tables.specs.Table.{ruleIn}
 use Rattle.rule_index.specs.Classes.{classOf}
-use Rattle.rule_index.specs.Index.{FirstFrom, Indexed, firstIn, nextIn}
+use Rattle.rule_index.specs.Index.{FirstFrom}
 
 -- X n is what is gathered from the first n rules; rules of another class than c add nothing to it
 module _ {A : Type 0} (X : ℕ → A) (t : List ℕ) (c : ℕ) (other : (q : ℕ) → classOf (ruleIn t q) ≢ c → X (suc q) ≡ X q) where

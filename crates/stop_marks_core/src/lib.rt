@@ -73,8 +73,11 @@ fn number(b: bool) -> u8
 fn mark_of(top: Top, empties: u32) -> u8
     ensures { λ r. ⌜ r ≡ markOf top empties ⌝ }
 {
+    if top.depth != 0 {
+        return 0;
+    }
     let rows = top.rows;
-    number(tables::both(top.depth == 0, pair_states::may_end(&rows, empties)))
+    number(pair_states::may_end(&rows, empties))
 }
 
 // Over a close: back to the state before the step's open. With no step open, no pair is left.
