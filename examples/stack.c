@@ -130,8 +130,8 @@ int main(void)
         size_t stated; /* KiB */
     } all[] = {{"gaffmedlar_grammar_check", grammar_check, 4}, {"gaffmedlar_history_check", history_check, 8},
                {"gaffmedlar_first_reading", first, 32},        {"gaffmedlar_next_reading", next, 40},
-               {"gaffmedlar_run_calls", run_calls, 44},        {"gaffmedlar_sets", sets, 32},
-               {"gaffmedlar_doubtful_count", doubtful, 32},    {"gaffmedlar_stop_marks", stop_marks, 24}};
+               {"gaffmedlar_run_calls", run_calls, 48},        {"gaffmedlar_sets", sets, 32},
+               {"gaffmedlar_doubtful_count", doubtful, 32},    {"gaffmedlar_stop_marks", stop_marks, 28}};
     int faults = 0;
     stack = malloc(STACK);
     if (stack == NULL)

@@ -135,7 +135,7 @@ uint8_t gaffmedlar_next_reading(const uint8_t *grammar, size_t grammar_len, cons
  * refused, or a buffer_len below n + 1, is told there, once for each call. Where answers_len is below calls_len no call
  * is made: it answers 1 to 14 where a file is refused, else 15.
  * Writes answers[0] to answers[calls_len - 1], with answer 0 alone, and buffer[0] to buffer[n] where a call of the list
- * writes a reading. Stack: 44 KiB. */
+ * writes a reading. Stack: 48 KiB. */
 uint8_t gaffmedlar_run_calls(const uint8_t *grammar, size_t grammar_len, const uint8_t *history,
                              size_t history_len, const uint8_t *calls, size_t calls_len, uint8_t *answers,
                              size_t answers_len, uint8_t *buffer, size_t buffer_len);
@@ -154,7 +154,7 @@ struct gaffmedlar_count gaffmedlar_doubtful_count(const uint8_t *grammar, size_t
 
 /* Gives the stop marks: marks[i] is 1 where the first i tokens alone have a reading, else 0.
  * Answers 0 (written), 1 to 14, or 15 (marks_len below n + 1).
- * Writes marks[0] to marks[n], with answer 0 alone. Stack: 24 KiB. */
+ * Writes marks[0] to marks[n], with answer 0 alone. Stack: 28 KiB. */
 uint8_t gaffmedlar_stop_marks(const uint8_t *grammar, size_t grammar_len, const uint8_t *history, size_t history_len,
                               uint8_t *marks, size_t marks_len);
 
