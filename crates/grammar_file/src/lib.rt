@@ -37,6 +37,7 @@ fn rules_at(s: &[u8], from: usize, head: Head, table: &mut Table) -> GrammarAnsw
     ensures { λ r. ⌜ (r, now (table .exit)) ≡ grammarRead (rulesFrom (bytes (now (s .entry))) (head .nonterminals) (head .start) (head .rules) from []) ⌝ }
 {
     let count = head.rules;
+    let mut keys = [0u8; 1024];
     let mut at = from;
     let mut k: usize = 0;
     while k < count {
@@ -44,10 +45,12 @@ fn rules_at(s: &[u8], from: usize, head: Head, table: &mut Table) -> GrammarAnsw
         let RuleRead::Read(rule, next) = read else {
             return refused(table, rules::rule_refusal(read));
         };
-        if tables::seen(table, k, rule) {
+        if tables::seen(table, k, rule, &keys) {
             return refused(table, 8);
         }
-        tables::put(table, k, tables::six_of(rule));
+        let six = tables::six_of(rule);
+        tables::put(table, k, six);
+        keys[tables::key_of(six)] = 1;
         at = next;
         k += 1;
     }

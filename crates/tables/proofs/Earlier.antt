@@ -64,7 +64,7 @@ earlier-is r (x ∷ xs) = (found (sameRule r x) refl (earlier-is r xs .0), λ m.
     finds below (inr m) = rw (below m, or-true)
 
 -- the search from the last rule down: one more rule at the end, and one turn
-earlier-snoc : (r x : Rule) (xs : List Rule) → earlier r (xs ++ (x ∷ [])) ≡ (earlier r xs || sameRule r x)
+pub earlier-snoc : (r x : Rule) (xs : List Rule) → earlier r (xs ++ (x ∷ [])) ≡ (earlier r xs || sameRule r x)
 unfolding earlier
 earlier-snoc r x [] = or-false (sameRule r x)
 earlier-snoc r x (y ∷ ys) = rw (earlier-snoc r x ys) (sym (or-assoc (sameRule r y) (earlier r ys) (sameRule r x)))

@@ -7,7 +7,7 @@ ghost use mathlib.Core.Path.{_≡_};
 ghost use mathlib.Core.Bool.{_&&_};
 ghost use Prim.Native.Nat.{_*_, _≤_, _<_};
 ghost use Rattle.vpg.specs.Steps.{left};
-ghost use Rattle.tables.specs.Table.{sixOf, ruleFrom, sixIn, ruleIn, rulesIn, putSix, sameRule, earlier};
+ghost use Rattle.tables.specs.Table.{sixOf, ruleFrom, sixIn, ruleIn, rulesIn, putSix, sameRule, earlier, keyIn, Keyed};
 
 // The rules of a grammar, at most 128, six numbers to each; behind them, from number 768 on, room for the index that crates/rule_index keeps.
 pub type Table = [u16; 1186];
@@ -123,8 +123,8 @@ fn same_at(table: &Table, j: usize, l: u16, rule: Rule) -> bool
     same_rule(rule, rule_of(table, j))
 }
 
-// Whether the rule is one of the first n.
-pub fn seen(table: &Table, n: usize, rule: Rule) -> bool
+// Whether the rule is one of the first n: it is held against each of them.
+fn seen_among(table: &Table, n: usize, rule: Rule) -> bool
     requires { ⌜ n ≤ 128 ⌝ }
     ensures { λ r. ⌜ r ≡ earlier rule (rulesIn (now (table .entry)) n) ⌝ }
 {
@@ -138,4 +138,33 @@ pub fn seen(table: &Table, n: usize, rule: Rule) -> bool
         }
     }
     false
+}
+
+fn wide(x: u16) -> u32
+    ensures { λ r. ⌜ (r ≡ x) × (r < 65536) ⌝ }
+{
+    x as u32
+}
+
+// A number below 1,024 that equal rules share.
+pub fn key_of(v: Six) -> usize
+    ensures { λ r. ⌜ r ≡ keyIn v ⌝ }
+{
+    let front = wide(v.0) + 3 * wide(v.1) + 97 * wide(v.2);
+    let sum = front + 389 * wide(v.3) + 53 * wide(v.4) + 211 * wide(v.5);
+    (sum % 1024) as usize
+}
+
+// For each key 1 where a rule has it, else 0.
+pub type Keys = [u8; 1024];
+
+// Whether the rule is one of the first n, whose keys are marked. Where its key isn't, it is none of them; most rules pass by that.
+pub fn seen(table: &Table, n: usize, rule: Rule, keys: &Keys) -> bool
+    requires { ⌜ (n ≤ 128) × Keyed (now table) n (now keys) ⌝ }
+    ensures { λ r. ⌜ r ≡ earlier rule (rulesIn (now (table .entry)) n) ⌝ }
+{
+    if keys[key_of(six_of(rule))] == 0 {
+        return false;
+    }
+    seen_among(table, n, rule)
 }

@@ -1,14 +1,15 @@
 -- `grammar_file::rules_at` meets its contract.
 use borrow.Author.Needs.{needs}
-use Prim.Native.Nat.{_+_, _*_, _≤_, _-_}
+use Prim.Native.Nat.{ℕ, _+_, _*_, _≤_, _-_}
 use mathlib.Core.Path.{_≡_, sym, ap, _∙_}
 use mathlib.Core.List.{[]}
 use borrow.Author.Tests.{le-ltb, lt-ltb}
 use native.Mathlib.Omega.{arith}
 use native.Mathlib.Nat.{sub-zero}
-use lib.ListN.{length}
+use lib.ListN.{length, length-replicate}
 use Rattle.numbers.specs.believed.Number.{bytes}
-use Rattle.tables.specs.Table.{rulesIn, tableOf, fill, putSix, sixOf}
+use Rattle.tables.specs.Table.{rulesIn, tableOf, fill, putSix, sixOf, keyIn, keyOf, Keyed}
+use Rattle.tables.proofs.Keys.{key-small, none-keyed, key-marked}
 use Rattle.tables.proofs.Tables.{length-put, length-rules, rules-put, table-next}
 use Rattle.grammar_file.specs.believed.GrammarFile.{rulesFrom}
 use Rattle.grammar_file.proofs.Turns.{turn-refused, turn-seen, turn-next}
@@ -16,18 +17,19 @@ use Rattle.grammar_file.proofs.rules_at.Statement.{statement}
 use Rattle.grammar_file.proofs.rules_at.Tie as tie
 
 abbrev Inv-loop : tie.InvT-loop
-Inv-loop s from head table₀ count at₀ k₀ table at k =
+Inv-loop s from head table₀ count keys₀ at₀ k₀ table keys at k =
     (k ≤ head .rules)
     × (length table ≡ 1186)
     × (table ≡ tableOf (rulesIn table k))
     × (rulesFrom (bytes s) (head .nonterminals) (head .start) (head .rules - k) at (rulesIn table k) ≡ rulesFrom (bytes s) (head .nonterminals) (head .start) (head .rules) from [])
+    × Keyed table k keys
 
 abbrev μ-loop : tie.MeasureT-loop
-μ-loop s from head table₀ count at₀ k₀ table at k = head .rules - k
+μ-loop s from head table₀ count keys₀ at₀ k₀ table keys at k = head .rules - k
 
 loop-holds : tie.Need-loop-holds Inv-loop μ-loop
 unfolding tableOf fill rulesIn
-loop-holds c = let z = c .before .pre .1 in (omega arith, ap length z, z, rw sub-zero)
+loop-holds c = let z = c .before .pre .1 in (omega arith, ap length z, z, rw sub-zero, none-keyed _ _ (length-replicate {A = ℕ} 1024 0))
 
 rule-at-requires : tie.Need-rule-at-requires Inv-loop μ-loop
 rule-at-requires c κs = search needs
@@ -59,7 +61,9 @@ returns c =
     )
 
 seen-requires : tie.Need-seen-requires Inv-loop μ-loop
-seen-requires c κs = search needs
+seen-requires c κs =
+    let l = c .before .before .before .before .before .before .before in
+    (omega (arith, l .before .before .pre .0), l .loop .inv .4)
 
 refused-requires-2 : tie.Need-refused-requires-2 Inv-loop μ-loop
 refused-requires-2 c κs = search needs
@@ -67,7 +71,7 @@ refused-requires-2 c κs = search needs
 returns-2 : tie.Need-returns-2 Inv-loop μ-loop
 returns-2 c =
     let q = c .before .before .before in
-    let p = q .before .before in
+    let p = q .before .before .before in
     let d = p .before .before .before in
     let l = d .before .before in
     let a = l .before .before .args in
@@ -84,6 +88,12 @@ six-of-requires c κs = search needs
 put-requires : tie.Need-put-requires Inv-loop μ-loop
 put-requires c κs = search needs
 
+key-of-requires : tie.Need-key-of-requires Inv-loop μ-loop
+key-of-requires c κs = search needs
+
+array-write-keys : tie.Need-array-write-keys Inv-loop μ-loop
+array-write-keys c = rw (c .key-of .ensures) (key-small _)
+
 add-k : tie.Need-add-k Inv-loop μ-loop
 add-k c = search needs
 
@@ -92,8 +102,10 @@ loop-less c = search needs
 
 loop-again : tie.Need-loop-again Inv-loop μ-loop
 loop-again c =
-    let q = c .before .before .before .before in
-    let p = q .before .before in
+    let u = c .before in
+    let six = u .before .before .six-of .ensures in
+    let q = u .before .before .before .before in
+    let p = q .before .before .before in
     let d = p .before .before .before in
     let l = d .before .before in
     let a = l .before .before .args in
@@ -101,13 +113,15 @@ loop-again c =
     let k = l .loop .k in
     let r = p .before .read .given .0 .0 in
     let room : k * 6 + 6 ≤ length t = omega arith in
-    let e : c .put .last .0 ≡ putSix t k (sixOf r) = rw (c .before .six-of .ensures) at (c .put .ensures) in (
+    let e : u .put .last .0 ≡ putSix t k (sixOf r) = rw six at (u .put .ensures) in
+    let key : c .key-of .result ≡ keyOf r = c .key-of .ensures ∙ ap keyIn six in (
       omega arith,
       ap length e ∙ (length-put t k (sixOf r) ∙ l .loop .inv .1),
-      table-next t (c .put .last .0) k r room (l .loop .inv .2) e,
+      table-next t (u .put .last .0) k r room (l .loop .inv .2) e,
       rw (e, rules-put t k r room)
           (sym (turn-next (bytes (a .s .now)) _ (a .head .start) (a .head .rules) k _ (rulesIn t k) (d .before .loop-test .taken) r _ (sym (d .rule-at .ensures) ∙ p .before .read .given .1)
-          (sym (q .seen .ensures) ∙ c .before .before .before .if1 .left)) ∙ l .loop .inv .3),
+          (sym (q .seen .ensures) ∙ u .before .before .before .if1 .left)) ∙ l .loop .inv .3),
+      rw (e, key) (key-marked t (l .loop .keys) k r room (l .loop .inv .4)),
     )
 
 refused-requires-3 : tie.Need-refused-requires-3 Inv-loop μ-loop
@@ -146,6 +160,8 @@ rules-at-spec =
     returns-2
     six-of-requires
     put-requires
+    key-of-requires
+    array-write-keys
     add-k
     loop-less
     loop-again

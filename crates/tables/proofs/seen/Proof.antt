@@ -1,82 +1,42 @@
--- `tables::seen` meets its contract.
-use Prim.Native.Nat.{_≤_}
-use mathlib.Core.Path.{_≡_, ap, _∙_}
+-- `tables::seen`: a rule whose key isn't marked is no earlier one.
+use Prim.Native.Nat.{ℕ}
+use mathlib.Core.Path.{_≡_, sym, ap, _∙_}
+use lib.ListN.{getD}
+use Rattle.tables.specs.Table.{keyIn, keyOf}
+use Rattle.tables.proofs.Keys.{unmarked}
 use borrow.Author.Needs.{needs}
-use native.Mathlib.Omega.{arith}
-use mathlib.Core.Bool.{or-true, or-false}
-use Rattle.tables.specs.declared.Six.{Six}
-use Rattle.tables.specs.Table.{earlier, rulesIn}
-use Rattle.tables.proofs.Tables.{left-of-six}
-use Rattle.tables.proofs.Earlier.{earlier-at}
 use Rattle.tables.proofs.seen.Statement.{statement}
 use Rattle.tables.proofs.seen.Tie as tie
 
-abbrev Inv-loop : tie.InvT-loop
-Inv-loop table n rule l j₀ j = (j ≤ n) × (earlier rule (rulesIn table n) ≡ earlier rule (rulesIn table j))
-
-abbrev μ-loop : tie.MeasureT-loop
-μ-loop table n rule l j₀ j = j
-
-six-of-requires : tie.Need-six-of-requires Inv-loop μ-loop
+six-of-requires : tie.Need-six-of-requires
 six-of-requires c κs = search needs
 
-loop-holds : tie.Need-loop-holds Inv-loop μ-loop
-loop-holds c = search needs
+key-of-requires : tie.Need-key-of-requires
+key-of-requires c κs = search needs
 
-sub-j : tie.Need-sub-j Inv-loop μ-loop
-sub-j c = search needs
+element-copy-out-if1 : tie.Need-element-copy-out-if1
+element-copy-out-if1 c = search needs
 
-same-at-requires : tie.Need-same-at-requires Inv-loop μ-loop
-same-at-requires c κs =
-    let f = c .before .before in
-    (omega arith, ap (λ (x : Six). x .1) (f .six-of .ensures) ∙ left-of-six (f .before .args .rule))
-
-returns : tie.Need-returns Inv-loop μ-loop
+returns : tie.Need-returns
 returns c =
-    let l = c .before .before .before in
-    let a = l .before .before .args in
-    rw (
-      l .loop .inv .1,
-      earlier-at (a .rule) (a .table .now) (l .loop .j) (omega arith),
-      ← (c .before .same-at .ensures),
-      c .if1 .taken,
-      or-true,
-    )
+    let k = c .before .before in
+    let a = k .before .before .args in
+    let key : k .key-of .result ≡ keyOf (a .rule) = k .key-of .ensures ∙ ap keyIn (k .before .six-of .ensures) in
+    sym (unmarked (a .table .now) (a .n) (a .keys .now) (a .rule) (k .before .before .pre .1) (ap (λ (i : ℕ). getD (a .keys .now) i 0) (sym key) ∙ c .if1 .taken))
 
-loop-less : tie.Need-loop-less Inv-loop μ-loop
-loop-less c = search needs
+seen-among-requires : tie.Need-seen-among-requires
+seen-among-requires c κs = search needs
 
-loop-again : tie.Need-loop-again Inv-loop μ-loop
-loop-again c =
-    let l = c .before .before .before in
-    let a = l .before .before .args in (
-      omega arith,
-      rw (
-        l .loop .inv .1,
-        earlier-at (a .rule) (a .table .now) (l .loop .j) (omega arith),
-        ← (c .before .same-at .ensures),
-        c .if1 .left,
-        or-false,
-      ),
-    )
-
-returns-2 : tie.Need-returns-2 Inv-loop μ-loop
-unfolding earlier rulesIn
-returns-2 c =
-    let e : c .before .loop .j ≡ 0 = omega arith in
-    rw (c .before .loop .inv .1, e)
+returns-2 : tie.Need-returns-2
+returns-2 c = search needs
 
 pub seen-spec : {M : Type 1} → statement M
 seen-spec =
     tie.close
     (tie.spec
-    Inv-loop
-    μ-loop
     six-of-requires
-    loop-holds
-    sub-j
-    same-at-requires
+    key-of-requires
+    element-copy-out-if1
     returns
-    loop-less
-    loop-again
+    seen-among-requires
     returns-2)
