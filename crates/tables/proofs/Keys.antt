@@ -13,7 +13,8 @@ use lib.ListN.{length, getD, set, length-set}
 use lib.Seq.{getD-set-same, getD-set-other}
 use Rattle.vpg.specs.declared.Rule.{Rule}
 use Rattle.tables.specs.declared.Six.{Six}
-use Rattle.tables.specs.Table.{sixOf, ruleIn, rulesIn, putSix, sameRule, earlier, keyIn, keyOf, Keyed}
+use Rattle.tables.specs.Table.{sixOf, ruleIn, rulesIn, putSix, sameRule, earlier}
+use Rattle.tables.specs.Keys.{keyIn, keyOf, Keyed}
 use Rattle.tables.proofs.Tables.{rule-low, rule-same}
 use Rattle.tables.proofs.Earlier.{same-rule-is, earlier-snoc}
 

@@ -1,10 +1,9 @@
 -- A table of numbers, six to a rule: the form, the fields in file order, and zeros.
--- Law: earlier-is (tables/proofs/Earlier.antt), unmarked (tables/proofs/Keys.antt)
-use Prim.Native.Nat.{ℕ, zero, suc, _+_, _*_, _%_, _<_}
-use mathlib.Core.Path.{_≡_}
+-- Law: earlier-is (tables/proofs/Earlier.antt)
+use Prim.Native.Nat.{ℕ, zero, suc, _+_, _*_}
 use mathlib.Core.List.{List, [], _∷_, _++_}
 use mathlib.Core.Bool.{Bool, false, cond, _&&_, _||_}
-use lib.ListN.{length, getD, set, replicate}
+use lib.ListN.{getD, set, replicate}
 use lib.Dec.{eqb}
 use Rattle.vpg.specs.declared.Rule.{Rule}
 use Rattle.tables.specs.declared.Six.{Six}
@@ -67,15 +66,3 @@ sameRule r x = sameSix (sixOf r) (sixOf x)
 unfoldable pub earlier : Rule → List Rule → Bool
 earlier r [] = false
 earlier r (x ∷ xs) = sameRule r x || earlier r xs
-
--- a number below 1,024 that equal rules share
-abbrev pub keyIn : Six → ℕ
-keyIn v = (v .0 + 3 * v .1 + 97 * v .2 + 389 * v .3 + 53 * v .4 + 211 * v .5) % 1024
-
-abbrev pub keyOf : Rule → ℕ
-keyOf r = keyIn (sixOf r)
-
--- the keys of the first n rules are marked
-pub record Keyed (t : List ℕ) (n : ℕ) (keys : List ℕ) : Type 0 where
-  pub size : length keys ≡ 1024
-  pub marked : (q : ℕ) → q < n → getD keys (keyOf (ruleIn t q)) 0 ≡ 1

@@ -7,7 +7,8 @@ ghost use mathlib.Core.Path.{_≡_};
 ghost use mathlib.Core.Bool.{_&&_};
 ghost use Prim.Native.Nat.{_*_, _≤_, _<_};
 ghost use Rattle.vpg.specs.Steps.{left};
-ghost use Rattle.tables.specs.Table.{sixOf, ruleFrom, sixIn, ruleIn, rulesIn, putSix, sameRule, earlier, keyIn, Keyed};
+ghost use Rattle.tables.specs.Table.{sixOf, ruleFrom, sixIn, ruleIn, rulesIn, putSix, sameRule, earlier};
+ghost use Rattle.tables.specs.Keys.{keyIn, Keyed};
 
 // The rules of a grammar, at most 128, six numbers to each; behind them, from number 768 on, room for the index that crates/rule_index keeps.
 pub type Table = [u16; 1186];

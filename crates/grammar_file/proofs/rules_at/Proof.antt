@@ -8,7 +8,8 @@ use native.Mathlib.Omega.{arith}
 use native.Mathlib.Nat.{sub-zero}
 use lib.ListN.{length, length-replicate}
 use Rattle.numbers.specs.believed.Number.{bytes}
-use Rattle.tables.specs.Table.{rulesIn, tableOf, fill, putSix, sixOf, keyIn, keyOf, Keyed}
+use Rattle.tables.specs.Table.{rulesIn, tableOf, fill, putSix, sixOf}
+use Rattle.tables.specs.Keys.{keyIn, keyOf, Keyed}
 use Rattle.tables.proofs.Keys.{key-small, none-keyed, key-marked}
 use Rattle.tables.proofs.Tables.{length-put, length-rules, rules-put, table-next}
 use Rattle.grammar_file.specs.believed.GrammarFile.{rulesFrom}

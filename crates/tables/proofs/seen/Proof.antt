@@ -2,7 +2,7 @@
 use Prim.Native.Nat.{ℕ}
 use mathlib.Core.Path.{_≡_, sym, ap, _∙_}
 use lib.ListN.{getD}
-use Rattle.tables.specs.Table.{keyIn, keyOf}
+use Rattle.tables.specs.Keys.{keyIn, keyOf}
 use Rattle.tables.proofs.Keys.{unmarked}
 use borrow.Author.Needs.{needs}
 use Rattle.tables.proofs.seen.Statement.{statement}
