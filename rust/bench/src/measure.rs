@@ -1,5 +1,6 @@
-//! Microseconds for one call of a service on each side.
+//! Microseconds for one call of a service: on each side here, and with the library of another bench.
 use crate::clock;
+use crate::other::Other;
 use crate::sides::{call, Buffers, History, Service, Side, SERVICES, SIDES};
 use crate::workloads::{workloads, Workload};
 use gaffmedlar::raw;
@@ -14,6 +15,8 @@ pub struct Row {
     pub service: &'static str,
     /// In the order of [`SIDES`].
     pub times: [f64; 3],
+    /// The library of the other bench.
+    pub before: Option<f64>,
 }
 
 /// How long a round on one history is at least, and how many rounds there are.
@@ -25,7 +28,7 @@ pub struct Rounds {
 
 impl Rounds {
     pub fn of(quick: bool) -> Rounds {
-        let (micros, count) = if quick { (200, 2) } else { (1000, 30) };
+        let (micros, count) = if quick { (200, 1) } else { (1000, 30) };
         Rounds {
             least: Duration::from_micros(micros),
             count,
@@ -36,140 +39,159 @@ impl Rounds {
 /// So many histories are timed together, where there are many: the clock is then a small part.
 const TOGETHER: usize = 8;
 
-/// All sides give the same on every history.
-fn compare(service: Service, grammar: &[u8], histories: &[History], n: usize) {
-    for history in histories {
-        let [proved, scan, indexed] = SIDES.map(|side| {
-            let mut to = Buffers::of(service, n);
-            let answer = call(side, service, grammar, history, &mut to);
-            (answer, to)
-        });
-        assert!(
-            proved == scan && proved == indexed,
-            "all sides give the same"
-        );
-    }
-}
-
-/// What is called: a service on one side, over some histories.
-struct Calls<'a> {
-    side: Side,
+/// A service on the files of a workload, ready to be timed.
+pub struct Calls<'a> {
     service: Service,
     grammar: &'a [u8],
-    histories: &'a [History<'a>],
+    histories: Vec<History<'a>>,
+    to: Buffers,
 }
 
-impl Calls<'_> {
-    /// The time of them all, so many times over.
-    fn taken(&self, times: u32, to: &mut Buffers) -> Duration {
-        let start = clock::now();
-        for _ in 0..times {
-            for history in self.histories {
-                let grammar = black_box(self.grammar);
-                let history = black_box(history);
-                black_box(call(self.side, self.service, grammar, history, to));
-            }
+impl<'a> Calls<'a> {
+    /// All sides give the same on every history: that is seen to first.
+    pub fn of(service: Service, workload: &'a Workload) -> Calls<'a> {
+        let grammar = &workload.grammar[..];
+        let n = raw::history_check(&workload.histories[0]).tokens.into();
+        let mut histories = Vec::new();
+        for file in &workload.histories {
+            let mut first = vec![0; n + 1];
+            raw::first_reading(grammar, file, &mut first);
+            histories.push(History { file, first });
         }
-        clock::now() - start
+        for history in &histories {
+            let [proved, scan, indexed] = SIDES.map(|side| {
+                let mut to = Buffers::of(service, n);
+                (call(side, service, grammar, history, &mut to), to)
+            });
+            let same = proved == scan && proved == indexed;
+            assert!(same, "all sides give the same on {}", workload.name);
+        }
+        Calls {
+            service,
+            grammar,
+            histories,
+            to: Buffers::of(service, n),
+        }
     }
 
-    /// How many times over they fill a round.
-    fn times(&self, least: Duration, to: &mut Buffers) -> u32 {
+    /// How many times over the calls fill a round: once where there are many histories.
+    pub fn times(&mut self, side: Side, least: Duration) -> u32 {
         let mut times = 1;
-        while self.taken(times, to) < least {
-            times *= 2;
+        if self.histories.len() == 1 {
+            while self.round(side, times)[0] * f64::from(times) < least.as_secs_f64() * 1e6 {
+                times *= 2;
+            }
         }
         times
     }
 
-    /// Microseconds for one call.
-    fn each(&self, times: u32, to: &mut Buffers) -> f64 {
-        let calls = f64::from(times) * self.histories.len() as f64;
-        self.taken(times, to).as_secs_f64() * 1e6 / calls
+    /// Microseconds for one call, for each piece of the histories.
+    pub fn round(&mut self, side: Side, times: u32) -> Vec<f64> {
+        let mut pieces = Vec::new();
+        for histories in self.histories.chunks(TOGETHER) {
+            let start = clock::now();
+            for _ in 0..times {
+                for history in histories {
+                    let (grammar, history) = (black_box(self.grammar), black_box(history));
+                    black_box(call(side, self.service, grammar, history, &mut self.to));
+                }
+            }
+            let calls = f64::from(times) * histories.len() as f64;
+            pieces.push((clock::now() - start).as_secs_f64() * 1e6 / calls);
+        }
+        pieces
     }
 }
 
-/// Each history with its first reading.
-fn histories(workload: &Workload, n: usize) -> Vec<History<'_>> {
-    let with_first = |file: &'_ Vec<u8>| {
-        let mut first = vec![0; n + 1];
-        raw::first_reading(&workload.grammar, file, &mut first);
-        first
-    };
-    let all = workload.histories.iter();
-    all.map(|file| History {
-        file,
-        first: with_first(file),
-    })
-    .collect()
-}
+/// The best time of each piece so far.
+#[derive(Default)]
+struct Best(Vec<f64>);
 
-/// The sides take turns, round by round. The best time of each piece counts, and a side's time is the mean of its pieces.
-fn timed(service: Service, workload: &Workload, rounds: Rounds) -> [f64; 3] {
-    let grammar = &workload.grammar[..];
-    let n = raw::history_check(&workload.histories[0]).tokens.into();
-    let histories = histories(workload, n);
-    compare(service, grammar, &histories, n);
-
-    let mut to = Buffers::of(service, n);
-    let pieces: Vec<[Calls; 3]> = histories
-        .chunks(TOGETHER)
-        .map(|histories| {
-            SIDES.map(|side| Calls {
-                side,
-                service,
-                grammar,
-                histories,
-            })
-        })
-        .collect();
-    let times = match &pieces[..] {
-        [one] => [0, 1, 2].map(|side| one[side].times(rounds.least, &mut to)),
-        _ => [1; 3],
-    };
-    let mut best = vec![[f64::INFINITY; 3]; pieces.len()];
-    for _ in 0..rounds.count {
-        for side in 0..3 {
-            for (best, piece) in best.iter_mut().zip(&pieces) {
-                let time = piece[side].each(times[side], &mut to);
-                best[side] = best[side].min(time);
-            }
+impl Best {
+    fn add(&mut self, pieces: Vec<f64>) {
+        self.0.resize(pieces.len(), f64::INFINITY);
+        for (best, time) in self.0.iter_mut().zip(pieces) {
+            *best = best.min(time);
         }
     }
-    let mean = |side: usize| best.iter().map(|best| best[side]).sum::<f64>() / best.len() as f64;
-    [0, 1, 2].map(mean)
+
+    fn mean(&self) -> f64 {
+        self.0.iter().sum::<f64>() / self.0.len() as f64
+    }
+}
+
+/// The sides take turns, round by round, and the other bench with them.
+fn timed(
+    mut calls: Calls,
+    rounds: Rounds,
+    mut other: impl FnMut() -> Result<Option<Vec<f64>>, String>,
+) -> Result<([f64; 3], Option<f64>), String> {
+    let times = SIDES.map(|side| calls.times(side, rounds.least));
+    let mut best = SIDES.map(|_| Best::default());
+    let mut before = None;
+    for _ in 0..rounds.count {
+        for ((best, side), times) in best.iter_mut().zip(SIDES).zip(times) {
+            best.add(calls.round(side, times));
+        }
+        if let Some(pieces) = other()? {
+            before.get_or_insert_with(Best::default).add(pieces);
+        }
+    }
+    Ok((best.map(|best| best.mean()), before.map(|best| best.mean())))
+}
+
+fn print(row: &Row) {
+    let [proved, scan, index] = row.times;
+    let (before, faster) = match row.before {
+        Some(time) => (format!("{time:.2}"), format!("{:.2}", time / proved)),
+        None => ("-".into(), "-".into()),
+    };
+    println!(
+        "{:26} {:>9} {:18} {before:>10} {proved:10.2} {scan:10.2} {index:10.2} {faster:>7} {:7.2}",
+        row.files,
+        row.histories,
+        row.service,
+        proved / index
+    );
 }
 
 /// Measures everything and prints each time as it comes.
-pub fn run(rounds: Rounds) -> Vec<Row> {
+pub fn run(rounds: Rounds, other: &mut Option<Other>) -> Result<Vec<Row>, String> {
     println!(
-        "{:26} {:>9} {:18} {:>11} {:>11} {:>11} {:>7} {:>7}",
-        "files", "histories", "service", "proved, us", "scan, us", "index, us", "/scan", "/index"
+        "{:26} {:>9} {:18} {:>10} {:>10} {:>10} {:>10} {:>7} {:>7}",
+        "files",
+        "histories",
+        "service",
+        "before, us",
+        "proved",
+        "scan",
+        "index",
+        "faster",
+        "/index"
     );
     let mut rows = Vec::new();
-    for workload in workloads() {
-        for (service, name) in SERVICES {
-            if !service.timed_on(&workload) {
+    for (place, workload) in workloads().iter().enumerate() {
+        for (number, &(service, name)) in SERVICES.iter().enumerate() {
+            if !service.timed_on(workload) {
                 continue;
             }
+            let calls = Calls::of(service, workload);
+            let (times, before) = timed(calls, rounds, || {
+                let ask = |other: &mut Other| other.round(place, number, rounds.least);
+                other.as_mut().map(ask).transpose()
+            })?;
             let row = Row {
                 group: workload.group,
                 size: workload.size,
                 files: workload.name.clone(),
                 histories: workload.histories.len(),
                 service: name,
-                times: timed(service, &workload, rounds),
+                times,
+                before,
             };
-            let [proved, scan, index] = row.times;
-            println!(
-                "{:26} {:>9} {name:18} {proved:11.2} {scan:11.2} {index:11.2} {:7.2} {:7.2}",
-                row.files,
-                row.histories,
-                proved / scan,
-                proved / index
-            );
+            print(&row);
             rows.push(row);
         }
     }
-    rows
+    Ok(rows)
 }
