@@ -1,6 +1,6 @@
 //! Microseconds for one call of a service: on each side here, and with the library of another bench.
 use crate::clock;
-use crate::other::Other;
+use crate::other::{Other, Question};
 use crate::sides::{call, Buffers, History, Service, Side, SERVICES, SIDES};
 use crate::workloads::{workloads, Workload};
 use gaffmedlar::raw;
@@ -170,15 +170,17 @@ pub fn run(rounds: Rounds, other: &mut Option<Other>) -> Result<Vec<Row>, String
         "/index"
     );
     let mut rows = Vec::new();
-    for (place, workload) in workloads().iter().enumerate() {
+    let all = workloads();
+    for (place, workload) in all.iter().enumerate() {
         for (number, &(service, name)) in SERVICES.iter().enumerate() {
             if !service.timed_on(workload) {
                 continue;
             }
             let calls = Calls::of(service, workload);
+            let question = Question::of(&all, place, number, rounds.least);
             let (times, before) = timed(calls, rounds, || {
-                let ask = |other: &mut Other| other.round(place, number, rounds.least);
-                other.as_mut().map(ask).transpose()
+                let answer = other.as_mut().map(|other| other.round(&question));
+                answer.transpose()
             })?;
             let row = Row {
                 group: workload.group,

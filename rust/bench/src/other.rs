@@ -1,7 +1,8 @@
 //! Another bench, built with another archive: it is asked for a round at a time, so that both libraries take turns.
 use crate::measure::Calls;
 use crate::sides::{Side, SERVICES};
-use crate::workloads::workloads;
+use crate::workloads::{workloads, Workload};
+use std::hash::{DefaultHasher, Hash, Hasher};
 use std::io::{BufRead, BufReader, Write};
 use std::path::Path;
 use std::process::{Child, ChildStdin, ChildStdout, Command, Stdio};
@@ -34,15 +35,15 @@ impl Other {
     }
 
     /// Its times of one round, by piece.
-    pub fn round(
-        &mut self,
-        workload: usize,
-        service: usize,
-        least: Duration,
-    ) -> Result<Vec<f64>, String> {
+    pub fn round(&mut self, question: &Question) -> Result<Vec<f64>, String> {
         let mut line = String::new();
-        let asked = writeln!(self.questions, "{workload} {service} {}", least.as_micros());
-        asked
+        let Question {
+            workload,
+            service,
+            micros,
+            files,
+        } = question;
+        writeln!(self.questions, "{workload} {service} {micros} {files}")
             .and_then(|()| self.answers.read_line(&mut line))
             .map_err(|error| format!("{}: {error}", self.name))?;
         let times: Option<Vec<f64>> = line
@@ -60,42 +61,72 @@ impl Drop for Other {
     }
 }
 
-/// The place of a workload, that of a service, and the length of a round.
-fn question(line: &str) -> Option<(usize, usize, Duration)> {
-    let numbers: Result<Vec<u64>, _> = line.split(' ').map(str::parse).collect();
-    match numbers.ok()?[..] {
-        [workload, service, micros] => Some((
-            usize::try_from(workload).ok()?,
-            usize::try_from(service).ok()?,
-            Duration::from_micros(micros),
-        )),
-        _ => None,
+/// The place of a workload, that of a service, the length of a round, and a number made of the files: both have to time
+/// the same ones.
+pub struct Question {
+    workload: usize,
+    service: usize,
+    micros: u64,
+    files: u64,
+}
+
+impl Question {
+    pub fn of(all: &[Workload], workload: usize, service: usize, least: Duration) -> Question {
+        Question {
+            workload,
+            service,
+            micros: least.as_micros() as u64,
+            files: digest(&all[workload]),
+        }
     }
+
+    fn read(line: &str) -> Option<Question> {
+        let mut words = line.split(' ');
+        let question = Question {
+            workload: words.next()?.parse().ok()?,
+            service: words.next()?.parse().ok()?,
+            micros: words.next()?.parse().ok()?,
+            files: words.next()?.parse().ok()?,
+        };
+        words.next().is_none().then_some(question)
+    }
+
+    /// The calls asked for, and how many times over they fill a round.
+    fn calls<'a>(&self, all: &'a [Workload]) -> Option<(Calls<'a>, u32)> {
+        let workload = all.get(self.workload)?;
+        let (service, _) = SERVICES.get(self.service)?;
+        if digest(workload) != self.files {
+            return None;
+        }
+        let mut calls = Calls::of(*service, workload);
+        let times = calls.times(Side::Library, Duration::from_micros(self.micros));
+        Some((calls, times))
+    }
+}
+
+fn digest(workload: &Workload) -> u64 {
+    let mut hasher = DefaultHasher::new();
+    (&workload.grammar, &workload.histories).hash(&mut hasher);
+    hasher.finish()
 }
 
 /// The other end: a round of the library for each line, until there are no more.
 pub fn answer() -> Result<(), String> {
     let all = workloads();
-    let mut ready: Option<(String, Calls, u32)> = None;
+    let mut ready: Option<(String, (Calls, u32))> = None;
     for line in std::io::stdin().lines() {
         let line = line.map_err(|error| format!("standard input: {error}"))?;
         let (mut calls, times) = match ready.take() {
-            Some((same, calls, times)) if same == line => (calls, times),
-            _ => {
-                let unknown = || format!("{line} is no question");
-                let (workload, service, least) = question(&line).ok_or_else(unknown)?;
-                let workload = all.get(workload).ok_or_else(unknown)?;
-                let (service, _) = SERVICES.get(service).ok_or_else(unknown)?;
-                let mut calls = Calls::of(*service, workload);
-                let times = calls.times(Side::Library, least);
-                (calls, times)
-            }
+            Some((same, calls)) if same == line => calls,
+            _ => Question::read(&line)
+                .and_then(|question| question.calls(&all))
+                .ok_or(format!("no question about this bench's files: {line}"))?,
         };
         let pieces = calls.round(Side::Library, times);
         let pieces: Vec<String> = pieces.iter().map(f64::to_string).collect();
         let written = writeln!(std::io::stdout(), "{}", pieces.join(" "));
         written.map_err(|error| format!("standard output: {error}"))?;
-        ready = Some((line, calls, times));
+        ready = Some((line, (calls, times)));
     }
     Ok(())
 }
