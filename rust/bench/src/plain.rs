@@ -1,14 +1,15 @@
-//! The algorithms of the proved library in plain Rust: backward the stages that derive the rest of each level, forward
-//! the readings and the sets; stop marks by pair states. Answers are numbers as in include/gaffmedlar.h.
+//! The algorithms of the proved library in plain Rust, over all rules or by an index: backward the stages that derive the
+//! rest of each level, forward the readings and the sets. Answers are numbers as in include/gaffmedlar.h.
+use crate::index::{Ends, Index};
 use frames::{Rule, Token};
 use reference::{parse_grammar, parse_history, Grammar, NO_FURTHER, NO_READING};
 
-struct Read {
-    rules: Vec<Rule>,
-    tokens: Vec<Token>,
+pub struct Read {
+    pub rules: Vec<Rule>,
+    pub tokens: Vec<Token>,
 }
 
-fn read(grammar: &[u8], history: &[u8]) -> Result<Read, u8> {
+pub fn read(grammar: &[u8], history: &[u8]) -> Result<Read, u8> {
     let Grammar { rules, .. } = parse_grammar(grammar)?;
     let tokens = parse_history(history)?;
     Ok(Read { rules, tokens })
@@ -31,35 +32,69 @@ fn closes(tokens: &[Token]) -> Vec<usize> {
     close
 }
 
-fn has(set: u32, stage: u16) -> bool {
+pub fn has(set: u32, stage: u16) -> bool {
     set >> stage & 1 == 1
 }
 
-struct Levels {
+struct Levels<I> {
     read: Read,
+    index: I,
     close: Vec<usize>,
     /// The stages that derive the rest of the level from each position.
     able: Vec<u32>,
 }
 
-impl Levels {
-    fn of(read: Read) -> Levels {
+impl<I: Index> Levels<I> {
+    fn of(read: Read) -> Levels<I> {
         let n = read.tokens.len();
         let mut levels = Levels {
             close: closes(&read.tokens),
             able: vec![0; n + 2],
+            index: I::of(&read.rules),
             read,
         };
         for place in (0..=n).rev() {
-            let mut set = 0;
-            for rule in &levels.read.rules {
-                if levels.applies(rule, place) {
-                    set |= 1 << rule.from();
-                }
-            }
-            levels.able[place] = set;
+            levels.able[place] = levels.level(place);
         }
         levels
+    }
+
+    /// The rules to look at at a position.
+    fn rules_at(&self, place: usize) -> impl Iterator<Item = (usize, &Rule)> {
+        let token = self.read.tokens.get(place).copied();
+        self.index.at(&self.read.rules, token)
+    }
+
+    /// What is known of the empty rules, where only these can stand.
+    fn ends_at(&self, place: usize) -> Option<&Ends> {
+        match self.read.tokens.get(place) {
+            None | Some(Token::Close(_)) => self.index.ends(),
+            _ => None,
+        }
+    }
+
+    fn level(&self, place: usize) -> u32 {
+        if let Some(ends) = self.ends_at(place) {
+            return ends.stages;
+        }
+        let mut set = 0;
+        for (_, rule) in self.rules_at(place) {
+            if self.applies(rule, place) {
+                set |= 1 << rule.from();
+            }
+        }
+        set
+    }
+
+    /// The smallest rule of the stage, which derives the rest.
+    fn smallest(&self, stage: u16, place: usize) -> usize {
+        if let Some(ends) = self.ends_at(place) {
+            return ends.rule[usize::from(stage)].into();
+        }
+        self.rules_at(place)
+            .find(|(_, rule)| self.fits(rule, stage, place))
+            .expect("the stage derives the rest")
+            .0
     }
 
     fn applies(&self, rule: &Rule, place: usize) -> bool {
@@ -106,12 +141,7 @@ impl Levels {
         let mut stage = stage;
         let end = self.read.tokens.len() + 1;
         for (place, byte) in out.iter_mut().enumerate().take(end).skip(from) {
-            let smallest = self
-                .read
-                .rules
-                .iter()
-                .position(|rule| self.fits(rule, stage, place))
-                .expect("the stage derives the rest");
+            let smallest = self.smallest(stage, place);
             *byte = smallest as u8;
             stage = self.go_on(&self.read.rules[smallest], place, behind);
         }
@@ -125,7 +155,7 @@ impl Levels {
         for place in 0..=n {
             let mut words = [0; 4];
             let (mut held, mut next, mut later) = (0, 0, 0);
-            for (number, rule) in self.read.rules.iter().enumerate() {
+            for (number, rule) in self.rules_at(place) {
                 if has(here, rule.from()) && self.applies(rule, place) {
                     words[number / 32] |= 1 << (number % 32);
                     held += 1;
@@ -146,12 +176,12 @@ impl Levels {
     }
 }
 
-fn levels(
+fn levels<I: Index>(
     grammar: &[u8],
     history: &[u8],
     lent: usize,
     needed: impl Fn(usize) -> usize,
-) -> Result<Levels, u8> {
+) -> Result<Levels<I>, u8> {
     let read = read(grammar, history)?;
     if lent < needed(read.tokens.len() + 1) {
         return Err(15);
@@ -163,9 +193,9 @@ fn number(answer: Result<u8, u8>) -> u8 {
     answer.unwrap_or_else(|number| number)
 }
 
-pub fn first_reading(grammar: &[u8], history: &[u8], out: &mut [u8]) -> u8 {
+pub fn first_reading<I: Index>(grammar: &[u8], history: &[u8], out: &mut [u8]) -> u8 {
     number(
-        levels(grammar, history, out.len(), |positions| positions).map(|levels| {
+        levels::<I>(grammar, history, out.len(), |positions| positions).map(|levels| {
             if !has(levels.able[0], 0) {
                 return NO_READING;
             }
@@ -176,8 +206,8 @@ pub fn first_reading(grammar: &[u8], history: &[u8], out: &mut [u8]) -> u8 {
     )
 }
 
-pub fn next_reading(grammar: &[u8], history: &[u8], out: &mut [u8]) -> u8 {
-    let levels = match levels(grammar, history, out.len(), |positions| positions) {
+pub fn next_reading<I: Index>(grammar: &[u8], history: &[u8], out: &mut [u8]) -> u8 {
+    let levels = match levels::<I>(grammar, history, out.len(), |positions| positions) {
         Ok(levels) => levels,
         Err(number) => return number,
     };
@@ -196,8 +226,7 @@ pub fn next_reading(grammar: &[u8], history: &[u8], out: &mut [u8]) -> u8 {
         }
     }
     for place in (0..=n).rev() {
-        let larger = usize::from(out[place]) + 1;
-        for (number, rule) in rules.iter().enumerate().skip(larger) {
+        for (number, rule) in levels.index.larger(rules, out[place].into()) {
             if levels.fits(rule, at[place], place) {
                 out[place] = number as u8;
                 let stage = levels.go_on(rule, place, &mut behind);
@@ -209,7 +238,7 @@ pub fn next_reading(grammar: &[u8], history: &[u8], out: &mut [u8]) -> u8 {
     NO_FURTHER
 }
 
-pub fn run_calls(
+pub fn run_calls<I: Index>(
     grammar: &[u8],
     history: &[u8],
     calls: &[u8],
@@ -221,103 +250,25 @@ pub fn run_calls(
     }
     for (answer, call) in answers.iter_mut().zip(calls) {
         *answer = match call {
-            0 => first_reading(grammar, history, buffer),
-            _ => next_reading(grammar, history, buffer),
+            0 => first_reading::<I>(grammar, history, buffer),
+            _ => next_reading::<I>(grammar, history, buffer),
         };
     }
     0
 }
 
-pub fn sets(grammar: &[u8], history: &[u8], words: &mut [u32]) -> u8 {
+pub fn sets<I: Index>(grammar: &[u8], history: &[u8], words: &mut [u32]) -> u8 {
     number(
-        levels(grammar, history, words.len(), |positions| 4 * positions).map(|levels| {
+        levels::<I>(grammar, history, words.len(), |positions| 4 * positions).map(|levels| {
             levels.kept(|place, set, _| words[4 * place..4 * place + 4].copy_from_slice(&set));
             0
         }),
     )
 }
 
-pub fn doubtful_count(grammar: &[u8], history: &[u8]) -> Result<u32, u8> {
-    let levels = levels(grammar, history, 0, |_| 0)?;
+pub fn doubtful_count<I: Index>(grammar: &[u8], history: &[u8]) -> Result<u32, u8> {
+    let levels = levels::<I>(grammar, history, 0, |_| 0)?;
     let mut count = 0;
     levels.kept(|_, _, held| count += u32::from(held > 1));
     Ok(count)
-}
-
-/// A state of pairs: bit L2 of word L1 for the pair of context L1 and current stage L2.
-type Pairs = [u32; 32];
-
-/// Each word goes from the stages in it to those that a rule of the given kind leads to.
-fn led(pairs: &Pairs, rules: &[Rule], lead: impl Fn(&Rule) -> Option<u16>) -> Pairs {
-    let mut out = [0; 32];
-    for (word, &set) in out.iter_mut().zip(pairs) {
-        for rule in rules {
-            if has(set, rule.from()) {
-                if let Some(stage) = lead(rule) {
-                    *word |= 1 << stage;
-                }
-            }
-        }
-    }
-    out
-}
-
-pub fn stop_marks(grammar: &[u8], history: &[u8], marks: &mut [u8]) -> u8 {
-    let Read { rules, tokens } = match read(grammar, history) {
-        Ok(read) => read,
-        Err(number) => return number,
-    };
-    if marks.len() <= tokens.len() {
-        return 15;
-    }
-    let mut ends = 0u32;
-    for rule in &rules {
-        if let Rule::Ends { from } = rule {
-            ends |= 1 << from;
-        }
-    }
-    let mut stack: Vec<(Pairs, u16)> = Vec::new();
-    let mut pairs = [0u32; 32];
-    pairs[0] = 1;
-    for (place, token) in tokens.iter().enumerate() {
-        marks[place] = u8::from(stack.is_empty() && pairs.iter().any(|word| word & ends != 0));
-        pairs = match *token {
-            Token::Mark(name) => led(&pairs, &rules, |rule| match *rule {
-                Rule::Marks { mark, then, .. } if mark == name => Some(then),
-                _ => None,
-            }),
-            Token::Open(name) => {
-                let inside = led(&pairs, &rules, |rule| match *rule {
-                    Rule::Steps { open, inside, .. } if open == name => Some(inside),
-                    _ => None,
-                });
-                let all = inside.iter().fold(0, |all, word| all | word);
-                stack.push((pairs, name));
-                let mut out = [0; 32];
-                for (stage, word) in out.iter_mut().enumerate() {
-                    *word = all & 1 << stage;
-                }
-                out
-            }
-            Token::Close(name) => {
-                let (before, opened) = stack.pop().expect("a history that passed");
-                let mut done = 0u32;
-                for (stage, word) in pairs.iter().enumerate() {
-                    done |= u32::from(word & ends != 0) << stage;
-                }
-                led(&before, &rules, |rule| match *rule {
-                    Rule::Steps {
-                        open,
-                        inside,
-                        close,
-                        then,
-                        ..
-                    } if open == opened && close == name && has(done, inside) => Some(then),
-                    _ => None,
-                })
-            }
-        };
-    }
-    marks[tokens.len()] = u8::from(pairs.iter().any(|word| word & ends != 0));
-    0
 }

@@ -1,0 +1,179 @@
+//! Stop marks by pair states in plain Rust, in two ways.
+use crate::index::{Classes, Index};
+use crate::plain::{has, read, Read};
+use frames::{Rule, Token};
+
+/// A state of pairs: bit L2 of word L1 for the pair of context L1 and current stage L2.
+type Pairs = [u32; 32];
+
+/// Each word goes from the stages in it to those that a rule of the given kind leads to.
+fn led(pairs: &Pairs, rules: &[Rule], lead: impl Fn(&Rule) -> Option<u16>) -> Pairs {
+    let mut out = [0; 32];
+    for (word, &set) in out.iter_mut().zip(pairs) {
+        for rule in rules {
+            if has(set, rule.from()) {
+                if let Some(stage) = lead(rule) {
+                    *word |= 1 << stage;
+                }
+            }
+        }
+    }
+    out
+}
+
+/// Over all rules, a word to each context.
+pub fn by_contexts(grammar: &[u8], history: &[u8], marks: &mut [u8]) -> u8 {
+    let Read { rules, tokens } = match read(grammar, history) {
+        Ok(read) => read,
+        Err(number) => return number,
+    };
+    if marks.len() <= tokens.len() {
+        return 15;
+    }
+    let mut ends = 0u32;
+    for rule in &rules {
+        if let Rule::Ends { from } = rule {
+            ends |= 1 << from;
+        }
+    }
+    let mut stack: Vec<(Pairs, u16)> = Vec::new();
+    let mut pairs = [0u32; 32];
+    pairs[0] = 1;
+    for (place, token) in tokens.iter().enumerate() {
+        marks[place] = u8::from(stack.is_empty() && pairs.iter().any(|word| word & ends != 0));
+        pairs = match *token {
+            Token::Mark(name) => led(&pairs, &rules, |rule| match *rule {
+                Rule::Marks { mark, then, .. } if mark == name => Some(then),
+                _ => None,
+            }),
+            Token::Open(name) => {
+                let inside = led(&pairs, &rules, |rule| match *rule {
+                    Rule::Steps { open, inside, .. } if open == name => Some(inside),
+                    _ => None,
+                });
+                let all = inside.iter().fold(0, |all, word| all | word);
+                stack.push((pairs, name));
+                let mut out = [0; 32];
+                for (stage, word) in out.iter_mut().enumerate() {
+                    *word = all & 1 << stage;
+                }
+                out
+            }
+            Token::Close(name) => {
+                let (before, opened) = stack.pop().expect("a history that passed");
+                let mut done = 0u32;
+                for (stage, word) in pairs.iter().enumerate() {
+                    done |= u32::from(word & ends != 0) << stage;
+                }
+                led(&before, &rules, |rule| match *rule {
+                    Rule::Steps {
+                        open,
+                        inside,
+                        close,
+                        then,
+                        ..
+                    } if open == opened && close == name && has(done, inside) => Some(then),
+                    _ => None,
+                })
+            }
+        };
+    }
+    marks[tokens.len()] = u8::from(pairs.iter().any(|word| word & ends != 0));
+    0
+}
+
+/// The contexts whose level may be finished, in a state turned round: bit L1 of word L2.
+fn finished(pairs: &Pairs, ends: u32) -> u32 {
+    let words = pairs.iter().enumerate();
+    words.fold(0, |set, (stage, word)| match ends >> stage & 1 {
+        0 => set,
+        _ => set | word,
+    })
+}
+
+/// By the index, a word to each current stage, as the library has it.
+pub fn by_currents(grammar: &[u8], history: &[u8], marks: &mut [u8]) -> u8 {
+    let Read { rules, tokens } = match read(grammar, history) {
+        Ok(read) => read,
+        Err(number) => return number,
+    };
+    if marks.len() <= tokens.len() {
+        return 15;
+    }
+    let index = Classes::of(&rules);
+    let ends = index.ends().map_or(0, |ends| ends.stages);
+    let mut stack: Vec<(Pairs, u16)> = Vec::new();
+    let mut pairs = [0; 32];
+    pairs[0] = 1;
+    for (place, &token) in tokens.iter().enumerate() {
+        marks[place] = u8::from(stack.is_empty() && finished(&pairs, ends) != 0);
+        pairs = match token {
+            Token::Mark(name) => after_mark(&index, &rules, name, &pairs),
+            Token::Open(name) => {
+                stack.push((pairs, name));
+                after_open(&index, &rules, name, &pairs)
+            }
+            Token::Close(name) => {
+                let (before, opened) = stack.pop().expect("a history that passed");
+                let done = finished(&pairs, ends);
+                after_close(&index, &rules, (opened, name), &before, done)
+            }
+        };
+    }
+    marks[tokens.len()] = u8::from(finished(&pairs, ends) != 0);
+    0
+}
+
+fn after_mark(index: &Classes, rules: &[Rule], name: u16, pairs: &Pairs) -> Pairs {
+    let mut out = [0; 32];
+    for (_, rule) in index.at(rules, Some(Token::Mark(name))) {
+        match *rule {
+            Rule::Marks { from, mark, then } if mark == name => {
+                out[usize::from(then)] |= pairs[usize::from(from)];
+            }
+            _ => {}
+        }
+    }
+    out
+}
+
+fn after_open(index: &Classes, rules: &[Rule], name: u16, pairs: &Pairs) -> Pairs {
+    let mut out = [0; 32];
+    for (_, rule) in index.at(rules, Some(Token::Open(name))) {
+        match *rule {
+            Rule::Steps {
+                from, open, inside, ..
+            } if open == name && pairs[usize::from(from)] != 0 => {
+                out[usize::from(inside)] |= 1 << inside;
+            }
+            _ => {}
+        }
+    }
+    out
+}
+
+/// `before` is the state before the step's open, `done` the contexts whose level may be finished.
+fn after_close(
+    index: &Classes,
+    rules: &[Rule],
+    (opened, name): (u16, u16),
+    before: &Pairs,
+    done: u32,
+) -> Pairs {
+    let mut out = [0; 32];
+    for (_, rule) in index.at(rules, Some(Token::Open(opened))) {
+        match *rule {
+            Rule::Steps {
+                from,
+                open,
+                inside,
+                close,
+                then,
+            } if open == opened && close == name && has(done, inside) => {
+                out[usize::from(then)] |= before[usize::from(from)];
+            }
+            _ => {}
+        }
+    }
+    out
+}

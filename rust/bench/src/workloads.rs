@@ -1,0 +1,213 @@
+//! The files that are timed: a grammar, and one history or many in turn.
+use frames::{grammar_file, history_file, Rule, Token, G};
+
+pub struct Workload {
+    /// What it is compared with, and where it stands there: by tokens, by rules or by names.
+    pub group: &'static str,
+    pub size: usize,
+    pub name: String,
+    pub grammar: Vec<u8>,
+    /// All with the same number of tokens.
+    pub histories: Vec<Vec<u8>>,
+}
+
+/// Histories in turn: with one alone the processor learns its branches.
+const IN_TURN: u64 = 64;
+
+fn steps(count: usize) -> Vec<u8> {
+    let step = [Token::Open(0), Token::Mark(0), Token::Close(0)];
+    history_file(&step.repeat(count))
+}
+
+/// `count` rules over a fourth as many stages: each stage ends, goes on by a mark to two stages, and makes a step.
+fn many_rules(count: usize) -> Vec<u8> {
+    let stages = (count / 4) as u16;
+    let rules = staged(stages, |_, later, other| {
+        [0, u16::from(later == other), 0, 0]
+    });
+    grammar_file(stages.into(), &rules)
+}
+
+/// The same with the names dealt out to the rules.
+fn named_rules(count: usize, names: u16) -> Vec<Rule> {
+    staged((count / 4) as u16, |from, _, _| {
+        [2 * from, 2 * from + 1, from, 3 * from].map(|name| name % names)
+    })
+}
+
+/// Four rules to a stage; `names` gives the two marks, the open and the close of one.
+fn staged(stages: u16, names: impl Fn(u16, u16, u16) -> [u16; 4]) -> Vec<Rule> {
+    let each = |from: u16| {
+        let (later, other) = ((from + 1) % stages, (from + stages / 2) % stages);
+        let [mark, other_mark, open, close] = names(from, later, other);
+        [
+            Rule::Ends { from },
+            Rule::Marks {
+                from,
+                mark,
+                then: later,
+            },
+            Rule::Marks {
+                from,
+                mark: other_mark,
+                then: other,
+            },
+            Rule::Steps {
+                from,
+                open,
+                inside: later,
+                close,
+                then: other,
+            },
+        ]
+    };
+    (0..stages).flat_map(each).collect()
+}
+
+/// Marks and steps in turn, some steps inside others.
+fn mixed(count: usize) -> Vec<u8> {
+    let block = [
+        Token::Open(0),
+        Token::Mark(0),
+        Token::Open(0),
+        Token::Close(0),
+        Token::Mark(0),
+        Token::Close(0),
+        Token::Mark(0),
+        Token::Mark(0),
+    ];
+    history_file(&block.repeat(count / 8))
+}
+
+/// Numbers that look random, the same in every run.
+struct Numbers(u64);
+
+impl Numbers {
+    fn below(&mut self, bound: usize) -> usize {
+        self.0 ^= self.0 << 13;
+        self.0 ^= self.0 >> 7;
+        self.0 ^= self.0 << 17;
+        (self.0 >> 20) as usize % bound
+    }
+}
+
+/// A history of n tokens that has a reading, by rules taken at random. Every stage has an empty rule.
+fn walked(rules: &[Rule], n: usize, seed: u64) -> Vec<u8> {
+    let mut numbers = Numbers(seed.wrapping_mul(0x9E37_79B9_7F4A_7C15) | 1);
+    let mut tokens = Vec::new();
+    let mut pending: Vec<(u16, u16)> = Vec::new();
+    let mut stage = 0;
+    while tokens.len() < n {
+        let left = n - tokens.len() - pending.len();
+        let of_stage: Vec<&Rule> = rules.iter().filter(|rule| rule.from() == stage).collect();
+        match *of_stage[numbers.below(of_stage.len())] {
+            Rule::Marks { mark, then, .. } if left >= 1 => {
+                tokens.push(Token::Mark(mark));
+                stage = then;
+            }
+            Rule::Steps {
+                open,
+                inside,
+                close,
+                then,
+                ..
+            } if left >= 2 && pending.len() < 128 => {
+                tokens.push(Token::Open(open));
+                pending.push((close, then));
+                stage = inside;
+            }
+            Rule::Ends { .. } => {
+                if let Some((close, then)) = pending.pop() {
+                    tokens.push(Token::Close(close));
+                    stage = then;
+                }
+            }
+            _ => {}
+        }
+    }
+    history_file(&tokens)
+}
+
+/// S ends or makes a step.
+const BRACKETS: [Rule; 2] = [
+    Rule::Steps {
+        from: 0,
+        open: 0,
+        inside: 0,
+        close: 0,
+        then: 0,
+    },
+    Rule::Ends { from: 0 },
+];
+
+/// S ends or goes on by a mark.
+const MARKS: [Rule; 2] = [
+    Rule::Marks {
+        from: 0,
+        mark: 0,
+        then: 0,
+    },
+    Rule::Ends { from: 0 },
+];
+
+/// Each over one history.
+fn repeated() -> Vec<Workload> {
+    let mut all = Vec::new();
+    let mut add = |group, size, name: String, grammar, history| {
+        all.push(Workload {
+            group,
+            size,
+            name,
+            grammar,
+            histories: vec![history],
+        });
+    };
+    let marks = history_file(&[Token::Mark(0); 1000]);
+    let name = "1,000 marks, one reading".into();
+    add("workload", 2, name, grammar_file(1, &MARKS), marks);
+    for (group, count) in [("workload", 16), ("listing", 340)] {
+        let name = format!("{count} ambiguous steps");
+        add(group, 7, name, G.to_vec(), steps(count));
+    }
+    for tokens in [64, 128, 256, 512, 1024] {
+        let name = format!("{tokens} tokens, 32 rules");
+        add("tokens", tokens, name, many_rules(32), mixed(tokens));
+    }
+    for rules in [8, 16, 32, 64, 128] {
+        let name = format!("{rules} rules, 1,024 tokens");
+        add("rules", rules, name, many_rules(rules), mixed(1024));
+    }
+    all
+}
+
+/// Over one history and over many in turn.
+fn by_names(histories: u64) -> Vec<Workload> {
+    let mut all = Vec::new();
+    let mut add = |size, name: String, stages, rules: &[Rule]| {
+        all.push(Workload {
+            group: "names",
+            size,
+            name,
+            grammar: grammar_file(stages, rules),
+            histories: (1..=histories).map(|k| walked(rules, 1024, k)).collect(),
+        });
+    };
+    for names in [64, 16, 4, 1] {
+        let rules = named_rules(128, names);
+        add(
+            names.into(),
+            format!("128 rules, names: {names}"),
+            32,
+            &rules,
+        );
+    }
+    add(1, "2 rules, names: 1".into(), 1, &BRACKETS);
+    all
+}
+
+pub fn workloads() -> Vec<Workload> {
+    let mut all = repeated();
+    all.extend(by_names(1));
+    all.extend(by_names(IN_TURN));
+    all
+}
