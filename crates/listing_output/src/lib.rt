@@ -2,7 +2,7 @@
 use listing_text::Piece;
 ghost use mathlib.Core.Path.{_≡_};
 ghost use Rattle.listing_text.specs.believed.Listing.{listing};
-ghost use Rattle.listing_text.specs.Written.{Written};
+ghost use Rattle.listing_text.specs.believed.Written.{Written};
 
 // Writes the listing of the two files in pieces as long as the buffer, and then what is left in it; answers that last piece.
 pub fn write_listing(grammar: &[u8], history: &[u8], text: &mut [u8]) -> Piece

@@ -13,7 +13,7 @@ use Rattle.laws.proofs.Bools.{and-right}
 use Rattle.lines.specs.believed.Window.{shown, window}
 use Rattle.listing_text.specs.declared.Piece.{Piece}
 use Rattle.listing_text.specs.believed.Pieces.{goesOn, pieceOf, pieceAfter}
-use Rattle.listing_text.specs.Written.{Pieces, none, one-more, Written}
+use Rattle.listing_text.specs.believed.Written.{Pieces, none, one-more, Written}
 
 -- what is shown, and the rest
 shown-rest : (size : ℕ) (l : List ℕ) → take size l ++ drop (length (take size l)) l ≡ l

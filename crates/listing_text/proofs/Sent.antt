@@ -14,7 +14,7 @@ use Rattle.lines.specs.Laid.{Laid, put, putIf, laid}
 use Rattle.lines.specs.believed.Window.{shown, window}
 use Rattle.listing_text.specs.declared.Piece.{Piece}
 use Rattle.listing_text.specs.believed.Pieces.{goesOn, beforeAll, pieceAfter}
-use Rattle.listing_text.specs.Written.{Pieces, none, one-more, Written}
+use Rattle.listing_text.specs.believed.Written.{Pieces, none, one-more, Written}
 use Rattle.listing_text.specs.Passing.{atStart}
 use Rattle.listing_text.proofs.Pieces.{piece-is, piece-added}
 

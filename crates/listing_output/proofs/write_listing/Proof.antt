@@ -9,7 +9,7 @@ use Rattle.lines.specs.declared.Cursor.{Cursor}
 use Rattle.lines.specs.Laid.{laid}
 use Rattle.listing_text.specs.believed.Listing.{listing}
 use Rattle.listing_text.specs.Passing.{atStart}
-use Rattle.listing_text.specs.Written.{Written}
+use Rattle.listing_text.specs.believed.Written.{Written}
 use Rattle.listing_text.proofs.Pieces.{written-fits}
 use Rattle.listing_text.proofs.Sent.{lastPiece, laid-written}
 use Rattle.listing_text.proofs.Short.{listing-short}
