@@ -128,7 +128,7 @@ int main(void)
         const char *name;
         void (*function)(void);
         size_t stated; /* KiB */
-    } all[] = {{"gaffmedlar_grammar_check", grammar_check, 4}, {"gaffmedlar_history_check", history_check, 8},
+    } all[] = {{"gaffmedlar_grammar_check", grammar_check, 8}, {"gaffmedlar_history_check", history_check, 8},
                {"gaffmedlar_first_reading", first, 32},        {"gaffmedlar_next_reading", next, 40},
                {"gaffmedlar_run_calls", run_calls, 48},        {"gaffmedlar_sets", sets, 32},
                {"gaffmedlar_doubtful_count", doubtful, 32},    {"gaffmedlar_stop_marks", stop_marks, 28}};

@@ -110,7 +110,7 @@ struct gaffmedlar_count {
     uint32_t count; /* 0 where refused */
 };
 
-/* Checks a grammar file. Answers 0 with the counts, or 1 to 9. Writes nothing. Stack: 4 KiB. */
+/* Checks a grammar file. Answers 0 with the counts, or 1 to 9. Writes nothing. Stack: 8 KiB. */
 struct gaffmedlar_grammar gaffmedlar_grammar_check(const uint8_t *grammar, size_t grammar_len);
 
 /* Checks a history file. Answers 0 with the number of tokens, or 1, 2, 9 to 14. Writes nothing. Stack: 8 KiB. */

@@ -7,6 +7,5 @@ SERVICES = [
     ("sets", []),
     ("stop_marks", []),
     ("gaffmedlar", []),
-    ("listing_text", []),
     ("listing_output", []),
 ]

@@ -1,9 +1,9 @@
--- Text laid byte by byte into a buffer that is a window on it.
--- Law: laid-window (lines/proofs/Laying.antt)
-use Prim.Native.Nat.{ℕ, _+_, _-_}
+-- Text laid byte by byte into a buffer that is emptied whenever it is full.
+-- Law: laid-written (listing_text/proofs/Sent.antt)
+use Prim.Native.Nat.{ℕ, _+_, _%_, _^_}
 use mathlib.Core.Bool.{Bool, true, false}
 use mathlib.Core.List.{List, [], _∷_}
-use lib.Dec.{ltb}
+use lib.Dec.{eqb, ltb}
 use lib.ListN.{length, set}
 use Rattle.lines.specs.declared.Cursor.{Cursor}
 
@@ -11,14 +11,18 @@ use Rattle.lines.specs.declared.Cursor.{Cursor}
 abbrev pub Laid : Type 0
 Laid = Cursor × List ℕ
 
--- one byte: passed over, written, or left out
+-- behind a full buffer of so many bytes
+abbrev pub behindFull : ℕ → ℕ → Cursor
+behindFull before size = record { before = (before + size) % 2 ^ 64; at = 0 }
+
+-- one byte: the last one that has room, another one, or left out
 abbrev pub putIf : Bool → Bool → Cursor → List ℕ → ℕ → Laid
-putIf true y p out b = (record { skip = p .skip - 1; at = p .at }, out)
-putIf false true p out b = (record { skip = p .skip; at = p .at + 1 }, set out (p .at) b)
-putIf false false p out b = (p, out)
+putIf true true p out b = (behindFull (p .before) (length out), set out (p .at) b)
+putIf true false p out b = (record { before = p .before; at = p .at + 1 }, set out (p .at) b)
+putIf false y p out b = (p, out)
 
 abbrev pub put : Laid → ℕ → Laid
-put w b = putIf (ltb 0 (w .0 .skip)) (ltb (w .0 .at) (length (w .1))) (w .0) (w .1) b
+put w b = putIf (ltb (w .0 .at) (length (w .1))) (eqb (w .0 .at + 1) (length (w .1))) (w .0) (w .1) b
 
 unfoldable pub laid : Laid → List ℕ → Laid
 laid w [] = w

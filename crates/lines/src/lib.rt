@@ -1,27 +1,41 @@
-// The lines of a listing, written to a buffer that is a window on the text. Each answers the place behind its line.
+// The lines of a listing, written to a buffer; a full buffer goes out as a piece of the text. Each answers the place behind its line.
+ghost use Prim.Native.Nat.{_+_, _%_, _^_};
 ghost use mathlib.Core.Path.{_≡_};
 ghost use mathlib.Core.List.{_++_, _∷_, []};
-ghost use Rattle.lines.specs.Laid.{put, laid};
+ghost use lib.ListN.{length};
+ghost use Rattle.lines.specs.Laid.{put, laid, behindFull};
 ghost use Rattle.lines.specs.believed.Text.{decimal, readingText, tokensLine, doubtfulLine, noneLine, readingLine, endLine, moreLine, refusedGrammarLine, refusedHistoryLine};
 
-// How many bytes of the text are still to be passed over, and where in the buffer the next one goes.
+// How many bytes of the text went out before those in the buffer, and where in the buffer the next one goes.
 pub struct Cursor {
-    pub skip: usize,
+    pub before: usize,
     pub at: usize,
 }
 
-// One byte, where it is not passed over and there is room.
+// Writes a full buffer to standard output; the next byte goes to its start.
+fn piece_out(out: &[u8], before: usize) -> Cursor
+    ensures { λ r. ⌜ r ≡ behindFull before (length (now (out .entry))) ⌝ }
+{
+    io::write_all(libc::STDOUT_FILENO, out);
+    Cursor {
+        before: std::num::wrapping_add_usize(before, out.len()),
+        at: 0,
+    }
+}
+
+// One byte, where there is room for any.
 pub fn put_byte(out: &mut [u8], p: Cursor, b: u8) -> Cursor
     ensures { λ r. ⌜ (r, now (out .exit)) ≡ put (p, now (out .entry)) b ⌝ }
 {
-    let skip = p.skip;
+    let before = p.before;
     let at = p.at;
-    if skip > 0 {
-        return Cursor { skip: skip - 1, at };
-    }
-    if at < out.len() {
+    let size = out.len();
+    if at < size {
         out[at] = b;
-        return Cursor { skip, at: at + 1 };
+        if at + 1 == size {
+            return piece_out(out, before);
+        }
+        return Cursor { before, at: at + 1 };
     }
     p
 }

@@ -1,4 +1,5 @@
 pub mod Pieces
+pub mod Sent
 pub mod Short
 pub mod Turns
 pub mod Whole

@@ -13,7 +13,7 @@ use Rattle.laws.proofs.Bools.{and-right}
 use Rattle.lines.specs.believed.Window.{shown, window}
 use Rattle.listing_text.specs.declared.Piece.{Piece}
 use Rattle.listing_text.specs.believed.Pieces.{goesOn, pieceOf, pieceAfter}
-use Rattle.listing_text.specs.Written.{Pieces, none, one-more, Written}
+use Rattle.listing_text.specs.believed.Written.{Pieces, none, one-more, Written}
 
 -- what is shown, and the rest
 shown-rest : (size : ℕ) (l : List ℕ) → take size l ++ drop (length (take size l)) l ≡ l
@@ -38,18 +38,6 @@ last-reaches start size text room = go (length (shown start size text)) (shown-l
         by-test true false same more e = omega (arith, eqb-true n size same, ltb-false 0 n more)
         by-test false b other more e = let d : n ≢ size = eqb-false n size other in omega (arith, is, d)
 
--- a piece with another to follow is not empty, and lies within the text
-more-left : (start size : ℕ) (text : List ℕ) → goesOn (length (shown start size text)) size ≡ true →
-    (0 < length (shown start size text)) × (start + length (shown start size text) ≤ length text)
-more-left start size text e =
-    let n = length (shown start size text) in
-    let some-one : 0 < n = ltb-true 0 n (and-right (eqb n size) (ltb 0 n) e) in
-    (some-one, omega (arith, some-one, shown-length start size text))
-
--- no piece reaches beyond the text
-pub piece-short : (start : ℕ) (out text : List ℕ) (most n : ℕ) (new : List ℕ) → length text ≤ most → (n, new) ≡ window start out text → n ≤ most - start
-piece-short start out text most n new short e = omega (arith, ap (λ (w : ℕ × List ℕ). w .0) e ∙ shown-length start (length out) text, short)
-
 pub piece-is : (p : Piece) (out text : List ℕ) (n : ℕ) (new : List ℕ) (more : Bool) → (n, new) ≡ window (p .end) out text → more ≡ goesOn n (length out) →
     (record { end = p .end + n; length = n; more = more }, new) ≡ pieceAfter p out text
 piece-is p out text n new more e goes = rw goes (ap (pieceOf (p .end) (length out)) e)
@@ -61,6 +49,8 @@ record SoFar (text out₀ : List ℕ) (p : Piece) (out all : List ℕ) : Type 0 
   rest : all ++ drop (p .end) text ≡ text
   same : length out ≡ length out₀
   done : 0 < length out₀ → p .more ≡ false → length text ≤ p .end
+  within : p .end ≤ length text
+  fits : p .length ≤ length out
 
 filled : (skip : ℕ) (out text : List ℕ) → length (window skip out text .1) ≡ length out
 filled skip out text =
@@ -68,7 +58,7 @@ filled skip out text =
     length-append s (drop (length s) out) ∙ (let n : length (drop (length s) out) ≡ length out - length s = length-drop (length s) out in omega (arith, n, shown-length skip (length out) text))
 
 so-far : {text out₀ : List ℕ} {p : Piece} {out all : List ℕ} → Pieces text out₀ p out all → SoFar text out₀ p out all
-so-far {text} {out₀} none = record { rest = refl; same = refl; done = λ room e. absurd (false≢true (sym e)) }
+so-far {text} {out₀} none = record { rest = refl; same = refl; done = λ room e. absurd (false≢true (sym e)); within = omega arith; fits = omega arith }
 so-far {text} {out₀} (one-more p out all before more) =
     let k = so-far before in
     let s = shown (p .end) (length out) text in
@@ -78,6 +68,8 @@ so-far {text} {out₀} (one-more p out all before more) =
           ∙ ap (λ (l : List ℕ). all ++ l) (shown-rest (length out) (drop (p .end) text)) ∙ k .rest;
       same = filled (p .end) out text ∙ k .same;
       done = λ room e. last-reaches (p .end) (length out) text (omega (arith, k .same, room)) e;
+      within = omega (arith, shown-length (p .end) (length out) text, k .within);
+      fits = omega (arith, shown-length (p .end) (length out) text, filled (p .end) out text);
     }
 
 -- the bytes of all pieces, one behind the other, are the whole text
@@ -88,19 +80,12 @@ written-whole {text} {out₀} {p} {out} room w =
 
 -- ── from piece to piece ──
 
-pub same-room : {text out₀ : List ℕ} {p : Piece} {out all : List ℕ} → Pieces text out₀ p out all → length out ≡ length out₀
-same-room k = so-far k .same
-
 module _ (text : List ℕ) (p : Piece) (out : List ℕ) (q : Piece) (new : List ℕ) (is : _≡_ {A = Piece × List ℕ} (q, new) (pieceAfter p out text)) where
   pub piece-added : {out₀ all : List ℕ} → Pieces text out₀ p out all → p .more ≡ true → (every : List ℕ) × Pieces text out₀ q new every
   piece-added {out₀} {all} k more =
       let every = all ++ shown (p .end) (length out) text in
       (every, subst (λ (x : Piece × List ℕ). Pieces text out₀ (x .0) (x .1) every) (sym is) (one-more p out all k more))
 
-  -- each piece with another to follow brings the end nearer
-  pub nearer : q .more ≡ true → length text - q .end < length text - p .end
-  nearer e =
-      let n : ℕ = length (shown (p .end) (length out) text) in
-      let end-is : q .end ≡ p .end + n = ap (λ (x : Piece × List ℕ). x .0 .end) is in
-      let k = more-left (p .end) (length out) text (sym (ap (λ (x : Piece × List ℕ). x .0 .more) is) ∙ e) in
-      omega (arith, end-is, k .0, k .1)
+-- the last piece lies within the text and within the buffer
+pub written-fits : {text out₀ : List ℕ} {p : Piece} {out : List ℕ} → Written text out₀ p out → (p .end ≤ length text) × (p .length ≤ length out)
+written-fits w = let k = so-far (w .pieces) in (k .within, k .fits)

@@ -1,29 +1,28 @@
 -- The loop over the readings: each turn lists the reading in the buffer and goes on to the next one.
-use Prim.Native.Nat.{ℕ, zero, suc, _+_, _*_, _-_, _<_, _≤_}
+use Prim.Native.Nat.{ℕ, zero, suc, _+_, _-_, _<_, _≤_}
 use native.Mathlib.Numerals.{add-one}
 use native.Mathlib.Omega.{arith}
 use mathlib.Core.Path.{_≡_, refl, sym, _∙_, ap, subst}
 use mathlib.Core.Bool.{Bool, true, false, not, false≢true}
 use mathlib.Core.List.{List, [], _++_}
-use borrow.Author.Tests.{ltb-true, ltb-false, le-ltb}
+use borrow.Author.Tests.{ltb-true, ltb-false}
 use lib.Dec.{ltb}
 use lib.ListN.{length, take, drop, getD, length-map, drop-of-length-le}
 use lib.Seq.{drop-cons, take-at}
-use Rattle.listing_model.specs.believed.Listing.{Subject, over, next, overEntries}
+use Rattle.vpg.specs.believed.Grammar.{Grammar}
+use Rattle.vpg.specs.Runs.{entries}
+use Rattle.listing_model.specs.believed.Listing.{Answer, Subject, over, next, overEntries}
 use Rattle.listing_model.specs.Calls.{callOn, successor}
 use Rattle.laws.proofs.Lists.{at-member}
 use Rattle.listing_model.proofs.Find.{find-at}
 use Rattle.listing_model.proofs.Listing.{Proper, entries-proper}
 use Rattle.history_file.specs.believed.HistoryFile.{tokenOf, tokensOf}
-use Rattle.files.specs.believed.Files.{accepted}
-use Rattle.service.specs.believed.Opened.{filesIn}
-use Rattle.readings.specs.believed.Answers.{subject}
 use Rattle.lines.specs.Laid.{Laid, laid}
 use Rattle.lines.specs.declared.Cursor.{Cursor}
 use Rattle.lines.specs.believed.Text.{readingLine, endLine, moreLine}
-use Rattle.lines.proofs.Laying.{laid-append}
+use Rattle.lines.proofs.Laying.{laid-append, laid-both}
 use Rattle.listing_text.specs.believed.Listing.{listedFrom, mostListed}
-use Rattle.listing_text.specs.Passing.{Passing, Begun, entriesOf, told}
+use Rattle.listing_text.specs.Passing.{Begun, isWritten}
 
 pub denied : (b : Bool) → not b ≡ true → b ≡ false
 denied true h = sym h
@@ -33,20 +32,18 @@ pub affirmed : (b : Bool) → not b ≡ false → b ≡ true
 affirmed true h = refl
 affirmed false h = sym h
 
--- ── what the services speak of ──
+-- ── what the calls speak of ──
 
-module _ (grammar history : List ℕ) (n : ℕ) (k : Passing grammar history n) where
-  pub files-are : filesIn grammar history ≡ accepted (k .g) (k .ts)
-  files-are = rw (k .grammar-is, k .history-is)
+-- whether a reading was written, and the buffer
+abbrev pub told : Answer × List ℕ → Bool × List ℕ
+told p = (isWritten (p .0), p .1)
 
-  entries-are : overEntries (k .g) (tokensOf (k .ts)) ≡ over (entriesOf grammar history) (suc n)
-  entries-are = rw (k .grammar-is, k .history-is, length-map (k .ts) tokenOf, k .count-is)
+module _ (g : Grammar) (ts : List ℕ) where
+  pub entries-are : overEntries g (tokensOf ts) ≡ over (entries g (tokensOf ts)) (suc (length ts))
+  entries-are = rw (length-map ts tokenOf)
 
-  pub subject-is : (size : ℕ) → n < size → subject grammar history size ≡ over (entriesOf grammar history) (suc n)
-  subject-is size h = rw (files-are, k .count-is, le-ltb size (1 * (n + 1)) (omega arith)) entries-are
-
-  pub entries-in-order : Proper (over (entriesOf grammar history) (suc n))
-  entries-in-order = subst (λ (x : Subject). Proper x) entries-are (entries-proper (k .g) (tokensOf (k .ts)))
+  pub entries-in-order : Proper (over (entries g (tokensOf ts)) (suc (length ts)))
+  entries-in-order = subst (λ (x : Subject). Proper x) entries-are (entries-proper g (tokensOf ts))
 
 -- ── one call of next reading ──
 
@@ -112,18 +109,21 @@ pub record Turns (l : List (List ℕ)) (n : ℕ) (reading₀ text₀ : List ℕ)
   pub holds : take (n + 1) reading ≡ getD l k []
   pub so-far : laid (cursor, text) (listedFrom (1000 - k) k (drop k l)) ≡ laid (at, text₀) (listedFrom mostListed 0 l)
 
-module _ (grammar history : List ℕ) (n : ℕ) (pass : Passing grammar history n) (reading₀ text₀ : List ℕ) (at : Cursor) where
+module _ (g : Grammar) (ts reading₀ text₀ : List ℕ) (at : Cursor) where
   abbrev L : List (List ℕ)
-  L = entriesOf grammar history
+  L = entries g (tokensOf ts)
+
+  abbrev n : ℕ
+  n = length ts
 
   pub turns-start : Begun L n reading₀ → Turns L n reading₀ text₀ at reading₀ text₀ at 0
   turns-start b = record { most = omega arith; below = b .some-one; room = b .room; size = refl; text-size = refl; holds = b .holds; so-far = refl }
 
   module _ {reading text : List ℕ} {cursor : Cursor} {k : ℕ} (t : Turns L n reading₀ text₀ at reading text cursor k) where
-    turn-onward : (b : Bool) (new : List ℕ) → (b, new) ≡ told (callOn (subject grammar history (length reading)) next reading) → Onward L n k b new
-    turn-onward b new q =
-        onward L n (entries-in-order grammar history n pass) k (t .below) reading (rw (add-one n) at (t .holds)) b new
-        (q ∙ ap (λ (x : Subject). told (callOn x next reading)) (subject-is grammar history n pass (length reading) (t .room)))
+    turn-onward : (a : Answer) (b : Bool) (new : List ℕ) → b ≡ isWritten a → (a, new) ≡ callOn (overEntries g (tokensOf ts)) next reading → Onward L n k b new
+    turn-onward a b new i q =
+        onward L n (entries-in-order g ts) k (t .below) reading (rw (add-one n) at (t .holds)) b new
+        (ap (λ (x : Bool). (x, new)) i ∙ ap told (q ∙ ap (λ (x : Subject). callOn x next reading) (entries-are g ts)))
 
     turn-laid : k < 1000 → (p : Laid) → p ≡ laid (cursor, text) (readingLine (k + 1) (take (n + 1) reading)) →
         laid p (listedFrom (1000 - (k + 1)) (k + 1) (drop (k + 1) L)) ≡ laid (at, text₀) (listedFrom mostListed 0 L)
@@ -133,25 +133,25 @@ module _ (grammar history : List ℕ) (n : ℕ) (pass : Passing grammar history 
         ∙ ap (λ (x : List ℕ). laid (cursor, text) (readingLine (k + 1) x ++ rest)) (t .holds) ∙ ap (laid (cursor, text)) (sym (listed-turn L k h (t .below))) ∙ t .so-far
 
     pub turns-next : k < 1000 → (cursor′ : Cursor) (text′ : List ℕ) → length text′ ≡ length text → (cursor′, text′) ≡ laid (cursor, text) (readingLine (k + 1) (take (n + 1) reading)) →
-        (b : Bool) (new : List ℕ) → b ≡ true → length new ≡ length reading → (b, new) ≡ told (callOn (subject grammar history (length reading)) next reading) →
+        (a : Answer) (b : Bool) (new : List ℕ) → b ≡ isWritten a → b ≡ true → length new ≡ length reading → (a, new) ≡ callOn (overEntries g (tokensOf ts)) next reading →
         Turns L n reading₀ text₀ at new text′ cursor′ (k + 1)
-    turns-next h cursor′ text′ ts e b new is size q =
-        let o : (suc k < length L) × (take (suc n) new ≡ getD L (suc k) []) = subst (λ (x : Bool). Onward L n k x new) is (turn-onward b new q) in
+    turns-next h cursor′ text′ size-of-text e a b new i is size q =
+        let o : (suc k < length L) × (take (suc n) new ≡ getD L (suc k) []) = subst (λ (x : Bool). Onward L n k x new) is (turn-onward a b new i q) in
         record {
           most = omega arith;
           below = omega (arith, o .0);
           room = omega (arith, size, t .room);
           size = size ∙ t .size;
-          text-size = ts ∙ t .text-size;
+          text-size = size-of-text ∙ t .text-size;
           holds = rw (add-one n, add-one k) (o .1);
           so-far = turn-laid h (cursor′, text′) e;
         }
 
     pub turns-end : k < 1000 → (p : Laid) → p ≡ laid (cursor, text) (readingLine (k + 1) (take (n + 1) reading)) →
-        (b : Bool) (new : List ℕ) → b ≡ false → (b, new) ≡ told (callOn (subject grammar history (length reading)) next reading) →
+        (a : Answer) (b : Bool) (new : List ℕ) → b ≡ isWritten a → b ≡ false → (a, new) ≡ callOn (overEntries g (tokensOf ts)) next reading →
         (r : Laid) → r ≡ laid p (endLine (k + 1)) → r ≡ laid (at, text₀) (listedFrom mostListed 0 L)
-    turns-end h p e b new is q r f =
-        let o : length L ≡ suc k = subst (λ (x : Bool). Onward L n k x new) is (turn-onward b new q) in
+    turns-end h p e a b new i is q r f =
+        let o : length L ≡ suc k = subst (λ (x : Bool). Onward L n k x new) is (turn-onward a b new i q) in
         f ∙ ap (laid p) (sym (listed-end (1000 - (k + 1)) (k + 1) (drop (k + 1) L) (drop-of-length-le L {i = k + 1} (omega (arith, o))))) ∙ turn-laid h p e
 
     pub turns-more : 1000 ≤ k → (r : Laid) → r ≡ laid (cursor, text) (moreLine k) → r ≡ laid (at, text₀) (listedFrom mostListed 0 L)

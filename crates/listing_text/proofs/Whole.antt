@@ -1,35 +1,32 @@
--- The listing by what the services answered.
+-- The listing by what was found: a file refused, no reading, or the first one.
 use Prim.Native.Nat.{ℕ, suc, _+_, _<_, _≤_}
 use native.Mathlib.Numerals.{add-one}
 use native.Mathlib.Omega.{arith}
 use mathlib.Core.Path.{_≡_, refl, sym, _∙_, ap, subst}
 use mathlib.Core.Bool.{Bool, true, false, false≢true}
-use mathlib.Core.List.{List, [], _∷_, _++_, List·Memᴰ·head}
+use mathlib.Core.List.{List, [], _∷_, _++_, List·Memᴰ·head, append-assoc}
 use lib.ListN.{length, take, drop, getD, replicate, length-replicate}
 use lib.Seq.{take-at}
-use Rattle.sets_theory.specs.believed.Sets.{doubtfulCount}
 use Rattle.vpg.specs.believed.Grammar.{Grammar}
-use Rattle.listing_model.specs.believed.Listing.{Subject, over, first}
+use Rattle.vpg.specs.Runs.{entries}
+use Rattle.sets_theory.specs.believed.Sets.{doubtfulCount}
+use Rattle.listing_model.specs.believed.Listing.{Answer, Subject, over, first, overEntries}
 use Rattle.listing_model.specs.Calls.{callOn}
 use Rattle.listing_model.proofs.Listing.{Proper}
-use Rattle.grammar_file.specs.believed.GrammarFile.{GrammarFile, grammarOf}
+use Rattle.grammar_file.specs.believed.GrammarFile.{GrammarFile}
 use Rattle.grammar_file.specs.believed.GrammarFile
-use Rattle.history_file.specs.believed.HistoryFile.{HistoryFile, historyOf, tokensOf}
+use Rattle.history_file.specs.believed.HistoryFile.{HistoryFile, tokensOf}
 use Rattle.history_file.specs.believed.HistoryFile
-use Rattle.history_file.proofs.Accepted.{history-wellformed}
-use Rattle.numbers.specs.believed.Number.{bytes}
-use Rattle.files.specs.believed.Checks.{grammarSaid, grammarDue, historySaid, historyDue}
+use Rattle.files.specs.believed.Files.{accepted, refused, filesOf}
+use Rattle.files.specs.believed.Checks.{grammarSaid, grammarDue}
 use Rattle.files.specs.believed.Checks as checks
 use Rattle.files.specs.declared.GrammarCheck.{GrammarCheck}
-use Rattle.files.specs.declared.HistoryCheck.{HistoryCheck}
-use Rattle.readings.specs.believed.Answers.{subject}
-use Rattle.sets.specs.believed.Sets.{countDue}
 use Rattle.lines.specs.Laid.{Laid, laid}
 use Rattle.lines.proofs.Laying.{laid-both}
 use Rattle.lines.specs.believed.Text.{tokensLine, doubtfulLine, noneLine, refusedGrammarLine, refusedHistoryLine}
-use Rattle.listing_text.specs.believed.Listing.{listedFrom, mostListed, readingsListed, listing}
-use Rattle.listing_text.specs.Passing.{Passing, Begun, entriesOf, told, countIn}
-use Rattle.listing_text.proofs.Turns.{files-are, subject-is, entries-in-order}
+use Rattle.listing_text.specs.believed.Listing.{listedFrom, mostListed, readingsListed, filesListed}
+use Rattle.listing_text.specs.Passing.{Begun, isWritten}
+use Rattle.listing_text.proofs.Turns.{told, entries-are, entries-in-order}
 
 -- ── the first reading ──
 
@@ -49,49 +46,37 @@ started (e ∷ l) n p buf b new q = go b (ap (λ (x : Bool × List ℕ). x .0) q
     go true i = (omega arith, ap (λ (x : Bool × List ℕ). take (suc n) (x .1)) q ∙ take-at e (drop (suc n) buf) (suc n) (p .1 e (List·Memᴰ·head refl)))
     go false i = absurd (false≢true i)
 
-module _ (grammar history : List ℕ) (n : ℕ) (k : Passing grammar history n) where
+module _ (g : Grammar) (ts : List ℕ) where
   abbrev L : List (List ℕ)
-  L = entriesOf grammar history
+  L = entries g (tokensOf ts)
 
-  first-started : (buf : List ℕ) → n < length buf → (b : Bool) (new : List ℕ) → (b, new) ≡ told (callOn (subject grammar history (length buf)) first buf) → Started L n b new
-  first-started buf h b new q =
-      started L n (entries-in-order grammar history n k) buf b new (q ∙ ap (λ (x : Subject). told (callOn x first buf)) (subject-is grammar history n k (length buf) h))
+  abbrev n : ℕ
+  n = length ts
 
-  pub first-begun : (buf : List ℕ) → n < length buf → (b : Bool) (new : List ℕ) → b ≡ true → length new ≡ length buf → (b, new) ≡ told (callOn (subject grammar history (length buf)) first buf) → Begun L n new
-  first-begun buf h b new is size q =
-      let s : (0 < length L) × (take (suc n) new ≡ getD L 0 []) = subst (λ (x : Bool). Started L n x new) is (first-started buf h b new q) in
+  first-started : (buf : List ℕ) (a : Answer) (new : List ℕ) → (a, new) ≡ callOn (overEntries g (tokensOf ts)) first buf → Started L n (isWritten a) new
+  first-started buf a new q =
+      started L n (entries-in-order g ts) buf (isWritten a) new (ap told (q ∙ ap (λ (x : Subject). callOn x first buf) (entries-are g ts)))
+
+  pub first-begun : (buf : List ℕ) → n < length buf → (a : Answer) (new : List ℕ) → isWritten a ≡ true → length new ≡ length buf → (a, new) ≡ callOn (overEntries g (tokensOf ts)) first buf → Begun L n new
+  first-begun buf h a new is size q =
+      let s : (0 < length L) × (take (suc n) new ≡ getD L 0 []) = subst (λ (x : Bool). Started L n x new) is (first-started buf a new q) in
       record { some-one = s .0; room = omega (arith, size); holds = rw (add-one n) (s .1) }
 
-  pub first-none : (buf : List ℕ) → n < length buf → (b : Bool) (new : List ℕ) → b ≡ false → (b, new) ≡ told (callOn (subject grammar history (length buf)) first buf) → L ≡ []
-  first-none buf h b new is q = subst (λ (x : Bool). Started L n x new) is (first-started buf h b new q)
+  pub first-none : (buf : List ℕ) (a : Answer) (new : List ℕ) → isWritten a ≡ false → (a, new) ≡ callOn (overEntries g (tokensOf ts)) first buf → L ≡ []
+  first-none buf a new is q = subst (λ (x : Bool). Started L n x new) is (first-started buf a new q)
 
-  -- ── the whole text ──
+-- ── the text ──
 
-  count-is : countIn (countDue grammar history) ≡ doubtfulCount (k .g) (tokensOf (k .ts))
-  count-is = rw (files-are grammar history n k)
+pub none-listed : (t : List ℕ) (d : ℕ) (l : List (List ℕ)) → l ≡ [] → t ++ noneLine ≡ t ++ readingsListed d l
+none-listed t d l h = ap (λ (m : List (List ℕ)). t ++ readingsListed d m) (sym h)
 
-  pub listing-is : listing grammar history ≡ tokensLine n ++ readingsListed (countIn (countDue grammar history)) L
-  listing-is = rw (count-is) (rw (k .grammar-is, k .history-is, k .count-is))
+pub some-listed : (t : List ℕ) (d : ℕ) (l : List (List ℕ)) → 0 < length l → (t ++ doubtfulLine d) ++ listedFrom mostListed 0 l ≡ t ++ readingsListed d l
+some-listed t d [] h = absurd (omega arith)
+some-listed t d (e ∷ l) h = append-assoc t (doubtfulLine d) (listedFrom mostListed 0 (e ∷ l))
 
-  pub listing-none : L ≡ [] → listing grammar history ≡ tokensLine n ++ noneLine
-  listing-none h = listing-is ∙ ap (λ (l : List (List ℕ)). tokensLine n ++ readingsListed (countIn (countDue grammar history)) l) h
-
-  pub listing-some : 0 < length L → listing grammar history ≡ tokensLine n ++ (doubtfulLine (countIn (countDue grammar history)) ++ listedFrom mostListed 0 L)
-  listing-some h = listing-is ∙ ap (λ (x : List ℕ). tokensLine n ++ x) (go L h)
-    where
-      go : (l : List (List ℕ)) → 0 < length l → readingsListed (countIn (countDue grammar history)) l ≡ doubtfulLine (countIn (countDue grammar history)) ++ listedFrom mostListed 0 l
-      go [] h = absurd (omega arith)
-      go (e ∷ l) h = refl
-
-  pub whole-none : (p q r : Laid) → q ≡ laid p (tokensLine n) → L ≡ [] → r ≡ laid q noneLine → r ≡ laid p (listing grammar history)
-  whole-none p q r e h f = laid-both p q r (tokensLine n) noneLine e f ∙ ap (laid p) (sym (listing-none h))
-
-  pub whole-some : (p q s r : Laid) (d : ℕ) → q ≡ laid p (tokensLine n) → d ≡ countIn (countDue grammar history) → s ≡ laid q (doubtfulLine d) → 0 < length L →
-      r ≡ laid s (listedFrom mostListed 0 L) → r ≡ laid p (listing grammar history)
-  whole-some p q s r d e i f h l =
-      let due = countIn (countDue grammar history) in
-      let behind : r ≡ laid q (doubtfulLine due ++ listedFrom mostListed 0 L) = laid-both q s r (doubtfulLine due) (listedFrom mostListed 0 L) (f ∙ ap (λ (x : ℕ). laid q (doubtfulLine x)) i) l in
-      laid-both p q r (tokensLine n) (doubtfulLine due ++ listedFrom mostListed 0 L) e behind ∙ ap (laid p) (sym (listing-some h))
+-- the readings behind the two counts
+pub behind-counts : (p q r : Laid) (t : List ℕ) (d due : ℕ) (y : List ℕ) → d ≡ due → q ≡ laid p (t ++ doubtfulLine d) → r ≡ laid q y → r ≡ laid p ((t ++ doubtfulLine due) ++ y)
+behind-counts p q r t d due y i e f = laid-both p q r (t ++ doubtfulLine due) y (e ∙ ap (λ (x : ℕ). laid p (t ++ doubtfulLine x)) i) f
 
 -- zeros for the longest reading
 abbrev pub zeros : List ℕ
@@ -100,39 +85,19 @@ zeros = replicate 1025 0
 pub enough : (n : ℕ) → n ≤ 1024 → n < length zeros
 enough n h = subst (λ (x : ℕ). n < x) (sym (length-replicate {A = ℕ} 1025 0)) (omega arith)
 
--- ── both checks ──
+-- ── both files ──
 
-module _ (grammar history : List ℕ) where
-  pub grammar-refused : (k : ℕ) → grammarSaid (GrammarCheck.Refused k) ≡ grammarDue (grammarOf grammar) → listing grammar history ≡ refusedGrammarLine k
-  grammar-refused k h = go (grammarOf grammar) refl h
-    where
-      go : (f : GrammarFile) → grammarOf grammar ≡ f → checks.refused k ≡ grammarDue f → listing grammar history ≡ refusedGrammarLine k
-      go (GrammarFile.accepted g) i q = absurd (let z : _≡_ {A = ℕ} 0 1 = cc in omega arith)
-      go (GrammarFile.refused e) i q = let z : e ≡ k = cc in rw i (ap refusedGrammarLine z)
+pub grammar-refused : (f : GrammarFile) (k e : ℕ) → grammarSaid (GrammarCheck.Refused k) ≡ grammarDue f → (h : HistoryFile) → filesOf f h ≡ refused e → refusedGrammarLine e ≡ filesListed f h
+grammar-refused (GrammarFile.accepted g) k e q h i = absurd (let z : _≡_ {A = ℕ} 0 1 = cc in omega arith)
+grammar-refused (GrammarFile.refused d) k e q h i = let z : e ≡ d = cc in ap refusedGrammarLine z
 
-  pub record Taken : Type 0 where
-    pub g : Grammar
-    pub is : grammarOf grammar ≡ GrammarFile.accepted g
+pub history-refused : (f : GrammarFile) (s r e : ℕ) → grammarSaid (GrammarCheck.Accepted s r) ≡ grammarDue f → (h : HistoryFile) → filesOf f h ≡ refused e → refusedHistoryLine e ≡ filesListed f h
+history-refused (GrammarFile.refused d) s r e q h i = absurd (let z : _≡_ {A = ℕ} 0 1 = cc in omega arith)
+history-refused (GrammarFile.accepted g) s r e q (HistoryFile.refused d) i = let z : e ≡ d = cc in ap refusedHistoryLine z
+history-refused (GrammarFile.accepted g) s r e q (HistoryFile.accepted ts) i = absurd (let z : _≡_ {A = ℕ} 0 1 = cc in omega arith)
 
-  pub grammar-taken : (s r : ℕ) → grammarSaid (GrammarCheck.Accepted s r) ≡ grammarDue (grammarOf grammar) → Taken
-  grammar-taken s r h = go (grammarOf grammar) refl h
-    where
-      go : (f : GrammarFile) → grammarOf grammar ≡ f → checks.accepted (s ∷ r ∷ []) ≡ grammarDue f → Taken
-      go (GrammarFile.accepted g) i q = record { g = g; is = i }
-      go (GrammarFile.refused e) i q = absurd (let z : _≡_ {A = ℕ} 0 1 = cc in omega arith)
-
-  pub history-refused : Taken → (k : ℕ) → historySaid (HistoryCheck.Refused k) ≡ historyDue (historyOf history) → listing grammar history ≡ refusedHistoryLine k
-  history-refused t k h = go (historyOf history) refl h
-    where
-      go : (f : HistoryFile) → historyOf history ≡ f → checks.refused k ≡ historyDue f → listing grammar history ≡ refusedHistoryLine k
-      go (HistoryFile.accepted ts) i q = absurd (let z : _≡_ {A = ℕ} 0 1 = cc in omega arith)
-      go (HistoryFile.refused e) i q = let z : e ≡ k = cc in rw (t .is, i) (ap refusedHistoryLine z)
-
-  pub both-taken : Taken → (n : ℕ) → historySaid (HistoryCheck.Accepted n) ≡ historyDue (historyOf history) → Passing grammar history n
-  both-taken t n h = go (historyOf history) refl h
-    where
-      go : (f : HistoryFile) → historyOf history ≡ f → checks.accepted (n ∷ []) ≡ historyDue f → Passing grammar history n
-      go (HistoryFile.refused e) i q = absurd (let z : _≡_ {A = ℕ} 0 1 = cc in omega arith)
-      go (HistoryFile.accepted ts) i q =
-          let z : length ts ≡ n = cc in
-          record { g = t .g; ts = ts; grammar-is = t .is; history-is = i; count-is = z; few = omega (arith, history-wellformed (bytes history) ts i .few) }
+pub both-accepted : (f : GrammarFile) (h : HistoryFile) (g : Grammar) (ts : List ℕ) → filesOf f h ≡ accepted g ts →
+    filesListed f h ≡ tokensLine (length ts) ++ readingsListed (doubtfulCount g (tokensOf ts)) (entries g (tokensOf ts))
+both-accepted (GrammarFile.refused d) h g ts i = absurd (let z : _≡_ {A = ℕ} 0 1 = cc in omega arith)
+both-accepted (GrammarFile.accepted x) (HistoryFile.refused d) g ts i = absurd (let z : _≡_ {A = ℕ} 0 1 = cc in omega arith)
+both-accepted (GrammarFile.accepted x) (HistoryFile.accepted y) g ts i = let a : x ≡ g = cc in let b : y ≡ ts = cc in rw (a, b)

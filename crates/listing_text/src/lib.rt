@@ -1,21 +1,31 @@
-// The whole listing of two files as text, given out piece by piece.
+// The listing of two files as text: the files are read once, the levels worked out once, and each reading made from the one before it.
 use files::GrammarCheck;
-use files::HistoryCheck;
+use first_run::FirstAnswer;
+use levels::Closes;
+use levels::Masks;
 use lines::Cursor;
-use readings::Answer;
-use sets::CountAnswer;
+use next_run::NextAnswer;
+use service::Opened;
+use tables::Head;
+use tables::Table;
 ghost use mathlib.Core.Path.{_≡_};
+ghost use mathlib.Core.List.{_++_};
 ghost use lib.ListN.{length};
-ghost use Rattle.listing_model.specs.believed.Listing.{first, next};
-ghost use Rattle.listing_model.specs.Calls.{callOn};
-ghost use Rattle.readings.specs.believed.Answers.{said, subject};
-ghost use Rattle.sets.specs.believed.Sets.{countDue};
-ghost use Rattle.io.specs.Counts.{Counts};
+ghost use Rattle.vpg.specs.Runs.{entries};
+ghost use Rattle.sets_theory.specs.believed.Sets.{doubtfulCount};
+ghost use Rattle.level_theory.specs.Pending.{WellMatched};
+ghost use Rattle.tables.specs.Ready.{grammarIn};
+ghost use Rattle.rule_index.specs.Index.{Indexed};
+ghost use Rattle.grammar_file.specs.believed.GrammarFile.{grammarOf};
+ghost use Rattle.history_file.specs.believed.HistoryFile.{HistoryFile, tokensOf};
+ghost use Rattle.history_file.specs.HistoryTokens.{Tokens};
+ghost use Rattle.files.specs.believed.Files.{refused, filesOf};
+ghost use Rattle.levels.specs.Levels.{Setting};
+ghost use Rattle.next_run.specs.Next.{nextSaid};
 ghost use Rattle.lines.specs.Laid.{laid};
-ghost use Rattle.lines.specs.believed.Window.{window};
-ghost use Rattle.listing_text.specs.believed.Listing.{listedFrom, mostListed, listing};
-ghost use Rattle.listing_text.specs.believed.Pieces.{goesOn, beforeAll, pieceAfter};
-ghost use Rattle.listing_text.specs.Passing.{Passing, Begun, entriesOf, isWritten, told, countIn};
+ghost use Rattle.lines.specs.believed.Text.{tokensLine, noneLine, doubtfulLine};
+ghost use Rattle.listing_text.specs.believed.Listing.{listedFrom, mostListed, readingsListed, filesListed, listing};
+ghost use Rattle.listing_text.specs.Passing.{Begun, isWritten, atStart};
 
 // A piece of the listing: how many bytes of the listing stand before its end, how many of them are its own, and whether another is to follow.
 pub struct Piece {
@@ -24,133 +34,106 @@ pub struct Piece {
     pub more: bool,
 }
 
-fn is_written(answer: Answer) -> bool
-    ensures { λ r. ⌜ r ≡ isWritten (said answer) ⌝ }
+// Before the first byte of the text.
+fn at_start() -> Cursor
+    ensures { λ r. ⌜ r ≡ atStart ⌝ }
+{
+    Cursor { before: 0, at: 0 }
+}
+
+fn is_written(answer: NextAnswer) -> bool
+    ensures { λ r. ⌜ r ≡ isWritten (nextSaid answer) ⌝ }
 {
     match answer {
-        Answer::Written => true,
-        Answer::NoReading => false,
-        Answer::NoFurther => false,
-        Answer::Refused(_) => false,
+        NextAnswer::Written => true,
+        NextAnswer::NoFurther => false,
+        NextAnswer::NoEntry => false,
     }
 }
 
-fn first_written(grammar: &[u8], history: &[u8], reading: &mut [u8]) -> bool
-    ensures { λ r. ⌜ (r, now (reading .exit)) ≡ told (callOn (subject (now (grammar .entry)) (now (history .entry)) (length (now (reading .entry)))) first (now (reading .entry))) ⌝ }
+// The text where there is no reading.
+fn list_none(text: &mut [u8], n: u64) -> Cursor
+    ensures { λ r. ⌜ (r, now (text .exit)) ≡ laid (atStart, now (text .entry)) (tokensLine n ++ noneLine) ⌝ }
 {
-    is_written(readings::first_reading(grammar, history, reading))
+    let at = lines::tokens_line(text, at_start(), n);
+    lines::none_line(text, at)
 }
 
-fn next_written(grammar: &[u8], history: &[u8], reading: &mut [u8]) -> bool
-    ensures { λ r. ⌜ (r, now (reading .exit)) ≡ told (callOn (subject (now (grammar .entry)) (now (history .entry)) (length (now (reading .entry)))) next (now (reading .entry))) ⌝ }
+// The lines before the first reading.
+fn list_counts(text: &mut [u8], n: u64, d: u64) -> Cursor
+    ensures { λ r. ⌜ (r, now (text .exit)) ≡ laid (atStart, now (text .entry)) (tokensLine n ++ doubtfulLine d) ⌝ }
 {
-    is_written(readings::next_reading(grammar, history, reading))
+    let at = lines::tokens_line(text, at_start(), n);
+    lines::doubtful_line(text, at, d)
 }
 
-fn doubtful(grammar: &[u8], history: &[u8]) -> u64
-    ensures { λ r. ⌜ r ≡ countIn (countDue (now (grammar .entry)) (now (history .entry))) ⌝ }
-{
-    let answer = sets::doubtful_count(grammar, history);
-    match answer {
-        CountAnswer::Count(d) => d as u64,
-        CountAnswer::Refused(_) => 0,
-    }
-}
-
-// The readings from the one in the buffer on, a thousand at most, and the last line.
+// The text where the buffer holds the first reading: a thousand readings at most, and the last line.
 fn list_readings(
-    grammar: &[u8],
-    history: &[u8],
-    n: usize,
+    table: &Table,
+    head: Head,
+    tokens: &[u32],
+    closes: &Closes,
+    masks: &Masks,
     reading: &mut [u8],
     text: &mut [u8],
-    p: Cursor,
 ) -> Cursor
-    requires { ⌜ Passing (now grammar) (now history) n ⌝ }
-    requires { ⌜ Begun (entriesOf (now grammar) (now history)) n (now reading) ⌝ }
-    ensures { λ r. ⌜ (r, now (text .exit)) ≡ laid (p, now (text .entry)) (listedFrom mostListed 0 (entriesOf (now (grammar .entry)) (now (history .entry)))) ⌝ }
+    requires { ⌜ Setting (now table) head (now tokens) (now closes) (now masks) ⌝ }
+    requires { ⌜ Begun (entries (grammarIn (now table) head) (tokensOf (now tokens))) (length (now tokens)) (now reading) ⌝ }
+    ensures { λ r. ⌜ (r, now (text .exit)) ≡ laid (atStart, now (text .entry)) ((tokensLine (length (now (tokens .entry))) ++ doubtfulLine (doubtfulCount (grammarIn (now (table .entry)) head) (tokensOf (now (tokens .entry))))) ++ listedFrom mostListed 0 (entries (grammarIn (now (table .entry)) head) (tokensOf (now (tokens .entry))))) ⌝ }
 {
-    let mut cursor = p;
+    let n = tokens.len();
+    let d = sets_core::doubtful(table, head, tokens, closes, masks);
+    let mut cursor = list_counts(text, n as u64, d as u64);
     let mut k: u64 = 0;
     while k < 1000 {
         k += 1;
         cursor = lines::reading_line(text, cursor, k, &reading[..n + 1]);
-        if !next_written(grammar, history, reading) {
+        let answer = next_run::next(table, head, tokens, closes, masks, reading);
+        if !is_written(answer) {
             return lines::end_line(text, cursor, k);
         }
     }
     lines::more_line(text, cursor, k)
 }
 
-// The listing where both files pass.
-fn list_accepted(grammar: &[u8], history: &[u8], n: u16, text: &mut [u8], p: Cursor) -> Cursor
-    requires { ⌜ Passing (now grammar) (now history) n ⌝ }
-    ensures { λ r. ⌜ (r, now (text .exit)) ≡ laid (p, now (text .entry)) (listing (now (grammar .entry)) (now (history .entry))) ⌝ }
+// The text where both files pass.
+fn list_accepted(table: &Table, head: Head, tokens: &[u32], text: &mut [u8]) -> Cursor
+    requires { ⌜ Indexed (now table) head ⌝ }
+    requires { ⌜ Tokens (now tokens) × WellMatched (tokensOf (now tokens)) ⌝ }
+    ensures { λ r. ⌜ (r, now (text .exit)) ≡ laid (atStart, now (text .entry)) (tokensLine (length (now (tokens .entry))) ++ readingsListed (doubtfulCount (grammarIn (now (table .entry)) head) (tokensOf (now (tokens .entry)))) (entries (grammarIn (now (table .entry)) head) (tokensOf (now (tokens .entry))))) ⌝ }
 {
-    let at = lines::tokens_line(text, p, n as u64);
+    let closes = levels::closes_of(tokens);
+    let masks = levels::masks_of(table, head, tokens, &closes);
     let mut reading = [0u8; 1025];
-    if !first_written(grammar, history, &mut reading) {
-        return lines::none_line(text, at);
-    }
-    let behind = lines::doubtful_line(text, at, doubtful(grammar, history));
-    list_readings(grammar, history, n as usize, &mut reading, text, behind)
-}
-
-fn list_from(grammar: &[u8], history: &[u8], text: &mut [u8], p: Cursor) -> Cursor
-    ensures { λ r. ⌜ (r, now (text .exit)) ≡ laid (p, now (text .entry)) (listing (now (grammar .entry)) (now (history .entry))) ⌝ }
-{
-    let g = files::grammar_check(grammar);
-    match g {
-        GrammarCheck::Refused(k) => lines::refused_grammar_line(text, p, k as u64),
-        GrammarCheck::Accepted(_, _) => {
-            let h = files::history_check(history);
-            match h {
-                HistoryCheck::Refused(k) => lines::refused_history_line(text, p, k as u64),
-                HistoryCheck::Accepted(n) => list_accepted(grammar, history, n, text, p),
-            }
+    let found = first_run::first(table, head, tokens, &closes, &masks, &mut reading);
+    match found {
+        FirstAnswer::NoReading => list_none(text, tokens.len() as u64),
+        FirstAnswer::Written => {
+            list_readings(table, head, tokens, &closes, &masks, &mut reading, text)
         }
     }
 }
 
-// Writes a part of the listing to the buffer's start, from the byte number `skip` on, as much as there is room for; answers how many bytes.
-fn list(grammar: &[u8], history: &[u8], skip: usize, text: &mut [u8]) -> usize
-    ensures { λ r. ⌜ (r, now (text .exit)) ≡ window skip (now (text .entry)) (listing (now (grammar .entry)) (now (history .entry))) ⌝ }
-    ensures { λ r. ⌜ Counts r (now (text .exit)) ⌝ }
+// The text where a file is refused: by the same number, whichever it is.
+fn list_refused(grammar: &[u8], e: u8, text: &mut [u8]) -> Cursor
+    ensures { λ r. ⌜ ((h : HistoryFile) → filesOf (grammarOf (now (grammar .entry))) h ≡ refused e → (r, now (text .exit)) ≡ laid (atStart, now (text .entry)) (filesListed (grammarOf (now (grammar .entry))) h)) ⌝ }
 {
-    let start = Cursor { skip, at: 0 };
-    let end = list_from(grammar, history, text, start);
-    end.at
-}
-
-// Whether the listing may go on behind a piece: one that fills its buffer says nothing of what follows.
-fn goes_on(length: usize, size: usize) -> bool
-    ensures { λ r. ⌜ r ≡ goesOn length size ⌝ }
-{
-    if length == size { 0 < length } else { false }
-}
-
-// What stands before the first piece.
-pub fn before_all() -> Piece
-    ensures { λ r. ⌜ r ≡ beforeAll ⌝ }
-{
-    Piece {
-        end: 0,
-        length: 0,
-        more: true,
+    let check = files::grammar_check(grammar);
+    match check {
+        GrammarCheck::Refused(_) => lines::refused_grammar_line(text, at_start(), e as u64),
+        GrammarCheck::Accepted(_, _) => lines::refused_history_line(text, at_start(), e as u64),
     }
 }
 
-// Writes the piece of the listing behind the piece `before` to the buffer's start, as much as there is room for.
-pub fn next_piece(grammar: &[u8], history: &[u8], before: Piece, text: &mut [u8]) -> Piece
-    ensures { λ r. ⌜ (r, now (text .exit)) ≡ pieceAfter before (now (text .entry)) (listing (now (grammar .entry)) (now (history .entry))) ⌝ }
-    ensures { λ r. ⌜ Counts (r .length) (now (text .exit)) ⌝ }
+// Writes the listing to standard output in pieces as long as the buffer, but for the last piece, which it leaves there.
+pub fn list(grammar: &[u8], history: &[u8], text: &mut [u8]) -> Cursor
+    ensures { λ r. ⌜ (r, now (text .exit)) ≡ laid (atStart, now (text .entry)) (listing (now (grammar .entry)) (now (history .entry))) ⌝ }
 {
-    let start = before.end;
-    let size = text.len();
-    let length = list(grammar, history, start, text);
-    Piece {
-        end: start + length,
-        length,
-        more: goes_on(length, size),
-    }
+    let mut table = [0u16; 1186];
+    let mut tokens = [0u32; 1024];
+    let opened = service::open_files(grammar, history, 0, 0, &mut table, &mut tokens);
+    let Opened::Files(head, n) = opened else {
+        return list_refused(grammar, service::refusal_of(opened), text);
+    };
+    list_accepted(&table, head, &tokens[..n], text)
 }

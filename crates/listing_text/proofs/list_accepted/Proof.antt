@@ -1,71 +1,93 @@
-use Rattle.listing_text.proofs.Turns.{denied, affirmed}
-use Rattle.listing_text.proofs.Whole.{first-begun, first-none, whole-none, whole-some, enough, zeros}
+-- `list_accepted`: the levels are worked out once, and then the first reading is looked for.
+use mathlib.Core.Path.{_∙_, ap}
+use mathlib.Core.Bool.{Bool}
 use borrow.Author.Needs.{needs}
+use lib.ListN.{length}
+use Rattle.vpg.specs.Runs.{entries}
+use Rattle.sets_theory.specs.believed.Sets.{doubtfulCount}
+use Rattle.tables.specs.Ready.{grammarIn}
+use Rattle.history_file.specs.believed.HistoryFile.{tokensOf}
+use Rattle.first_run.specs.declared.FirstAnswer.{FirstAnswer}
+use Rattle.first_run.specs.First.{firstSaid}
+use Rattle.lines.specs.Laid.{laid}
+use Rattle.lines.specs.believed.Text.{tokensLine}
+use Rattle.listing_text.specs.Passing.{atStart, isWritten}
+use Rattle.listing_text.proofs.Whole.{first-begun, first-none, none-listed, some-listed, enough, zeros}
 use Rattle.listing_text.proofs.list_accepted.Statement.{statement}
 use Rattle.listing_text.proofs.list_accepted.Tie as tie
 
-tokens-line-requires : tie.Need-tokens-line-requires
-tokens-line-requires c κs = search needs
+abbrev found : FirstAnswer → Bool
+found x = isWritten (firstSaid x)
 
-slice-aggregate-first-written : tie.Need-slice-aggregate-first-written
-slice-aggregate-first-written c = search needs
+closes-of-requires : tie.Need-closes-of-requires
+closes-of-requires c κs = search needs
 
-first-written-requires : tie.Need-first-written-requires
-first-written-requires c κs = search needs
+masks-of-requires : tie.Need-masks-of-requires
+masks-of-requires c κs = search needs
 
-none-line-requires : tie.Need-none-line-requires
-none-line-requires c κs = search needs
+slice-aggregate-first : tie.Need-slice-aggregate-first
+slice-aggregate-first c = search needs
 
-same-length : tie.Need-same-length
-same-length c = search needs
+first-requires : tie.Need-first-requires
+first-requires c κs =
+    let s = c .before .before .before .before .before .before .before .before in
+    (record { indexed = s .pre .0; tokens = s .pre .1 .0; balanced = s .pre .1 .1; matched = c .before .before .before .before .before .closes-of .ensures .1; leveled = c .before .before .before .masks-of .ensures .1 }, enough _ (s .pre .1 .0 .few))
 
-returns : tie.Need-returns
-returns c =
-    let s = c .before .before .before .before .before .before .before .before .before .before .before .before .before .before .before in
-    let a = s .args in
-    whole-none (a .grammar .now) (a .history .now) (a .n) (s .pre) _ _ _ (c .before .before .before .before .before .before .before .before .before .before .tokens-line .ensures)
-    (first-none (a .grammar .now) (a .history .now) (a .n) (s .pre) zeros (enough (a .n) (s .pre .few)) (c .before .before .before .before .before .before .first-written .result) _ (denied _ (c .before .before .before .before .if1 .taken)) (c .before .before .before .before .before .before .first-written .ensures))
-    (c .before .before .none-line .ensures)
+enum-told : tie.Need-enum-told
+enum-told c = search needs
 
-doubtful-requires : tie.Need-doubtful-requires
-doubtful-requires c κs = search needs
+list-none-requires : tie.Need-list-none-requires
+list-none-requires c κs = search needs
 
-doubtful-line-requires : tie.Need-doubtful-line-requires
-doubtful-line-requires c κs = search needs
+enum-told-2 : tie.Need-enum-told-2
+enum-told-2 c = search needs
 
 slice-aggregate-list-readings : tie.Need-slice-aggregate-list-readings
 slice-aggregate-list-readings c = search needs
 
 list-readings-requires : tie.Need-list-readings-requires
 list-readings-requires c κs =
-    let s = c .before .before .before .before .before .before .before .before .before .before .before .before .before .before .before .before .before .before in
+    let s = c .before .before .before .before .before .before .before .before .before .before .before .before .before .before .before .before in
     let a = s .args in
-    (s .pre, first-begun (a .grammar .now) (a .history .now) (a .n) (s .pre) zeros (enough (a .n) (s .pre .few)) (c .before .before .before .before .before .before .before .before .before .first-written .result) _ (affirmed _ (c .before .before .before .before .before .before .before .if1 .left)) (c .before .before .before .before .before .before .before .before .reading2 .given) (c .before .before .before .before .before .before .before .before .before .first-written .ensures))
+    (record { indexed = s .pre .0; tokens = s .pre .1 .0; balanced = s .pre .1 .1; matched = c .before .before .before .before .before .before .before .before .before .before .before .before .before .closes-of .ensures .1; leveled = c .before .before .before .before .before .before .before .before .before .before .before .masks-of .ensures .1 }, first-begun (grammarIn (a .table .now) (a .head)) (a .tokens .now) zeros (enough _ (s .pre .1 .0 .few)) (firstSaid (c .before .before .before .before .before .before .before .first .result)) _ (ap found (c .before .before .before .before .enum-told2 .given .1)) (c .before .before .before .before .before .before .reading2 .given) (c .before .before .before .before .before .before .before .first .ensures))
+
+same-length : tie.Need-same-length
+same-length c = search needs
+
+returns : tie.Need-returns
+returns c =
+    let a = c .before .before .before .before .before .before .before .before .before .before .before .before .before .before .before .before .args in
+    let g = (grammarIn (a .table .now) (a .head)) in
+    let w = tokensOf (a .tokens .now) in
+    c .before .before .list-none .ensures
+    ∙ ap (laid (atStart, a .text .now)) (none-listed (tokensLine (length (a .tokens .now))) (doubtfulCount g w) (entries g w) (first-none g (a .tokens .now) zeros (firstSaid (c .before .before .before .before .before .before .before .first .result)) _ (ap found (c .before .before .before .before .enum-told .given .1)) (c .before .before .before .before .before .before .before .first .ensures)))
 
 same-length-2 : tie.Need-same-length-2
 same-length-2 c = search needs
 
 returns-2 : tie.Need-returns-2
 returns-2 c =
-    let s = c .before .before .before .before .before .before .before .before .before .before .before .before .before .before .before .before .before .before .before .before .before .before in
+    let s = c .before .before .before .before .before .before .before .before .before .before .before .before .before .before .before .before .before .before .before .before in
     let a = s .args in
-    whole-some (a .grammar .now) (a .history .now) (a .n) (s .pre) _ _ _ _ (c .before .before .before .before .before .before .before .before .before .doubtful .result) (c .before .before .before .before .before .before .before .before .before .before .before .before .before .before .before .before .before .tokens-line .ensures) (c .before .before .before .before .before .before .before .before .before .doubtful .ensures) (c .before .before .before .before .before .before .before .before .doubtful-line .ensures)
-    (first-begun (a .grammar .now) (a .history .now) (a .n) (s .pre) zeros (enough (a .n) (s .pre .few)) (c .before .before .before .before .before .before .before .before .before .before .before .before .before .first-written .result) _ (affirmed _ (c .before .before .before .before .before .before .before .before .before .before .before .if1 .left)) (c .before .before .before .before .before .before .before .before .before .before .before .before .reading2 .given) (c .before .before .before .before .before .before .before .before .before .before .before .before .before .first-written .ensures) .some-one)
-    (c .before .before .before .list-readings .ensures)
+    let g = (grammarIn (a .table .now) (a .head)) in
+    let w = tokensOf (a .tokens .now) in
+    c .before .before .before .list-readings .ensures
+    ∙ ap (laid (atStart, a .text .now)) (some-listed (tokensLine (length (a .tokens .now))) (doubtfulCount g w) (entries g w) (first-begun (grammarIn (a .table .now) (a .head)) (a .tokens .now) zeros (enough _ (s .pre .1 .0 .few)) (firstSaid (c .before .before .before .before .before .before .before .before .before .before .before .first .result)) _ (ap found (c .before .before .before .before .before .before .before .before .enum-told2 .given .1)) (c .before .before .before .before .before .before .before .before .before .before .reading2 .given) (c .before .before .before .before .before .before .before .before .before .before .before .first .ensures) .some-one))
 
 pub list-accepted-spec : {M : Type 1} → statement M
 list-accepted-spec =
     tie.close
     (tie.spec
-    tokens-line-requires
-    slice-aggregate-first-written
-    first-written-requires
-    none-line-requires
-    same-length
-    returns
-    doubtful-requires
-    doubtful-line-requires
+    closes-of-requires
+    masks-of-requires
+    slice-aggregate-first
+    first-requires
+    enum-told
+    list-none-requires
+    enum-told-2
     slice-aggregate-list-readings
     list-readings-requires
+    same-length
+    returns
     same-length-2
     returns-2)

@@ -1,5 +1,5 @@
 -- Pieces of a text written one behind the other until none is to follow.
--- Law: written-whole (listing_text/proofs/Pieces.antt)
+-- Clauses: 9.8 (docs/SPECIFICATION.md)
 use mathlib.Core.Path.{_≡_}
 use mathlib.Core.Bool.{true, false}
 use mathlib.Core.List.{List, [], _++_}
