@@ -1,19 +1,13 @@
 -- Text laid line by line is the whole text laid.
-use Prim.Native.Nat.{ℕ, zero, suc, _+_, _-_, _<_, _≤_}
+use Prim.Native.Nat.{ℕ, suc, _+_, _<_, _≤_}
 use native.Mathlib.Numerals.{add-one}
-use native.Mathlib.Nat.{add-zero, zero-add}
 use native.Mathlib.Omega.{arith}
-use mathlib.Core.Path.{_≡_, refl, sym, _∙_, ap, ap₂, subst}
-use mathlib.Core.Bool.{Bool, true, false}
-use mathlib.Core.List.{List, [], _∷_, _++_, append-nil, append-assoc}
-use borrow.Author.Tests.{lt-ltb, ltb-true, ltb-false}
-use lib.Dec.{ltb}
-use lib.ListN.{length, take, drop, set, getD, length-set, length-append, drop-of-length-le, take-append-drop}
-use lib.Seq.{drop-cons, length-take-le, take-suc-set, drop-set-lt}
-use Rattle.io.specs.Counts.{Counts}
+use mathlib.Core.Path.{_≡_, refl, sym, _∙_, ap}
+use mathlib.Core.List.{List, [], _∷_, _++_}
+use lib.ListN.{length, drop, getD, drop-of-length-le}
+use lib.Seq.{drop-cons}
 use Rattle.lines.specs.declared.Cursor.{Cursor}
 use Rattle.lines.specs.Laid.{Laid, put, laid}
-use Rattle.lines.specs.believed.Window.{shown, window}
 
 pub laid-append : (p : Laid) (a b : List ℕ) → laid p (a ++ b) ≡ laid (laid p a) b
 unfolding laid

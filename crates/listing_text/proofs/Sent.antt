@@ -1,11 +1,11 @@
 -- A text laid into a buffer goes out in pieces, one behind the other: none overlaps another, and none is missing.
-use Prim.Native.Nat.{ℕ, suc, _+_, _-_, _%_, _^_, _<_, _≤_}
+use Prim.Native.Nat.{ℕ, suc, _+_, _-_, _^_, _<_, _≤_}
 use native.Mathlib.Numerals.{add-one}
 use native.Mathlib.Omega.{arith}
 use mathlib.Core.Path.{_≡_, refl, sym, _∙_, ap, subst}
-use mathlib.Core.Bool.{Bool, true, false, _&&_}
+use mathlib.Core.Bool.{Bool, true, false}
 use mathlib.Core.List.{List, [], _∷_, _++_, append-nil, append-assoc}
-use borrow.Author.Tests.{eq-eqb, ne-eqb, lt-ltb, eqb-true, eqb-false, ltb-true, ltb-false}
+use borrow.Author.Tests.{eq-eqb, ne-eqb, lt-ltb, eqb-true, eqb-false}
 use lib.Dec.{eqb, ltb}
 use lib.ListN.{length, take, drop, set, getD, length-append, length-drop}
 use lib.Seq.{drop-drop, drop-cons, take-at, take-all, drop-append-seam, set-append-seam}
@@ -13,7 +13,7 @@ use Rattle.lines.specs.declared.Cursor.{Cursor}
 use Rattle.lines.specs.Laid.{Laid, put, putIf, laid}
 use Rattle.lines.specs.believed.Window.{shown, window}
 use Rattle.listing_text.specs.declared.Piece.{Piece}
-use Rattle.listing_text.specs.believed.Pieces.{goesOn, beforeAll, pieceAfter}
+use Rattle.listing_text.specs.believed.Pieces.{goesOn, beforeAll}
 use Rattle.listing_text.specs.believed.Written.{Pieces, none, one-more, Written}
 use Rattle.listing_text.specs.Passing.{atStart}
 use Rattle.listing_text.proofs.Pieces.{piece-is, piece-added}

@@ -1,13 +1,11 @@
 -- No listing is longer than 22,000,000 bytes.
 use Prim.Native.Nat.{ℕ, zero, suc, _+_, _*_, _/_, _%_, _≤_}
-use native.Mathlib.Nat.{suc-mul}
 use native.Mathlib.Omega.{arith}
-use mathlib.Core.Path.{_≡_, refl, sym, _∙_, ap}
+use mathlib.Core.Path.{_≡_, refl}
 use mathlib.Core.Bool.{Bool, true, false, cond}
 use mathlib.Core.List.{List, [], _∷_, _++_, List·Memᴰ, List·Memᴰ·head, List·Memᴰ·tail}
 use lib.Dec.{ltb}
-use lib.ListN.{length, drop, length-append, length-map, drop-of-length-le, take-append-drop}
-use lib.Seq.{drop-drop}
+use lib.ListN.{length, length-append, length-map}
 use Rattle.vpg.specs.Runs.{entries}
 use Rattle.sets_theory.specs.believed.Sets.{doubtfulCount}
 use Rattle.listing_model.proofs.Listing.{entries-proper}
@@ -17,7 +15,6 @@ use Rattle.history_file.specs.believed.HistoryFile.{HistoryFile, historyOf, tok
 use Rattle.history_file.specs.believed.HistoryFile
 use Rattle.history_file.proofs.Accepted.{history-wellformed}
 use Rattle.numbers.specs.believed.Number.{bytes}
-use Rattle.lines.specs.believed.Window.{shown}
 use Rattle.lines.specs.believed.Text.{decimalBy, decimal, lineEnd, numberLine, readingText, readingLine, tokensLine, doubtfulLine, tokensWord, doubtfulWord, endWord, moreWord, refusedWord, grammarWord, historyWord}
 use Rattle.listing_text.specs.believed.Listing.{listedFrom, mostListed, readingsListed, filesListed, listing}
 

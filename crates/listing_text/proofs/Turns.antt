@@ -20,7 +20,7 @@ use Rattle.history_file.specs.believed.HistoryFile.{tokenOf, tokensOf}
 use Rattle.lines.specs.Laid.{Laid, laid}
 use Rattle.lines.specs.declared.Cursor.{Cursor}
 use Rattle.lines.specs.believed.Text.{readingLine, endLine, moreLine}
-use Rattle.lines.proofs.Laying.{laid-append, laid-both}
+use Rattle.lines.proofs.Laying.{laid-append}
 use Rattle.listing_text.specs.believed.Listing.{listedFrom, mostListed}
 use Rattle.listing_text.specs.Passing.{Begun, isWritten}
 
