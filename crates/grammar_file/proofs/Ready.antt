@@ -1,8 +1,9 @@
 -- The table of a well-formed grammar is what the layers above take for granted.
 use Prim.Native.Nat.{ℕ, _≤_}
 use native.Mathlib.Omega.{arith}
+use mathlib.Core.Path.{sym, _∙_}
 use lib.ListN.{getD}
-use Rattle.laws.proofs.Lists.{at-member}
+use Rattle.laws.proofs.Lists.{at-member, at-distinct}
 use Rattle.rules.specs.RuleNumbers.{Fits}
 use Rattle.tables.specs.Ready.{Below, Ready, headOf}
 use Rattle.tables.specs.Table.{tableOf}
@@ -25,4 +26,8 @@ wellformed-ready g w = record {
       rw (table-rule (g .rules) k (Rule.Empty 0) (w .rules-most) h)
       (fits-below (g .nonterminals) r (w .nonterminals-most) (w .fits r (at-member (g .rules) k (Rule.Empty 0) h)));
   start-small = omega (arith, w .start-below, w .nonterminals-most);
+  distinct =
+      λ q r less h e.
+      at-distinct (g .rules) q r (Rule.Empty 0) (w .distinct) less h
+      (sym (table-rule (g .rules) q (Rule.Empty 0) (w .rules-most) (omega (arith, less, h))) ∙ (e ∙ table-rule (g .rules) r (Rule.Empty 0) (w .rules-most) h));
 }

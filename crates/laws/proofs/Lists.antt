@@ -2,7 +2,7 @@
 use Prim.Native.Nat.{ℕ, zero, suc, _+_, _-_, _<_}
 use native.Mathlib.Nat.{zero-add, suc-add}
 use native.Mathlib.Omega.{arith}
-use mathlib.Core.Path.{_≡_, refl}
+use mathlib.Core.Path.{_≡_, refl, sym, subst}
 use mathlib.Core.Logic.{_⊎_, inl, inr, ⊎-elim}
 use mathlib.Core.Bool.{Bool, true, false}
 use mathlib.Core.List.{List, [], _∷_, _++_, List·Memᴰ, List·Memᴰ·head, List·Memᴰ·tail}
@@ -10,6 +10,7 @@ use mathlib.Core.Option.{some, Option·none-ne-some}
 use borrow.Author.Tests.{ltb-true, ltb-false}
 use lib.Dec.{ltb}
 use lib.ListN.{length, drop, getD, getElem?}
+use Rattle.laws.specs.Distinct.{Distinct}
 
 pub trichotomy : (x y : ℕ) → (x ≡ y) ⊎ ((x < y) ⊎ (y < x))
 trichotomy x y = go (ltb x y) refl (ltb y x) refl
@@ -58,3 +59,9 @@ module _ {A : Type 0} where
   at-member [] p d h = absurd (omega arith)
   at-member (y ∷ s) zero d h = List·Memᴰ·head refl
   at-member (y ∷ s) (suc p) d h = List·Memᴰ·tail (at-member s p d (omega arith))
+
+  pub at-distinct : (s : List A) (p q : ℕ) (d : A) → Distinct s → p < q → q < length s → getD s p d ≡ getD s q d → ⊥
+  at-distinct [] p q d once less h e = omega arith
+  at-distinct (y ∷ s) p zero d once less h e = omega arith
+  at-distinct (y ∷ s) zero (suc q) d once less h e = once .0 (subst (λ (x : A). List·Memᴰ x s) (sym e) (at-member s q d (omega arith)))
+  at-distinct (y ∷ s) (suc p) (suc q) d once less h e = at-distinct s p q d (once .1) (omega arith) (omega arith) e

@@ -54,4 +54,8 @@ ready-kept t u same head k = record {
   few = k .few;
   small = λ r l. rw (rule-kept t u (same .rules) r (omega (arith, k .few))) (k .small r l);
   start-small = k .start-small;
+  distinct =
+      λ q r less l e.
+      k .distinct q r less l
+      (sym (rule-kept t u (same .rules) q (omega (arith, k .few, less, l))) ∙ (e ∙ rule-kept t u (same .rules) r (omega (arith, k .few, l))));
 }

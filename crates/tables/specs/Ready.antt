@@ -2,6 +2,7 @@
 -- Law: wellformed-ready (grammar_file/proofs/Ready.antt)
 use Prim.Native.Nat.{ℕ, _<_, _≤_}
 use mathlib.Core.List.{List}
+use mathlib.Core.Logic.{_≢_}
 use mathlib.Core.Option.{Option, none, some}
 use lib.ListN.{length}
 use Rattle.vpg.specs.declared.Rule.{Rule}
@@ -20,11 +21,12 @@ Small n (some L) = L < n
 abbrev pub Below : ℕ → Rule → Type 0
 Below n R = (left R < n) × Small n (onward R) × Small n (beyond R)
 
--- at most 128 rules, whose nonterminals are below 32, and so is the start
+-- at most 128 rules, none of them twice, whose nonterminals are below 32, and so is the start
 pub record Ready (table : List ℕ) (head : Head) : Type 0 where
   pub few : head .rules ≤ 128
   pub small : (r : ℕ) → r < head .rules → Below 32 (ruleIn table r)
   pub start-small : head .start < 32
+  pub distinct : (q r : ℕ) → q < r → r < head .rules → ruleIn table q ≢ ruleIn table r
 
 -- the rules of a table
 abbrev pub rulesOf : List ℕ → Head → Rules
