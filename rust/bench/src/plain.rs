@@ -36,6 +36,22 @@ pub fn has(set: u32, stage: u16) -> bool {
     set >> stage & 1 == 1
 }
 
+/// The rules at a position, the stages with which they go on, and those behind their close.
+#[derive(Default)]
+struct Set {
+    words: [u32; 4],
+    held: u32,
+    next: u32,
+    later: u32,
+}
+
+impl Set {
+    fn add(&mut self, number: usize) {
+        self.words[number / 32] |= 1 << (number % 32);
+        self.held += 1;
+    }
+}
+
 struct Levels<I> {
     read: Read,
     index: I,
@@ -147,31 +163,43 @@ impl<I: Index> Levels<I> {
         }
     }
 
+    /// The rules at a position where these stages can stand.
+    fn set_at(&self, here: u32, place: usize) -> Set {
+        let mut set = Set::default();
+        if let Some(ends) = self.ends_at(place) {
+            let mut left = here & ends.stages;
+            while left != 0 {
+                set.add(ends.rule[left.trailing_zeros() as usize].into());
+                left &= left - 1;
+            }
+            return set;
+        }
+        for (number, rule) in self.rules_at(place) {
+            if has(here, rule.from()) && self.applies(rule, place) {
+                set.add(number);
+                match *rule {
+                    Rule::Ends { .. } => {}
+                    Rule::Marks { then, .. } => set.next |= 1 << then,
+                    Rule::Steps { inside, then, .. } => {
+                        set.next |= 1 << inside;
+                        set.later |= 1 << then;
+                    }
+                }
+            }
+        }
+        set
+    }
+
     /// For each position the rules that stand there in some reading, and how many they are.
     fn kept(&self, mut each: impl FnMut(usize, [u32; 4], u32)) {
         let n = self.read.tokens.len();
         let mut behind = vec![0u32; n + 1];
         let mut here = self.able[0] & 1;
-        for place in 0..=n {
-            let mut words = [0; 4];
-            let (mut held, mut next, mut later) = (0, 0, 0);
-            for (number, rule) in self.rules_at(place) {
-                if has(here, rule.from()) && self.applies(rule, place) {
-                    words[number / 32] |= 1 << (number % 32);
-                    held += 1;
-                    match *rule {
-                        Rule::Ends { .. } => {}
-                        Rule::Marks { then, .. } => next |= 1 << then,
-                        Rule::Steps { inside, then, .. } => {
-                            next |= 1 << inside;
-                            later |= 1 << then;
-                        }
-                    }
-                }
-            }
-            each(place, words, held);
-            here = behind[place] | next;
-            behind[self.close[place]] |= later;
+        for (place, &close) in self.close.iter().enumerate() {
+            let set = self.set_at(here, place);
+            each(place, set.words, set.held);
+            here = behind[place] | set.next;
+            behind[close] |= set.later;
         }
     }
 }
@@ -226,6 +254,10 @@ pub fn next_reading<I: Index>(grammar: &[u8], history: &[u8], out: &mut [u8]) ->
         }
     }
     for place in (0..=n).rev() {
+        // A stage has one empty rule at most: where only these can stand there is no larger one.
+        if levels.ends_at(place).is_some() {
+            continue;
+        }
         for (number, rule) in levels.index.larger(rules, out[place].into()) {
             if levels.fits(rule, at[place], place) {
                 out[place] = number as u8;
