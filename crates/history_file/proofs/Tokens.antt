@@ -57,13 +57,9 @@ judged-read (Number u at) depth t next h =
       opens = λ k. leb-false 128 depth (not-both (eqb (kind u) 1) _ (s .0) (eq-eqb _ _ k));
     })
 
-pub token-read : (number : ℕ → NumberRead) (at depth t next : ℕ) → tokenAt number at depth ≡ TokenIs t next → Judged (number at) depth t next
-unfolding tokenAt
-token-read number at depth t next h = judged-read (number at) depth t next h
-
-pub token-reads : (number : ℕ → NumberRead) (at depth t next : ℕ) → Judged (number at) depth t next → tokenAt number at depth ≡ TokenIs t next
-unfolding tokenAt tokenJudged
-token-reads number at depth t next j =
+pub judged-reads : (r : NumberRead) {depth t next : ℕ} → Judged r depth t next → judged r depth ≡ TokenIs t next
+unfolding tokenJudged
+judged-reads r {depth} {t} {next} j =
     rw (
       j .read,
       lt-leb 256 t (j .small),
@@ -75,6 +71,14 @@ token-reads number at depth t next j =
     neither-holds : (a b : Bool) → (a ≡ true → b ≡ false) → (a && b) ≡ false
     neither-holds true b h = h refl
     neither-holds false b h = refl
+
+pub token-read : (number : ℕ → NumberRead) (at depth t next : ℕ) → tokenAt number at depth ≡ TokenIs t next → Judged (number at) depth t next
+unfolding tokenAt
+token-read number at depth t next h = judged-read (number at) depth t next h
+
+pub token-reads : (number : ℕ → NumberRead) (at depth t next : ℕ) → Judged (number at) depth t next → tokenAt number at depth ≡ TokenIs t next
+unfolding tokenAt
+token-reads number at depth t next j = judged-reads (number at) j
 
 -- never more than 128 steps are open
 pub depth-most : (r : NumberRead) (depth t next : ℕ) → Judged r depth t next → depth ≤ 128 → depthAfter t depth ≤ 128

@@ -7,7 +7,7 @@ use vpg::OpenName;
 use vpg::Token;
 ghost use mathlib.Core.Path.{_≡_};
 ghost use mathlib.Core.List.{[]};
-ghost use Prim.Native.Nat.{_≤_, _<_};
+ghost use Prim.Native.Nat.{_≤_, _<_, _%_};
 ghost use lib.ListN.{replicate};
 ghost use Rattle.numbers.specs.believed.Number.{numberAt, bytes};
 ghost use Rattle.history_file.specs.Refusals.{refusalOfToken};
@@ -61,6 +61,7 @@ pub enum HistoryAnswer {
 
 // A token number that was read, with so many steps open before it.
 fn token_judged(t: u32, next: usize, depth: u32) -> TokenRead
+    requires { ⌜ depth ≤ 128 ⌝ }
     ensures { λ r. ⌜ r ≡ tokenJudged t next depth ⌝ }
 {
     if TOKEN_NUMBERS <= t {
@@ -70,22 +71,19 @@ fn token_judged(t: u32, next: usize, depth: u32) -> TokenRead
     if kind == 3 {
         return TokenRead::Refused(11);
     }
-    if kind == 2 {
-        if depth == 0 {
-            return TokenRead::Refused(12);
-        }
-        return TokenRead::Token(t, next);
+    // One number of both, for tests that nearly never hold: a branch by kind is foretold wrongly at every third token.
+    let state = 4 * depth + kind;
+    if state == 2 {
+        return TokenRead::Refused(12);
     }
-    if kind == 1 {
-        if OPEN_STEPS <= depth {
-            return TokenRead::Refused(14);
-        }
-        return TokenRead::Token(t, next);
+    if state == 4 * OPEN_STEPS + 1 {
+        return TokenRead::Refused(14);
     }
     TokenRead::Token(t, next)
 }
 
 fn token_at(s: &[u8], at: usize, depth: u32) -> TokenRead
+    requires { ⌜ depth ≤ 128 ⌝ }
     ensures { λ r. ⌜ r ≡ tokenAt (numberAt (now (s .entry))) at depth ⌝ }
 {
     let read = numbers::number_at(s, at);
@@ -104,22 +102,14 @@ fn token_refusal(r: TokenRead) -> u8
     }
 }
 
-// How many steps are open after a token.
+// How many steps are open after a token that was let through.
 fn depth_after(t: u32, depth: u32) -> u32
-    requires { ⌜ depth ≤ 128 ⌝ }
+    requires { ⌜ (depth ≤ 128) × (t % 4 < 3) × (t % 4 ≡ 2 → 0 < depth) ⌝ }
     ensures { λ r. ⌜ r ≡ depthAfter t depth ⌝ }
 {
     let kind = t % 4;
-    if kind == 1 {
-        return depth + 1;
-    }
-    if kind == 2 {
-        if depth == 0 {
-            return 0;
-        }
-        return depth - 1;
-    }
-    depth
+    // A sum, since a branch by kind is foretold wrongly at every third token.
+    depth + kind % 2 - kind / 2
 }
 
 // A refused file: the token numbers are cleared again.

@@ -64,7 +64,10 @@ element-write-tokens : tie.Need-element-write-tokens Inv-loop μ-loop
 element-write-tokens c = search needs
 
 depth-after-requires : tie.Need-depth-after-requires Inv-loop μ-loop
-depth-after-requires c κs = search needs
+depth-after-requires c κs =
+    let d = c .before .before .before in
+    let j = token-read _ _ _ _ _ (sym (d .token-at .ensures) ∙ c .before .read .given .1) in
+    (d .before .before .loop .inv .1, j .kinds, j .closes)
 
 add-k : tie.Need-add-k Inv-loop μ-loop
 add-k c = search needs
