@@ -3,14 +3,13 @@ use contexts::Context;
 use tables::Head;
 use tables::Table;
 use vpg::CloseName;
-use vpg::Token;
 ghost use mathlib.Core.Path.{_≡_};
-ghost use Prim.Native.Nat.{_/_, _<_, _≤_};
+ghost use Prim.Native.Nat.{ℕ, _/_, _<_, _≤_};
 ghost use lib.ListN.{length};
 ghost use Rattle.contexts.specs.Context.{endContext};
 ghost use Rattle.tables.specs.Ready.{rulesOf};
 ghost use Rattle.rule_index.specs.Index.{Indexed};
-ghost use Rattle.history_file.specs.believed.HistoryFile.{tokensOf};
+ghost use Rattle.history_file.specs.believed.HistoryFile.{tokenWith, tokensOf};
 ghost use Rattle.history_file.specs.HistoryTokens.{Tokens};
 ghost use Rattle.levels.specs.Levels.{nextTop, Matched, Leveled, Stands};
 
@@ -23,15 +22,14 @@ pub type Masks = [u32; 1025];
 // A nonterminal for each position.
 pub type Nonterminals = [u16; 1025];
 
-// The first pending close from position i on; top is the first one behind the token, beyond the one behind that.
-fn next_top(token: Token, i: usize, top: usize, beyond: usize) -> usize
-    ensures { λ r. ⌜ r ≡ nextTop token i top beyond ⌝ }
+// The first pending close from position i on, where a token of this kind and of any name stands; top is the first one behind
+// the token, beyond the one behind that.
+fn next_top(kind: u32, i: usize, top: usize, beyond: usize) -> usize
+    ensures { λ r. ⌜ ((name : ℕ) → r ≡ nextTop (tokenWith kind name) i top beyond) ⌝ }
 {
-    match token {
-        Token::Mark(_) => top,
-        Token::Open(_) => beyond,
-        Token::Close(_) => i,
-    }
+    // Two choices of a value, for fewer branches: one by kind is foretold wrongly at every third token.
+    let inner = if kind == 1 { beyond } else { top };
+    if kind < 2 { inner } else { i }
 }
 
 // The matching closes, in one pass backward over the tokens.
@@ -48,7 +46,7 @@ pub fn closes_of(tokens: &[u32]) -> Closes
         i -= 1;
         let beyond = closes[top];
         closes[i] = top;
-        top = next_top(history_file::token_of(tokens[i]), i, top, beyond);
+        top = next_top(tokens[i] % 4, i, top, beyond);
     }
     closes
 }

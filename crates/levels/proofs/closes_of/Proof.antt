@@ -1,11 +1,11 @@
 -- `levels::closes_of` meets its contract.
 use borrow.Author.Needs.{needs}
-use Prim.Native.Nat.{_-_, _≤_, _<_}
+use Prim.Native.Nat.{_-_, _/_, _≤_, _<_}
 use mathlib.Core.Path.{_≡_, _∙_}
 use native.Mathlib.Omega.{arith}
-use lib.ListN.{length, length-set, replicate}
+use lib.ListN.{length, getD, length-set, replicate}
 use Rattle.level_theory.specs.Pending.{pendingAt, closeOf}
-use Rattle.history_file.specs.believed.HistoryFile.{tokensOf}
+use Rattle.history_file.specs.believed.HistoryFile.{tokenOf, tokensOf}
 use Rattle.levels.specs.Levels.{Matched}
 use Rattle.levels.proofs.Levels.{tokens-length, close-most, matched-end, top-end, top-turn, matched-turn}
 use Rattle.levels.proofs.closes_of.Statement.{statement}
@@ -52,14 +52,11 @@ mul-closes-2 c = omega (arith, c .before .before .before .pre .few)
 array-write-closes-2 : tie.Need-array-write-closes-2 Inv-loop μ-loop
 array-write-closes-2 c = omega (arith, c .before .before .before .pre .few)
 
-mul-token-of : tie.Need-mul-token-of Inv-loop μ-loop
-mul-token-of c = search needs
+mul-next-top : tie.Need-mul-next-top Inv-loop μ-loop
+mul-next-top c = search needs
 
-shared-slice-read-token-of : tie.Need-shared-slice-read-token-of Inv-loop μ-loop
-shared-slice-read-token-of c = search needs
-
-token-of-requires : tie.Need-token-of-requires Inv-loop μ-loop
-token-of-requires c κs = c .before .before .before .before .pre .small _ (omega arith)
+shared-slice-read-next-top : tie.Need-shared-slice-read-next-top Inv-loop μ-loop
+shared-slice-read-next-top c = search needs
 
 next-top-requires : tie.Need-next-top-requires Inv-loop μ-loop
 next-top-requires c κs = search needs
@@ -68,16 +65,17 @@ loop-less : tie.Need-loop-less Inv-loop μ-loop
 loop-less c = search needs
 
 loop-again : tie.Need-loop-again Inv-loop μ-loop
+unfolding tokenOf
 loop-again c =
-    let l = c .before .before .before .before in
+    let l = c .before .before .before in
     let ts = l .before .before .args .tokens .now in
     let m = l .loop .closes in
     let i = l .loop .i in
-    let pos = c .before .before .before .loop-test .taken in
+    let pos = c .before .before .loop-test .taken in
     let t = l .loop .top in (
       omega arith,
       length-set m (i - 1) t ∙ l .loop .inv .1,
-      c .next-top .ensures ∙ rw (c .before .token-of .ensures) (top-turn ts m i t pos (l .loop .inv .0) (l .loop .inv .2) (l .loop .inv .3)),
+      c .next-top .ensures (getD ts (i - 1) 0 / 4) ∙ top-turn ts m i t pos (l .loop .inv .0) (l .loop .inv .2) (l .loop .inv .3),
       matched-turn ts m i t pos (l .loop .inv .0) (omega (arith, l .before .before .pre .few)) (l .loop .inv .2) (l .loop .inv .3),
     )
 
@@ -101,9 +99,8 @@ closes-of-spec =
     array-read-beyond
     mul-closes-2
     array-write-closes-2
-    mul-token-of
-    shared-slice-read-token-of
-    token-of-requires
+    mul-next-top
+    shared-slice-read-next-top
     next-top-requires
     loop-less
     loop-again
