@@ -37,7 +37,7 @@ fn rules_at(s: &[u8], from: usize, head: Head, table: &mut Table) -> GrammarAnsw
     ensures { λ r. ⌜ (r, now (table .exit)) ≡ grammarRead (rulesFrom (bytes (now (s .entry))) (head .nonterminals) (head .start) (head .rules) from []) ⌝ }
 {
     let count = head.rules;
-    let mut keys = [0u8; 1024];
+    let mut keys = [0u32; 64];
     let mut at = from;
     let mut k: usize = 0;
     while k < count {
@@ -50,7 +50,7 @@ fn rules_at(s: &[u8], from: usize, head: Head, table: &mut Table) -> GrammarAnsw
         }
         let six = tables::six_of(rule);
         tables::put(table, k, six);
-        keys[tables::key_of(six)] = 1;
+        tables::mark_key(&mut keys, six);
         at = next;
         k += 1;
     }

@@ -8,7 +8,7 @@ ghost use mathlib.Core.Bool.{_&&_};
 ghost use Prim.Native.Nat.{_*_, _≤_, _<_};
 ghost use Rattle.vpg.specs.Steps.{left};
 ghost use Rattle.tables.specs.Table.{sixOf, ruleFrom, sixIn, ruleIn, rulesIn, putSix, sameRule, earlier};
-ghost use Rattle.tables.specs.Keys.{keyIn, Keyed};
+ghost use Rattle.tables.specs.Keys.{keyIn, hasKey, withKey, Keyed};
 
 // The rules of a grammar, at most 128, six numbers to each; behind them, from number 768 on, room for the index that crates/rule_index keeps.
 pub type Table = [u16; 1186];
@@ -147,25 +147,41 @@ fn wide(x: u16) -> u32
     x as u32
 }
 
-// A number below 1,024 that equal rules share.
-pub fn key_of(v: Six) -> usize
+// A number below 2,048 that equal rules share.
+fn key_of(v: Six) -> usize
     ensures { λ r. ⌜ r ≡ keyIn v ⌝ }
 {
-    let front = wide(v.0) + 3 * wide(v.1) + 97 * wide(v.2);
-    let sum = front + 389 * wide(v.3) + 53 * wide(v.4) + 211 * wide(v.5);
-    (sum % 1024) as usize
+    let front = 1361 * wide(v.0) + 3 * wide(v.1) + 101 * wide(v.2);
+    let sum = front + 443 * wide(v.3) + 821 * wide(v.4) + 1499 * wide(v.5);
+    (sum % 2048) as usize
 }
 
-// For each key 1 where a rule has it, else 0.
-pub type Keys = [u8; 1024];
+// For each key a digit, which is 1 where a rule has the key; 32 of them to a word.
+pub type Keys = [u32; 64];
+
+// Whether the key of these six numbers is marked.
+fn has_key(keys: &Keys, v: Six) -> bool
+    ensures { λ r. ⌜ r ≡ hasKey (now (keys .entry)) (keyIn v) ⌝ }
+{
+    let k = key_of(v);
+    bits::has(keys[k / 32], k % 32)
+}
+
+// Marks the key of these six numbers.
+pub fn mark_key(keys: &mut Keys, v: Six)
+    ensures { λ _. ⌜ now (keys .exit) ≡ withKey (now (keys .entry)) (keyIn v) ⌝ }
+{
+    let k = key_of(v);
+    keys[k / 32] = bits::with(keys[k / 32], k % 32);
+}
 
 // Whether the rule is one of the first n, whose keys are marked. Where its key isn't, it is none of them; most rules pass by that.
 pub fn seen(table: &Table, n: usize, rule: Rule, keys: &Keys) -> bool
     requires { ⌜ (n ≤ 128) × Keyed (now table) n (now keys) ⌝ }
     ensures { λ r. ⌜ r ≡ earlier rule (rulesIn (now (table .entry)) n) ⌝ }
 {
-    if keys[key_of(six_of(rule))] == 0 {
-        return false;
+    if has_key(keys, six_of(rule)) {
+        return seen_among(table, n, rule);
     }
-    seen_among(table, n, rule)
+    false
 }

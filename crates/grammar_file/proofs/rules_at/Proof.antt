@@ -8,9 +8,10 @@ use native.Mathlib.Omega.{arith}
 use native.Mathlib.Nat.{sub-zero}
 use lib.ListN.{length, length-replicate}
 use Rattle.numbers.specs.believed.Number.{bytes}
+use Rattle.tables.specs.declared.Six.{Six}
 use Rattle.tables.specs.Table.{rulesIn, tableOf, fill, putSix, sixOf}
-use Rattle.tables.specs.Keys.{keyIn, keyOf, Keyed}
-use Rattle.tables.proofs.Keys.{key-small, none-keyed, key-marked}
+use Rattle.tables.specs.Keys.{keyIn, keyOf, withKey, Keyed}
+use Rattle.tables.proofs.Keys.{none-keyed, key-marked}
 use Rattle.tables.proofs.Tables.{length-put, length-rules, rules-put, table-next}
 use Rattle.grammar_file.specs.believed.GrammarFile.{rulesFrom}
 use Rattle.grammar_file.proofs.Turns.{turn-refused, turn-seen, turn-next}
@@ -30,7 +31,7 @@ abbrev μ-loop : tie.MeasureT-loop
 
 loop-holds : tie.Need-loop-holds Inv-loop μ-loop
 unfolding tableOf fill rulesIn
-loop-holds c = let z = c .before .pre .1 in (omega arith, ap length z, z, rw sub-zero, none-keyed _ _ (length-replicate {A = ℕ} 1024 0))
+loop-holds c = let z = c .before .pre .1 in (omega arith, ap length z, z, rw sub-zero, none-keyed _ _ (length-replicate {A = ℕ} 64 0))
 
 rule-at-requires : tie.Need-rule-at-requires Inv-loop μ-loop
 rule-at-requires c κs = search needs
@@ -89,11 +90,8 @@ six-of-requires c κs = search needs
 put-requires : tie.Need-put-requires Inv-loop μ-loop
 put-requires c κs = search needs
 
-key-of-requires : tie.Need-key-of-requires Inv-loop μ-loop
-key-of-requires c κs = search needs
-
-array-write-keys : tie.Need-array-write-keys Inv-loop μ-loop
-array-write-keys c = rw (c .key-of .ensures) (key-small _)
+mark-key-requires : tie.Need-mark-key-requires Inv-loop μ-loop
+mark-key-requires c κs = search needs
 
 add-k : tie.Need-add-k Inv-loop μ-loop
 add-k c = search needs
@@ -103,7 +101,7 @@ loop-less c = search needs
 
 loop-again : tie.Need-loop-again Inv-loop μ-loop
 loop-again c =
-    let u = c .before in
+    let u = c .before .before in
     let six = u .before .before .six-of .ensures in
     let q = u .before .before .before .before in
     let p = q .before .before .before in
@@ -115,14 +113,14 @@ loop-again c =
     let r = p .before .read .given .0 .0 in
     let room : k * 6 + 6 ≤ length t = omega arith in
     let e : u .put .last .0 ≡ putSix t k (sixOf r) = rw six at (u .put .ensures) in
-    let key : c .key-of .result ≡ keyOf r = c .key-of .ensures ∙ ap keyIn six in (
+    let marked : c .mark-key .last .0 ≡ withKey (l .loop .keys) (keyOf r) = c .mark-key .ensures ∙ ap (λ (v : Six). withKey (l .loop .keys) (keyIn v)) six in (
       omega arith,
       ap length e ∙ (length-put t k (sixOf r) ∙ l .loop .inv .1),
       table-next t (u .put .last .0) k r room (l .loop .inv .2) e,
       rw (e, rules-put t k r room)
           (sym (turn-next (bytes (a .s .now)) _ (a .head .start) (a .head .rules) k _ (rulesIn t k) (d .before .loop-test .taken) r _ (sym (d .rule-at .ensures) ∙ p .before .read .given .1)
           (sym (q .seen .ensures) ∙ u .before .before .before .if1 .left)) ∙ l .loop .inv .3),
-      rw (e, key) (key-marked t (l .loop .keys) k r room (l .loop .inv .4)),
+      rw (e, marked) (key-marked t (l .loop .keys) k r room (l .loop .inv .4)),
     )
 
 refused-requires-3 : tie.Need-refused-requires-3 Inv-loop μ-loop
@@ -161,8 +159,7 @@ rules-at-spec =
     returns-2
     six-of-requires
     put-requires
-    key-of-requires
-    array-write-keys
+    mark-key-requires
     add-k
     loop-less
     loop-again

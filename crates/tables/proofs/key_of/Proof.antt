@@ -6,11 +6,14 @@ use Rattle.tables.proofs.key_of.Tie as tie
 wide-requires : tie.Need-wide-requires
 wide-requires c κs = search needs
 
+mul-front : tie.Need-mul-front
+mul-front c = search needs
+
 wide-requires-2 : tie.Need-wide-requires-2
 wide-requires-2 c κs = search needs
 
-mul-front : tie.Need-mul-front
-mul-front c = search needs
+mul-front-2 : tie.Need-mul-front-2
+mul-front-2 c = search needs
 
 add-front : tie.Need-add-front
 add-front c = search needs
@@ -18,8 +21,8 @@ add-front c = search needs
 wide-requires-3 : tie.Need-wide-requires-3
 wide-requires-3 c κs = search needs
 
-mul-front-2 : tie.Need-mul-front-2
-mul-front-2 c = search needs
+mul-front-3 : tie.Need-mul-front-3
+mul-front-3 c = search needs
 
 add-front-2 : tie.Need-add-front-2
 add-front-2 c = search needs
@@ -67,11 +70,12 @@ key-of-spec =
     tie.close
     (tie.spec
     wide-requires
-    wide-requires-2
     mul-front
+    wide-requires-2
+    mul-front-2
     add-front
     wide-requires-3
-    mul-front-2
+    mul-front-3
     add-front-2
     wide-requires-4
     mul-sum
