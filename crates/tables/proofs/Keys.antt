@@ -1,15 +1,15 @@
 -- Keys of rules: a rule whose key no earlier rule has is none of them.
 use Prim.Native.Nat.{ℕ, zero, suc, _+_, _*_, _/_, _%_, _<_, _≤_}
-use native.Mathlib.Nat.{mod-lt, eq-or-lt-of-le, le-of-suc-le-suc}
+use native.Mathlib.Nat.{eq-or-lt-of-le, le-of-suc-le-suc}
 use native.Mathlib.Numerals.{add-one}
 use native.Mathlib.Omega.{arith}
 use mathlib.Core.Path.{_≡_, refl, sym, ap, _∙_}
 use mathlib.Core.Logic.{_⊎_, inl, inr}
-use mathlib.Core.Bool.{Bool, true, false, _||_, false≢true, or-true}
-use mathlib.Core.List.{List, [], _∷_, _++_}
+use mathlib.Core.Bool.{Bool, true, false, false≢true, or-true}
+use mathlib.Core.List.{List}
 use borrow.Author.Tests.{eqb-true, eqb-false, eq-eqb}
 use lib.Dec.{eqb}
-use lib.ListN.{length, getD, set, length-set}
+use lib.ListN.{length, length-set}
 use lib.Seq.{getD-set-same, getD-set-other}
 use Rattle.bits.proofs.Bits.{bit-add}
 use Rattle.vpg.specs.declared.Rule.{Rule}
@@ -20,10 +20,9 @@ use Rattle.tables.proofs.Tables.{rule-low, rule-same}
 use Rattle.tables.proofs.Earlier.{same-rule-is, earlier-snoc}
 
 word-there : (v : Six) (keys : List ℕ) → length keys ≡ 64 → keyIn v / 32 < length keys
-word-there v keys e =
-    let small = mod-lt (1361 * v .0 + 3 * v .1 + 101 * v .2 + 443 * v .3 + 821 * v .4 + 1499 * v .5) {m = 2048} (omega arith) in
-    omega arith
+word-there v keys e = omega arith
 
+-- a key that is marked, and those that were marked before
 module _ (keys : List ℕ) (k : ℕ) (there : k / 32 < length keys) where
   marked-now : hasKey (withKey keys k) k ≡ true
   marked-now = rw (getD-set-same keys (k / 32) _ 0 there, bit-add, eq-eqb (k % 32) (k % 32) refl, or-true)
