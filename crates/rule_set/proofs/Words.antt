@@ -11,7 +11,7 @@ use lib.Arith.{digits-div, digits-mod}
 use lib.Dec.{eqb, ltb}
 use lib.ListN.{length, getD, replicate, length-set, drop-of-length-le}
 use lib.Pow.{pow-pos}
-use lib.Seq.{getD-set-same, getD-set-other, sets, sets-eq}
+use lib.Seq.{getD-set-same, getD-set-other, ext-getD, sets, sets-eq}
 use Rattle.bits.specs.Bit.{bit, addBit}
 use Rattle.bits.proofs.Bits.{bit-zero, bit-add, add-below}
 use Rattle.sets_theory.specs.believed.Sets.{wordOf}
@@ -59,16 +59,17 @@ module _ (W : ℕ) where
   pub held-none : (f : ℕ → Bool) (k : ℕ) → Held W 0 f (replicate k 0)
   held-none f k = record { small = λ i. rw (zeros k i) (pow-pos W); digits = λ r. rw (zeros k (r / W), le-ltb r 0 (omega arith)) (bit-zero (r % W)) }
 
-  pub held-with : (n : ℕ) (f : ℕ → Bool) (ws : List ℕ) → 0 < W → n / W < length ws → f n ≡ true → Held W n f ws → Held W (suc n) f (addIn W ws n)
-  held-with n f ws pos room q h = record { small = small; digits = λ r. bit-in-add ws n r room ∙ rw (h .digits r) (digit r (eqb r n) refl) }
+  -- a number more, and no word is too large
+  pub add-small : (ws : List ℕ) (r : ℕ) → 0 < W → r / W < length ws → ((k : ℕ) → getD ws k 0 < 2 ^ W) → (k : ℕ) → getD (addIn W ws r) k 0 < 2 ^ W
+  add-small ws r pos room small k = go (eqb k (r / W)) refl
     where
-      small : (k : ℕ) → getD (addIn W ws n) k 0 < 2 ^ W
-      small k = go (eqb k (n / W)) refl
-        where
-          go : (b : Bool) → eqb k (n / W) ≡ b → getD (addIn W ws n) k 0 < 2 ^ W
-          go true e = rw (eqb-true k (n / W) e, getD-set-same ws (n / W) (addBit (getD ws (n / W) 0) (n % W)) 0 room) (add-below W (getD ws (n / W) 0) (n % W) (h .small (n / W)) (mod-lt n pos))
-          go false e = rw (getD-set-other ws (n / W) k (addBit (getD ws (n / W) 0) (n % W)) 0 (eqb-false k (n / W) e)) (h .small k)
+      go : (b : Bool) → eqb k (r / W) ≡ b → getD (addIn W ws r) k 0 < 2 ^ W
+      go true e = rw (eqb-true k (r / W) e, getD-set-same ws (r / W) (addBit (getD ws (r / W) 0) (r % W)) 0 room) (add-below W (getD ws (r / W) 0) (r % W) (small (r / W)) (mod-lt r pos))
+      go false e = rw (getD-set-other ws (r / W) k (addBit (getD ws (r / W) 0) (r % W)) 0 (eqb-false k (r / W) e)) (small k)
 
+  pub held-with : (n : ℕ) (f : ℕ → Bool) (ws : List ℕ) → 0 < W → n / W < length ws → f n ≡ true → Held W n f ws → Held W (suc n) f (addIn W ws n)
+  held-with n f ws pos room q h = record { small = add-small ws n pos room (h .small); digits = λ r. bit-in-add ws n r room ∙ rw (h .digits r) (digit r (eqb r n) refl) }
+    where
       digit : (r : ℕ) (b : Bool) → eqb r n ≡ b → ((ltb r n && f r) || b) ≡ (ltb r (suc n) && f r)
       digit r true e = let i = eqb-true r n e in or-true (ltb r n && f r) ∙ sym (rw (lt-ltb r (suc n) (omega arith), i, q))
       digit r false e = or-false (ltb r n && f r) ∙ ap (λ (x : Bool). x && f r) (more (ltb r n) refl)
@@ -94,3 +95,7 @@ module _ (W : ℕ) where
     where
       digit : (b : ℕ) → b < W → bit (getD ws k 0) b ≡ (ltb (W * k + b) n && f (W * k + b))
       digit b l = sym (rw (mul-comm W k, digits-div k l, digits-mod k l)) ∙ h .digits (W * k + b)
+
+  -- so two lists of words of one length that have the same numbers are one
+  pub held-same : (n : ℕ) (f : ℕ → Bool) (vs ws : List ℕ) → length vs ≡ length ws → Held W n f vs → Held W n f ws → vs ≡ ws
+  held-same n f vs ws e g h = ext-getD 0 vs ws e (λ k l. held-word n f vs g k ∙ sym (held-word n f ws h k))

@@ -4,14 +4,16 @@ use tables::Head;
 use tables::Table;
 use vpg::Rule;
 ghost use mathlib.Core.Path.{_≡_};
-ghost use Prim.Native.Nat.{_<_};
+ghost use Prim.Native.Nat.{_<_, _≤_};
 ghost use lib.ListN.{length, replicate};
 ghost use Rattle.tables.specs.Table.{ruleIn};
 ghost use Rattle.tables.specs.Ready.{Below};
 ghost use Rattle.rule_index.specs.Classes.{classAt};
-ghost use Rattle.rule_index.specs.Index.{Indexed, firstIn};
+ghost use Rattle.rule_index.specs.Index.{Indexed, firstIn, endsIn};
+ghost use Rattle.contexts.specs.declared.Context.{Context};
 ghost use Rattle.contexts.specs.Context.{tokenHere};
 ghost use Rattle.rule_set.specs.Words.{addIn};
+ghost use Rattle.rule_set.specs.Ends.{endWays};
 ghost use Rattle.rule_set.specs.RuleSet.{keepsAt, nextWith, behindWith, waysWith, waysTurn, noWays, waysIn, wordsIn};
 
 // How many rules the set at a position holds, the nonterminals at the next position and those behind the close.
@@ -108,9 +110,8 @@ fn first_here(table: &Table, context: Context) -> usize
     rule_index::first_of(table, rule_index::class_at(contexts::token_of(context)))
 }
 
-// The set of rules at a position where the nonterminals `here` can stand: it is written, rule 32k + b as digit b of word k.
-// Only the rules of the token's class are looked at.
-pub fn set_at(table: &Table, head: Head, here: u32, context: Context, words: &mut [u32]) -> Ways
+// The set of rules at a mark or an open where the nonterminals `here` can stand: only the rules of the token's class are looked at.
+fn class_set(table: &Table, head: Head, here: u32, context: Context, words: &mut [u32]) -> Ways
     requires { ⌜ Indexed (now table) head ⌝ }
     requires { ⌜ length (now words) ≡ 4 ⌝ }
     ensures { λ x. ⌜ (x ≡ waysIn (now (table .entry)) here context (head .rules)) × (now (words .exit) ≡ wordsIn (now (table .entry)) here context (head .rules)) ⌝ }
@@ -130,6 +131,48 @@ pub fn set_at(table: &Table, head: Head, here: u32, context: Context, words: &mu
     ways
 }
 
+// The set of rules at a close: the empty rules of the nonterminals `here`. A nonterminal has one at most, which the index knows, so the
+// nonterminals are taken one by one, the lowest first; all closes are alike.
+fn ends_words(table: &Table, head: Head, here: u32, words: &mut [u32])
+    requires { ⌜ Indexed (now table) head ⌝ }
+    requires { ⌜ length (now words) ≡ 4 ⌝ }
+    ensures { λ _. ⌜ ((p : Context) → 2 ≤ p .kind → now (words .exit) ≡ wordsIn (now (table .entry)) here p (head .rules)) ⌝ }
+{
+    clear(words);
+    let mut due = here & rule_index::ends(table);
+    while due != 0 {
+        add(
+            words,
+            rule_index::end_of(table, u32::trailing_zeros(due) as usize),
+        );
+        due = due & (due - 1);
+    }
+}
+
+// The ways on at a close: these rules lead nowhere.
+fn ends_ways(table: &Table, here: u32) -> Ways
+    ensures { λ x. ⌜ x ≡ endWays here (endsIn (now (table .entry))) ⌝ }
+{
+    Ways {
+        held: u32::count_ones(here & rule_index::ends(table)),
+        next: 0,
+        behind: 0,
+    }
+}
+
+// The set of rules at a position where the nonterminals `here` can stand: it is written, rule 32k + b as digit b of word k.
+pub fn set_at(table: &Table, head: Head, here: u32, context: Context, words: &mut [u32]) -> Ways
+    requires { ⌜ Indexed (now table) head ⌝ }
+    requires { ⌜ length (now words) ≡ 4 ⌝ }
+    ensures { λ x. ⌜ (x ≡ waysIn (now (table .entry)) here context (head .rules)) × (now (words .exit) ≡ wordsIn (now (table .entry)) here context (head .rules)) ⌝ }
+{
+    if 2 <= context.kind {
+        ends_words(table, head, here, words);
+        return ends_ways(table, here);
+    }
+    class_set(table, head, here, context, words)
+}
+
 // The ways on, with those of rule r where it is in the set.
 fn ways_turn(ways: Ways, here: u32, table: &Table, r: usize, context: Context) -> Ways
     requires { ⌜ (ways .held < 128) × (r < 128) × Below 32 (ruleIn (now table) r) ⌝ }
@@ -142,8 +185,8 @@ fn ways_turn(ways: Ways, here: u32, table: &Table, r: usize, context: Context) -
     }
 }
 
-// The ways on alone, where nobody asks for the set.
-pub fn ways_at(table: &Table, head: Head, here: u32, context: Context) -> Ways
+// The ways on at a mark or an open.
+fn class_ways(table: &Table, head: Head, here: u32, context: Context) -> Ways
     requires { ⌜ Indexed (now table) head ⌝ }
     ensures { λ x. ⌜ x ≡ waysIn (now (table .entry)) here context (head .rules) ⌝ }
 {
@@ -155,4 +198,15 @@ pub fn ways_at(table: &Table, head: Head, here: u32, context: Context) -> Ways
         r = rule_index::next_of(table, r);
     }
     ways
+}
+
+// The ways on alone, where nobody asks for the set.
+pub fn ways_at(table: &Table, head: Head, here: u32, context: Context) -> Ways
+    requires { ⌜ Indexed (now table) head ⌝ }
+    ensures { λ x. ⌜ x ≡ waysIn (now (table .entry)) here context (head .rules) ⌝ }
+{
+    if 2 <= context.kind {
+        return ends_ways(table, here);
+    }
+    class_ways(table, head, here, context)
 }

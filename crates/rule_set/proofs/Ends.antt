@@ -1,0 +1,208 @@
+-- At a close the rules of the set are the empty rules of the nonterminals that can stand there. A nonterminal has one at most, since no rule
+-- stands twice in a table: so it is enough to look at these nonterminals one by one, each with the rule that the index has of it.
+use Prim.Native.Nat.{ℕ, zero, suc, _+_, _-_, _/_, _%_, _^_, _<_, _≤_}
+use native.Mathlib.Nat.{eq-or-lt-of-le}
+use native.Mathlib.Omega.{arith}
+use mathlib.Core.Path.{_≡_, refl, sym, _∙_, ap}
+use mathlib.Core.Logic.{_⊎_, inl, inr}
+use mathlib.Core.Bool.{Bool, true, false, cond, _&&_, _||_, and-false, or-true, or-false, or-assoc}
+use mathlib.Core.List.{List}
+use borrow.Author.Tests.{eqb-true, eqb-false, eq-eqb, ne-eqb, lt-ltb, ltb-true, ltb-false}
+use lib.Bits.{bitAnd, and-zero-r, and-le-l}
+use lib.Count.{ones, trailingZeros}
+use lib.Dec.{eqb, ltb}
+use lib.ListN.{length, getD, replicate}
+use Rattle.laws.proofs.Bools.{and-left, and-right, both, same-test, eqb-refl}
+use Rattle.bits.specs.Bit.{bit, addBit}
+use Rattle.bits.proofs.Bits.{bit-zero, bit-add, bit-and}
+use Rattle.vpg.specs.declared.Rule.{Rule}
+use Rattle.vpg.specs.Steps.{left}
+use Rattle.tables.specs.declared.Head.{Head}
+use Rattle.tables.specs.Table.{ruleIn}
+use Rattle.rule_index.specs.Index.{Indexed, endIn, endsIn}
+use Rattle.contexts.specs.declared.Context.{Context}
+use Rattle.contexts.specs.Context.{appliesTo, levelIn}
+use Rattle.contexts.proofs.Contexts.{with-bit}
+use Rattle.contexts.proofs.Ends.{close-kind, empty-fits, fits-empty, level-ends}
+use Rattle.rule_set.specs.Words.{Held, bitIn, addIn}
+use Rattle.rule_set.specs.declared.Ways.{Ways}
+use Rattle.rule_set.specs.Ends.{endWays}
+use Rattle.rule_set.specs.RuleSet.{keepsAt, waysWith, waysIn, wordsIn}
+use Rattle.rule_set.proofs.Members.{ones-add, lowest}
+use Rattle.rule_set.proofs.Words.{add-length, add-small, zeros, bit-in-add, held-none, held-same}
+use Rattle.rule_set.proofs.RuleSet.{Keeps, words-held}
+
+-- one more nonterminal that has an empty rule
+with-end : (here : ℕ) (ways : Ways) (ends L : ℕ) → ways ≡ endWays here ends → bit ends L ≡ false → cond (bit here L && true) (waysWith ways (Rule.Empty L)) ways ≡ endWays here (addBit ends L)
+with-end here ways ends L e new = rw e (go (bit here L) refl)
+  where
+    Of : ℕ → Ways
+    Of n = record { held = n; next = 0; behind = 0 }
+
+    go : (b : Bool) → bit here L ≡ b → cond (b && true) (Of (ones (bitAnd here ends) + 1)) (endWays here ends) ≡ endWays here (addBit ends L)
+    go true q = ap Of (sym (ones-add here ends L new ∙ rw q (omega arith)))
+    go false q = ap Of (sym (ones-add here ends L new ∙ rw q (omega arith)))
+
+-- rule r is the one that the index has of its nonterminal, and that is a member of the word m
+abbrev pub Due : List ℕ → ℕ → ℕ → Bool
+Due t m r = eqb r (endIn t (left (ruleIn t r))) && bit m (left (ruleIn t r))
+
+-- on the way through a word `all` of nonterminals that have empty rules: those of `due` are left, the rules of the others are in the words
+pub record Gathered (t : List ℕ) (all due : ℕ) (words : List ℕ) : Type 0 where
+  pub size : length words ≡ 4
+  pub small : (k : ℕ) → getD words k 0 < 2 ^ 32
+  pub wide : due < 2 ^ 32
+  pub with-ends : (L : ℕ) → bit due L ≡ true → bit (endsIn t) L ≡ true
+  pub digits : (r : ℕ) → (bitIn 32 words r || Due t due r) ≡ Due t all r
+
+module _ {t : List ℕ} {head : Head} (x : Indexed t head) where
+  -- ── the empty rule of a nonterminal ──
+
+  -- a nonterminal of the index's word has an empty rule
+  pub end-rule : (L : ℕ) → bit (endsIn t) L ≡ true → (endIn t L < head .rules) × (ruleIn t (endIn t L) ≡ Rule.Empty L)
+  end-rule L e =
+      let tests = sym (x .mask L) ∙ e in
+      let l = ltb-true (endIn t L) (head .rules) (and-right (ltb L 32) (ltb (endIn t L) (head .rules)) tests) in
+      (l, x .ends L (ltb-true L 32 (and-left (ltb L 32) (ltb (endIn t L) (head .rules)) tests)) .found l)
+
+  -- and every empty rule is the one that the index has of its nonterminal
+  rule-end : (r L : ℕ) → r < head .rules → ruleIn t r ≡ Rule.Empty L → (bit (endsIn t) L ≡ true) × (r ≡ endIn t L)
+  rule-end r L l e = (x .mask L ∙ both (lt-ltb L 32 small) (lt-ltb (endIn t L) (head .rules) (omega (arith, first))), go (eq-or-lt-of-le first))
+    where
+      small : L < 32
+      small = let s : left (ruleIn t r) ≡ L = ap left e in omega (arith, x .ready .small r l .0)
+
+      below : (b : Bool) → ltb r (endIn t L) ≡ b → endIn t L ≤ r
+      below true m = absurd (x .ends L small .none r (ltb-true r (endIn t L) m) e)
+      below false m = ltb-false r (endIn t L) m
+
+      first : endIn t L ≤ r
+      first = below (ltb r (endIn t L)) refl
+
+      go : (endIn t L ≡ r) ⊎ (endIn t L < r) → r ≡ endIn t L
+      go (inl i) = sym i
+      go (inr i) = absurd (x .ready .distinct (endIn t L) r i l (x .ends L small .found (omega arith) ∙ sym e))
+
+  -- ── one nonterminal after another ──
+
+  pub gathered-none : (here : ℕ) → here < 2 ^ 32 → Gathered t (bitAnd here (endsIn t)) (bitAnd here (endsIn t)) (replicate 4 0)
+  gathered-none here wide = record {
+    size = refl;
+    small = held-none 32 (λ r. true) 4 .small;
+    wide = omega (arith, and-le-l here (endsIn t));
+    with-ends = λ L e. and-right (bit here L) (bit (endsIn t) L) (sym (bit-and here (endsIn t) L) ∙ e);
+    digits = λ r. rw (zeros 4 (r / 32), bit-zero (r % 32));
+  }
+
+  -- the lowest nonterminal that is left, with its rule
+  module _ {all due : ℕ} {words : List ℕ} (some-left : 0 < due) (g : Gathered t all due words) where
+    abbrev Next : ℕ
+    Next = trailingZeros 32 due
+
+    abbrev Rest : ℕ
+    Rest = bitAnd due (due - 1)
+
+    members : (K : ℕ) → bit due K ≡ (bit Rest K || eqb K Next)
+    members K = ap (λ (n : ℕ). bit n K) (sym (lowest 32 due some-left (g .wide) .struck)) ∙ bit-add Rest Next K
+
+    pub next-small : trailingZeros 32 due < 32
+    next-small = lowest 32 due some-left (g .wide) .within
+
+    next-rule : (endIn t Next < head .rules) × (ruleIn t (endIn t Next) ≡ Rule.Empty Next)
+    next-rule = end-rule Next (g .with-ends Next (members Next ∙ rw (eqb-refl Next) (or-true (bit Rest Next))))
+
+    pub next-few : endIn t (trailingZeros 32 due) < 128
+    next-few = omega (arith, next-rule .0, x .ready .few)
+
+    -- its rule is due no more, the others are as before
+    due-next : (r : ℕ) → (eqb r (endIn t Next) || Due t Rest r) ≡ Due t due r
+    due-next r = go (eqb M Next) refl
+      where
+        M : ℕ
+        M = left (ruleIn t r)
+
+        absorbed : (a b : Bool) → (a || (a && b)) ≡ (a && true)
+        absorbed true b = refl
+        absorbed false b = refl
+
+        go : (b : Bool) → eqb M Next ≡ b → (eqb r (endIn t Next) || Due t Rest r) ≡ Due t due r
+        go true q = rw (← (eqb-true M Next q), members M, q, or-true) (absorbed (eqb r (endIn t M)) (bit Rest M))
+        go false q =
+            let other = ne-eqb r (endIn t Next) (λ i. eqb-false M Next q (ap (λ (k : ℕ). left (ruleIn t k)) i ∙ ap left (next-rule .1))) in
+            rw (other, members M, q, or-false)
+
+    pub gathered-more : Gathered t all (bitAnd due (due - 1)) (addIn 32 words (endIn t (trailingZeros 32 due)))
+    gathered-more = record {
+      size = add-length 32 words (endIn t Next) ∙ g .size;
+      small = add-small 32 words (endIn t Next) (omega arith) room (g .small);
+      wide = omega (arith, g .wide, and-le-l due (due - 1));
+      with-ends = λ K e. g .with-ends K (members K ∙ rw e);
+      digits = λ r. rw (bit-in-add 32 words (endIn t Next) r room, or-assoc, due-next r) (g .digits r);
+    }
+      where
+        room : endIn t Next / 32 < length words
+        room = omega (arith, next-few, g .size)
+
+  -- ── the ways on ──
+
+  module _ (p : Context) (h : 2 ≤ p .kind) where
+    -- the nonterminal of an empty rule has none before it
+    unseen : (n q L : ℕ) → n ≤ q → q < head .rules → ruleIn t q ≡ Rule.Empty L → bit (levelIn t p n) L ≡ false
+    unfolding levelIn
+    unseen zero q L m l e = bit-zero L
+    unseen (suc n) q L m l e = with-bit (appliesTo (ruleIn t n) p) (levelIn t p n) (left (ruleIn t n)) L false (unseen n q L (omega arith) l e) ∙ go _ refl
+      where
+        go : (b : Bool) → (eqb (left (ruleIn t n)) L && appliesTo (ruleIn t n) p) ≡ b → b ≡ false
+        go true a = absurd (x .ready .distinct n q m l (fits-empty t head p (close-kind p h) n L a ∙ sym e))
+        go false a = refl
+
+    module _ (here : ℕ) where
+      ways-level : (n : ℕ) → n ≤ head .rules → waysIn t here p n ≡ endWays here (levelIn t p n)
+      unfolding waysIn levelIn ones
+      ways-level zero l = rw (and-zero-r here)
+      ways-level (suc n) l = go (appliesTo (ruleIn t n) p) refl (ways-level n (omega arith))
+        where
+          empty : (L : ℕ) → ruleIn t n ≡ Rule.Empty L → waysIn t here p n ≡ endWays here (levelIn t p n) → waysIn t here p (suc n) ≡ endWays here (levelIn t p (suc n))
+          empty L e so = rw (e, close-kind p h) (with-end here (waysIn t here p n) (levelIn t p n) L so (unseen n n L (omega arith) l e))
+
+          go : (b : Bool) → appliesTo (ruleIn t n) p ≡ b → waysIn t here p n ≡ endWays here (levelIn t p n) → waysIn t here p (suc n) ≡ endWays here (levelIn t p (suc n))
+          go true a so = empty (left (ruleIn t n)) (fits-empty t head p (close-kind p h) n (left (ruleIn t n)) (both (eqb-refl (left (ruleIn t n))) a)) so
+          go false a so = rw (a, and-false (bit here (left (ruleIn t n)))) so
+
+      pub ways-ends : waysIn t here p (head .rules) ≡ endWays here (endsIn t)
+      ways-ends = ways-level (head .rules) (omega arith) ∙ rw (level-ends t head p x h)
+
+      -- ── the words at the end of the way ──
+
+      -- rule r is in the set exactly when it is the empty rule of a nonterminal that can stand here
+      due-kept : (r : ℕ) → Due t (bitAnd here (endsIn t)) r ≡ (ltb r (head .rules) && keepsAt here p (ruleIn t r))
+      due-kept r = same-test _ _ kept due
+        where
+          M : ℕ
+          M = left (ruleIn t r)
+
+          kept : Due t (bitAnd here (endsIn t)) r ≡ true → (ltb r (head .rules) && keepsAt here p (ruleIn t r)) ≡ true
+          kept a =
+              let e = eqb-true r (endIn t M) (and-left (eqb r (endIn t M)) (bit (bitAnd here (endsIn t)) M) a) in
+              let m = sym (bit-and here (endsIn t) M) ∙ and-right (eqb r (endIn t M)) (bit (bitAnd here (endsIn t)) M) a in
+              let d = end-rule M (and-right (bit here M) (bit (endsIn t) M) m) in
+              let fits = empty-fits t head p (close-kind p h) r M (ap (ruleIn t) e ∙ d .1) in
+              both (lt-ltb r (head .rules) (omega (arith, e, d .0)))
+              (both (and-left (bit here M) (bit (endsIn t) M) m) (and-right (eqb M M) (appliesTo (ruleIn t r) p) fits))
+
+          due : (ltb r (head .rules) && keepsAt here p (ruleIn t r)) ≡ true → Due t (bitAnd here (endsIn t)) r ≡ true
+          due a =
+              let l = ltb-true r (head .rules) (and-left (ltb r (head .rules)) (keepsAt here p (ruleIn t r)) a) in
+              let k = and-right (ltb r (head .rules)) (keepsAt here p (ruleIn t r)) a in
+              let stands = and-right (bit here M) (appliesTo (ruleIn t r) p) k in
+              let d = rule-end r M l (fits-empty t head p (close-kind p h) r M (both (eqb-refl M) stands)) in
+              both (eq-eqb r (endIn t M) (d .1)) (bit-and here (endsIn t) M ∙ both (and-left (bit here M) (appliesTo (ruleIn t r) p) k) (d .0))
+
+      pub gathered-all : {words : List ℕ} → Gathered t (bitAnd here (endsIn t)) 0 words → words ≡ wordsIn t here p (head .rules)
+      gathered-all {words} g =
+          let (l, k) = words-held t here p (head .rules) (x .ready .few) in
+          held-same 32 (head .rules) (Keeps t here p) words (wordsIn t here p (head .rules)) (g .size ∙ sym l)
+          (record { small = g .small; digits = digits }) k
+        where
+          digits : (r : ℕ) → bitIn 32 words r ≡ (ltb r (head .rules) && keepsAt here p (ruleIn t r))
+          digits r = sym (rw (bit-zero (left (ruleIn t r)), and-false, or-false)) ∙ g .digits r ∙ due-kept r

@@ -1,0 +1,13 @@
+-- `ends_ways`: by the index's word.
+use borrow.Author.Needs.{needs}
+use Rattle.rule_set.proofs.ends_ways.Statement.{statement}
+use Rattle.rule_set.proofs.ends_ways.Tie as tie
+
+ends-requires : tie.Need-ends-requires
+ends-requires c κs = search needs
+
+returns : tie.Need-returns
+returns c = rw (c .ends .ensures)
+
+pub ends-ways-spec : {M : Type 1} → statement M
+ends-ways-spec = tie.close (tie.spec ends-requires returns)
