@@ -24,7 +24,7 @@ use Rattle.contexts.specs.declared.Context.{Context}
 use Rattle.contexts.specs.Context.{appliesTo, levelIn}
 use Rattle.contexts.proofs.Contexts.{with-bit}
 use Rattle.contexts.proofs.Ends.{close-kind, empty-fits, fits-empty, level-ends}
-use Rattle.rule_set.specs.Words.{Held, bitIn, addIn}
+use Rattle.rule_set.specs.Words.{bitIn, addIn}
 use Rattle.rule_set.specs.declared.Ways.{Ways}
 use Rattle.rule_set.specs.Ends.{endWays}
 use Rattle.rule_set.specs.RuleSet.{keepsAt, waysWith, waysIn, wordsIn}
@@ -32,34 +32,11 @@ use Rattle.rule_set.proofs.Members.{ones-add, lowest}
 use Rattle.rule_set.proofs.Words.{add-length, add-small, zeros, bit-in-add, held-none, held-same}
 use Rattle.rule_set.proofs.RuleSet.{Keeps, words-held}
 
--- one more nonterminal that has an empty rule
-with-end : (here : ℕ) (ways : Ways) (ends L : ℕ) → ways ≡ endWays here ends → bit ends L ≡ false → cond (bit here L && true) (waysWith ways (Rule.Empty L)) ways ≡ endWays here (addBit ends L)
-with-end here ways ends L e new = rw e (go (bit here L) refl)
-  where
-    Of : ℕ → Ways
-    Of n = record { held = n; next = 0; behind = 0 }
-
-    go : (b : Bool) → bit here L ≡ b → cond (b && true) (Of (ones (bitAnd here ends) + 1)) (endWays here ends) ≡ endWays here (addBit ends L)
-    go true q = ap Of (sym (ones-add here ends L new ∙ rw q (omega arith)))
-    go false q = ap Of (sym (ones-add here ends L new ∙ rw q (omega arith)))
-
--- rule r is the one that the index has of its nonterminal, and that is a member of the word m
-abbrev pub Due : List ℕ → ℕ → ℕ → Bool
-Due t m r = eqb r (endIn t (left (ruleIn t r))) && bit m (left (ruleIn t r))
-
--- on the way through a word `all` of nonterminals that have empty rules: those of `due` are left, the rules of the others are in the words
-pub record Gathered (t : List ℕ) (all due : ℕ) (words : List ℕ) : Type 0 where
-  pub size : length words ≡ 4
-  pub small : (k : ℕ) → getD words k 0 < 2 ^ 32
-  pub wide : due < 2 ^ 32
-  pub with-ends : (L : ℕ) → bit due L ≡ true → bit (endsIn t) L ≡ true
-  pub digits : (r : ℕ) → (bitIn 32 words r || Due t due r) ≡ Due t all r
+-- ── the empty rule of a nonterminal ──
 
 module _ {t : List ℕ} {head : Head} (x : Indexed t head) where
-  -- ── the empty rule of a nonterminal ──
-
   -- a nonterminal of the index's word has an empty rule
-  pub end-rule : (L : ℕ) → bit (endsIn t) L ≡ true → (endIn t L < head .rules) × (ruleIn t (endIn t L) ≡ Rule.Empty L)
+  end-rule : (L : ℕ) → bit (endsIn t) L ≡ true → (endIn t L < head .rules) × (ruleIn t (endIn t L) ≡ Rule.Empty L)
   end-rule L e =
       let tests = sym (x .mask L) ∙ e in
       let l = ltb-true (endIn t L) (head .rules) (and-right (ltb L 32) (ltb (endIn t L) (head .rules)) tests) in
@@ -83,8 +60,64 @@ module _ {t : List ℕ} {head : Head} (x : Indexed t head) where
       go (inl i) = sym i
       go (inr i) = absurd (x .ready .distinct (endIn t L) r i l (x .ends L small .found (omega arith) ∙ sym e))
 
-  -- ── one nonterminal after another ──
+-- ── the ways on ──
 
+-- one more nonterminal that has an empty rule
+with-end : (here : ℕ) (ways : Ways) (ends L : ℕ) → ways ≡ endWays here ends → bit ends L ≡ false → cond (bit here L && true) (waysWith ways (Rule.Empty L)) ways ≡ endWays here (addBit ends L)
+with-end here ways ends L e new = rw e (go (bit here L) refl)
+  where
+    Of : ℕ → Ways
+    Of n = record { held = n; next = 0; behind = 0 }
+
+    go : (b : Bool) → bit here L ≡ b → cond (b && true) (Of (ones (bitAnd here ends) + 1)) (endWays here ends) ≡ endWays here (addBit ends L)
+    go true q = ap Of (sym (ones-add here ends L new ∙ rw q (omega arith)))
+    go false q = ap Of (sym (ones-add here ends L new ∙ rw q (omega arith)))
+
+module _ {t : List ℕ} {head : Head} (x : Indexed t head) (p : Context) (h : 2 ≤ p .kind) (here : ℕ) where
+  -- the nonterminal of an empty rule has none before it
+  unseen : (n q L : ℕ) → n ≤ q → q < head .rules → ruleIn t q ≡ Rule.Empty L → bit (levelIn t p n) L ≡ false
+  unfolding levelIn
+  unseen zero q L m l e = bit-zero L
+  unseen (suc n) q L m l e = with-bit (appliesTo (ruleIn t n) p) (levelIn t p n) (left (ruleIn t n)) L false (unseen n q L (omega arith) l e) ∙ go _ refl
+    where
+      go : (b : Bool) → (eqb (left (ruleIn t n)) L && appliesTo (ruleIn t n) p) ≡ b → b ≡ false
+      go true a = absurd (x .ready .distinct n q m l (fits-empty t head p (close-kind p h) n L a ∙ sym e))
+      go false a = refl
+
+  -- after n rules the nonterminals that have an empty rule among them are the level
+  abbrev Same : ℕ → Type 0
+  Same n = waysIn t here p n ≡ endWays here (levelIn t p n)
+
+  ways-level : (n : ℕ) → n ≤ head .rules → Same n
+  unfolding waysIn levelIn ones
+  ways-level zero l = rw (and-zero-r here)
+  ways-level (suc n) l = go (appliesTo (ruleIn t n) p) refl (ways-level n (omega arith))
+    where
+      empty : (L : ℕ) → ruleIn t n ≡ Rule.Empty L → Same n → Same (suc n)
+      empty L e so = rw (e, close-kind p h) (with-end here (waysIn t here p n) (levelIn t p n) L so (unseen n n L (omega arith) l e))
+
+      go : (b : Bool) → appliesTo (ruleIn t n) p ≡ b → Same n → Same (suc n)
+      go true a so = empty (left (ruleIn t n)) (fits-empty t head p (close-kind p h) n (left (ruleIn t n)) (both (eqb-refl (left (ruleIn t n))) a)) so
+      go false a so = rw (a, and-false (bit here (left (ruleIn t n)))) so
+
+  pub ways-ends : waysIn t here p (head .rules) ≡ endWays here (endsIn t)
+  ways-ends = ways-level (head .rules) (omega arith) ∙ rw (level-ends t head p x h)
+
+-- ── the words, one nonterminal after another ──
+
+-- rule r is the one that the index has of its nonterminal, and that is a member of the word m
+abbrev pub Due : List ℕ → ℕ → ℕ → Bool
+Due t m r = eqb r (endIn t (left (ruleIn t r))) && bit m (left (ruleIn t r))
+
+-- on the way through a word `all` of nonterminals that have empty rules: those of `due` are left, the rules of the others are in the words
+pub record Gathered (t : List ℕ) (all due : ℕ) (words : List ℕ) : Type 0 where
+  pub size : length words ≡ 4
+  pub small : (k : ℕ) → getD words k 0 < 2 ^ 32
+  pub wide : due < 2 ^ 32
+  pub with-ends : (L : ℕ) → bit due L ≡ true → bit (endsIn t) L ≡ true
+  pub digits : (r : ℕ) → (bitIn 32 words r || Due t due r) ≡ Due t all r
+
+module _ {t : List ℕ} {head : Head} (x : Indexed t head) where
   pub gathered-none : (here : ℕ) → here < 2 ^ 32 → Gathered t (bitAnd here (endsIn t)) (bitAnd here (endsIn t)) (replicate 4 0)
   gathered-none here wide = record {
     size = refl;
@@ -109,7 +142,7 @@ module _ {t : List ℕ} {head : Head} (x : Indexed t head) where
     next-small = lowest 32 due some-left (g .wide) .within
 
     next-rule : (endIn t Next < head .rules) × (ruleIn t (endIn t Next) ≡ Rule.Empty Next)
-    next-rule = end-rule Next (g .with-ends Next (members Next ∙ rw (eqb-refl Next) (or-true (bit Rest Next))))
+    next-rule = end-rule x Next (g .with-ends Next (members Next ∙ rw (eqb-refl Next) (or-true (bit Rest Next))))
 
     pub next-few : endIn t (trailingZeros 32 due) < 128
     next-few = omega (arith, next-rule .0, x .ready .few)
@@ -143,66 +176,36 @@ module _ {t : List ℕ} {head : Head} (x : Indexed t head) where
         room : endIn t Next / 32 < length words
         room = omega (arith, next-few, g .size)
 
-  -- ── the ways on ──
-
-  module _ (p : Context) (h : 2 ≤ p .kind) where
-    -- the nonterminal of an empty rule has none before it
-    unseen : (n q L : ℕ) → n ≤ q → q < head .rules → ruleIn t q ≡ Rule.Empty L → bit (levelIn t p n) L ≡ false
-    unfolding levelIn
-    unseen zero q L m l e = bit-zero L
-    unseen (suc n) q L m l e = with-bit (appliesTo (ruleIn t n) p) (levelIn t p n) (left (ruleIn t n)) L false (unseen n q L (omega arith) l e) ∙ go _ refl
+  module _ (p : Context) (h : 2 ≤ p .kind) (here : ℕ) where
+    -- rule r is in the set exactly when it is the empty rule of a nonterminal that can stand here
+    due-kept : (r : ℕ) → Due t (bitAnd here (endsIn t)) r ≡ (ltb r (head .rules) && keepsAt here p (ruleIn t r))
+    due-kept r = same-test _ _ kept due
       where
-        go : (b : Bool) → (eqb (left (ruleIn t n)) L && appliesTo (ruleIn t n) p) ≡ b → b ≡ false
-        go true a = absurd (x .ready .distinct n q m l (fits-empty t head p (close-kind p h) n L a ∙ sym e))
-        go false a = refl
+        M : ℕ
+        M = left (ruleIn t r)
 
-    module _ (here : ℕ) where
-      ways-level : (n : ℕ) → n ≤ head .rules → waysIn t here p n ≡ endWays here (levelIn t p n)
-      unfolding waysIn levelIn ones
-      ways-level zero l = rw (and-zero-r here)
-      ways-level (suc n) l = go (appliesTo (ruleIn t n) p) refl (ways-level n (omega arith))
-        where
-          empty : (L : ℕ) → ruleIn t n ≡ Rule.Empty L → waysIn t here p n ≡ endWays here (levelIn t p n) → waysIn t here p (suc n) ≡ endWays here (levelIn t p (suc n))
-          empty L e so = rw (e, close-kind p h) (with-end here (waysIn t here p n) (levelIn t p n) L so (unseen n n L (omega arith) l e))
+        kept : Due t (bitAnd here (endsIn t)) r ≡ true → (ltb r (head .rules) && keepsAt here p (ruleIn t r)) ≡ true
+        kept a =
+            let e = eqb-true r (endIn t M) (and-left (eqb r (endIn t M)) (bit (bitAnd here (endsIn t)) M) a) in
+            let m = sym (bit-and here (endsIn t) M) ∙ and-right (eqb r (endIn t M)) (bit (bitAnd here (endsIn t)) M) a in
+            let d = end-rule x M (and-right (bit here M) (bit (endsIn t) M) m) in
+            let fits = empty-fits t head p (close-kind p h) r M (ap (ruleIn t) e ∙ d .1) in
+            both (lt-ltb r (head .rules) (omega (arith, e, d .0)))
+            (both (and-left (bit here M) (bit (endsIn t) M) m) (and-right (eqb M M) (appliesTo (ruleIn t r) p) fits))
 
-          go : (b : Bool) → appliesTo (ruleIn t n) p ≡ b → waysIn t here p n ≡ endWays here (levelIn t p n) → waysIn t here p (suc n) ≡ endWays here (levelIn t p (suc n))
-          go true a so = empty (left (ruleIn t n)) (fits-empty t head p (close-kind p h) n (left (ruleIn t n)) (both (eqb-refl (left (ruleIn t n))) a)) so
-          go false a so = rw (a, and-false (bit here (left (ruleIn t n)))) so
+        due : (ltb r (head .rules) && keepsAt here p (ruleIn t r)) ≡ true → Due t (bitAnd here (endsIn t)) r ≡ true
+        due a =
+            let l = ltb-true r (head .rules) (and-left (ltb r (head .rules)) (keepsAt here p (ruleIn t r)) a) in
+            let k = and-right (ltb r (head .rules)) (keepsAt here p (ruleIn t r)) a in
+            let stands = and-right (bit here M) (appliesTo (ruleIn t r) p) k in
+            let d = rule-end x r M l (fits-empty t head p (close-kind p h) r M (both (eqb-refl M) stands)) in
+            both (eq-eqb r (endIn t M) (d .1)) (bit-and here (endsIn t) M ∙ both (and-left (bit here M) (appliesTo (ruleIn t r) p) k) (d .0))
 
-      pub ways-ends : waysIn t here p (head .rules) ≡ endWays here (endsIn t)
-      ways-ends = ways-level (head .rules) (omega arith) ∙ rw (level-ends t head p x h)
-
-      -- ── the words at the end of the way ──
-
-      -- rule r is in the set exactly when it is the empty rule of a nonterminal that can stand here
-      due-kept : (r : ℕ) → Due t (bitAnd here (endsIn t)) r ≡ (ltb r (head .rules) && keepsAt here p (ruleIn t r))
-      due-kept r = same-test _ _ kept due
-        where
-          M : ℕ
-          M = left (ruleIn t r)
-
-          kept : Due t (bitAnd here (endsIn t)) r ≡ true → (ltb r (head .rules) && keepsAt here p (ruleIn t r)) ≡ true
-          kept a =
-              let e = eqb-true r (endIn t M) (and-left (eqb r (endIn t M)) (bit (bitAnd here (endsIn t)) M) a) in
-              let m = sym (bit-and here (endsIn t) M) ∙ and-right (eqb r (endIn t M)) (bit (bitAnd here (endsIn t)) M) a in
-              let d = end-rule M (and-right (bit here M) (bit (endsIn t) M) m) in
-              let fits = empty-fits t head p (close-kind p h) r M (ap (ruleIn t) e ∙ d .1) in
-              both (lt-ltb r (head .rules) (omega (arith, e, d .0)))
-              (both (and-left (bit here M) (bit (endsIn t) M) m) (and-right (eqb M M) (appliesTo (ruleIn t r) p) fits))
-
-          due : (ltb r (head .rules) && keepsAt here p (ruleIn t r)) ≡ true → Due t (bitAnd here (endsIn t)) r ≡ true
-          due a =
-              let l = ltb-true r (head .rules) (and-left (ltb r (head .rules)) (keepsAt here p (ruleIn t r)) a) in
-              let k = and-right (ltb r (head .rules)) (keepsAt here p (ruleIn t r)) a in
-              let stands = and-right (bit here M) (appliesTo (ruleIn t r) p) k in
-              let d = rule-end r M l (fits-empty t head p (close-kind p h) r M (both (eqb-refl M) stands)) in
-              both (eq-eqb r (endIn t M) (d .1)) (bit-and here (endsIn t) M ∙ both (and-left (bit here M) (appliesTo (ruleIn t r) p) k) (d .0))
-
-      pub gathered-all : {words : List ℕ} → Gathered t (bitAnd here (endsIn t)) 0 words → words ≡ wordsIn t here p (head .rules)
-      gathered-all {words} g =
-          let (l, k) = words-held t here p (head .rules) (x .ready .few) in
-          held-same 32 (head .rules) (Keeps t here p) words (wordsIn t here p (head .rules)) (g .size ∙ sym l)
-          (record { small = g .small; digits = digits }) k
-        where
-          digits : (r : ℕ) → bitIn 32 words r ≡ (ltb r (head .rules) && keepsAt here p (ruleIn t r))
-          digits r = sym (rw (bit-zero (left (ruleIn t r)), and-false, or-false)) ∙ g .digits r ∙ due-kept r
+    pub gathered-all : {words : List ℕ} → Gathered t (bitAnd here (endsIn t)) 0 words → words ≡ wordsIn t here p (head .rules)
+    gathered-all {words} g =
+        let (l, k) = words-held t here p (head .rules) (x .ready .few) in
+        held-same 32 (head .rules) (Keeps t here p) words (wordsIn t here p (head .rules)) (g .size ∙ sym l)
+        (record { small = g .small; digits = digits }) k
+      where
+        digits : (r : ℕ) → bitIn 32 words r ≡ (ltb r (head .rules) && keepsAt here p (ruleIn t r))
+        digits r = sym (rw (bit-zero (left (ruleIn t r)), and-false, or-false)) ∙ g .digits r ∙ due-kept r

@@ -1,14 +1,13 @@
 -- The members of a word: the lowest one, and how many there are.
-use Prim.Native.Nat.{ℕ, zero, suc, _+_, _-_, _*_, _/_, _%_, _^_, _<_, _≤_, min, max}
-use native.Mathlib.Nat.{pow-suc, mul-div-cancel, mul-mod-left, mod-lt, zero-min, min-zero, min-eq-left, min-le-left, max-zero, max-eq-right, zero-add, add-zero}
+use Prim.Native.Nat.{ℕ, zero, suc, _+_, _-_, _*_, _/_, _%_, _^_, _<_, _≤_, min}
+use native.Mathlib.Nat.{pow-suc, mul-div-cancel, mul-mod-left, zero-min, min-zero, min-eq-left, min-le-left, max-zero, max-eq-right, zero-add, add-zero}
 use native.Mathlib.Omega.{arith}
 use mathlib.Core.Path.{_≡_, refl, sym, _∙_, ap}
-use mathlib.Core.Bool.{Bool, true, false}
-use borrow.Author.Tests.{eqb-true, eqb-false}
-use lib.Bits.{bitAnd, bitOr, and-step, or-step, and-self, or-zero-r}
+use mathlib.Core.Bool.{false}
+use borrow.Author.Tests.{eqb-false}
+use lib.Bits.{bitAnd, and-step, or-step, and-self, or-zero-r}
 use lib.Count.{ones, ones-step, trailingZeros, under}
 use lib.Dec.{eqb, lit<}
-use lib.Pow.{shr-lt}
 use Rattle.bits.specs.Bit.{bit, addBit}
 use Rattle.bits.proofs.Bits.{bit-suc, bit-first}
 use Rattle.sets_theory.specs.believed.Sets.{one}
@@ -37,7 +36,7 @@ even-rest n pos e =
     let half : (n - 1) / 2 ≡ n / 2 - 1 = omega arith in
     and-step n (n - 1) ∙ rw (half, e, zero-min, add-zero)
 
--- L is the lowest member of n, which has k digits
+-- L is a digit of the k, and n is the word that is left when L, its lowest member, is struck, with L
 pub record Lowest (k n L : ℕ) : Type 0 where
   pub within : L < k
   pub struck : addBit (bitAnd n (n - 1)) L ≡ n
@@ -50,10 +49,10 @@ lowest (suc k) n pos h = go (n % 2) refl (λ p. lowest k (n / 2) p (omega (arith
     go : (d : ℕ) → n % 2 ≡ d → (0 < n / 2 → Lowest k (n / 2) (trailingZeros k (n / 2))) → Lowest (suc k) n (under d (trailingZeros k (n / 2)))
     go zero e below =
         let f = below (omega arith) in
-        let twice = bitAnd (n / 2) (n / 2 - 1) in
+        let half = bitAnd (n / 2) (n / 2 - 1) in
         record {
           within = omega (arith, f .within);
-          struck = rw (even-rest n pos e, add-later, mul-div-cancel twice (lit< tt), mul-mod-left twice 2, f .struck) (omega arith);
+          struck = rw (even-rest n pos e, add-later, mul-div-cancel half (lit< tt), mul-mod-left half 2, f .struck) (omega arith);
         }
     go (suc zero) e below = record { within = omega arith; struck = rw (odd-rest n e, add-first, mul-div-cancel (n / 2) (lit< tt)) (omega arith) }
     go (suc (suc d)) e below = absurd (omega arith)

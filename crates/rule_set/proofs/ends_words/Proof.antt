@@ -1,6 +1,6 @@
 -- `ends_words`: on the way through the nonterminals that have an empty rule, the words have the rules of those that are passed.
 use borrow.Author.Needs.{needs}
-use mathlib.Core.Path.{_≡_, refl, sym, ap, _∙_}
+use mathlib.Core.Path.{sym, _∙_}
 use native.Mathlib.Omega.{arith}
 use Prim.Native.Nat.{_-_}
 use lib.Bits.{bitAnd, and-le-r}
