@@ -11,8 +11,9 @@ ghost use mathlib.Core.Path.{_≡_};
 ghost use mathlib.Core.Bool.{cond};
 ghost use Prim.Native.Nat.{_<_};
 ghost use lib.Bits.{bitOr};
+ghost use lib.ListN.{length};
 ghost use Rattle.pair_theory.specs.Pairs.{PairState, single, overMark, overOpen, overClose};
-ghost use Rattle.rule_index.specs.Index.{Indexed, endsIn};
+ghost use Rattle.rule_index.specs.Index.{Indexed};
 ghost use Rattle.pair_states.specs.Encodes.{Encodes};
 ghost use Rattle.pair_states.specs.Finished.{finishedOf, mayEnd};
 ghost use Rattle.pair_states.specs.Wide.{wideGrammar};
@@ -57,36 +58,36 @@ pub fn begin(start: u16) -> Words
     words
 }
 
-// Definition 4.2 (1): the words of the derivative by the mark c.
-pub fn after_mark(table: &Table, head: Head, c: MarkName, words: &Words) -> Words
+// Definition 4.2 (1): puts the words of the derivative by the mark c into out.
+pub fn after_mark(table: &Table, head: Head, c: MarkName, words: &Words, out: &mut Words)
     requires { ⌜ Indexed (now table) head ⌝ }
-    ensures { λ r. ⌜ ((S : PairState) → Encodes (now (words .entry)) S → Encodes r (overMark (wideGrammar (now (table .entry)) head) c S)) ⌝ }
+    ensures { λ _. ⌜ ((S : PairState) → Encodes (now (words .entry)) S → Encodes (now (out .exit)) (overMark (wideGrammar (now (table .entry)) head) c S)) ⌝ }
 {
-    pair_words::words_after(table, head, Pattern::Mark(c), words, 0)
+    pair_words::words_after(table, head, Pattern::Mark(c), words, 0, out);
 }
 
-// Definition 4.2 (2): the words of the derivative by the open a.
-pub fn after_open(table: &Table, head: Head, a: OpenName, words: &Words) -> Words
+// Definition 4.2 (2): puts the words of the derivative by the open a into out.
+pub fn after_open(table: &Table, head: Head, a: OpenName, words: &Words, out: &mut Words)
     requires { ⌜ Indexed (now table) head ⌝ }
-    ensures { λ r. ⌜ ((S : PairState) → Encodes (now (words .entry)) S → Encodes r (overOpen (wideGrammar (now (table .entry)) head) a S)) ⌝ }
+    ensures { λ _. ⌜ ((S : PairState) → Encodes (now (words .entry)) S → Encodes (now (out .exit)) (overOpen (wideGrammar (now (table .entry)) head) a S)) ⌝ }
 {
-    pair_words::words_after(table, head, Pattern::Open(a), words, 0)
+    pair_words::words_after(table, head, Pattern::Open(a), words, 0, out);
 }
 
-// Definition 4.2 (3): the words of the derivative by the close b; saved is the state before the step's open, a the open's name.
+// Definition 4.2 (3): puts the words of the derivative by the close b into out; saved is the state before the step's open, a the open's name.
 pub fn after_close(
     table: &Table,
     head: Head,
-    empties: u32,
     b: CloseName,
     words: &Words,
     a: OpenName,
-    saved: &Words,
-) -> Words
+    saved: &[u32],
+    out: &mut Words,
+)
     requires { ⌜ Indexed (now table) head ⌝ }
-    requires { ⌜ empties ≡ endsIn (now table) ⌝ }
-    ensures { λ r. ⌜ ((S S₁ : PairState) → Encodes (now (words .entry)) S → Encodes (now (saved .entry)) S₁ → Encodes r (overClose (wideGrammar (now (table .entry)) head) b S S₁ a)) ⌝ }
+    requires { ⌜ length (now saved) ≡ 32 ⌝ }
+    ensures { λ _. ⌜ ((S S₁ : PairState) → Encodes (now (words .entry)) S → Encodes (now (saved .entry)) S₁ → Encodes (now (out .exit)) (overClose (wideGrammar (now (table .entry)) head) b S S₁ a)) ⌝ }
 {
-    let done = finished_of(words, empties);
-    pair_words::words_after(table, head, Pattern::Step(a, b), saved, done)
+    let done = finished_of(words, rule_index::ends(table));
+    pair_words::words_after(table, head, Pattern::Step(a, b), saved, done, out);
 }

@@ -122,9 +122,9 @@ fn contexts(pattern: Pattern, own: u32, next: usize) -> u32
 }
 
 // Adds what rule k gives, where it is one of those looked for.
-fn gain(pattern: Pattern, from: &Words, done: u32, out: &mut Words, table: &Table, k: usize)
+fn gain(pattern: Pattern, from: &[u32], done: u32, out: &mut Words, table: &Table, k: usize)
     requires { ⌜ (k < 128) × Below 32 (ruleIn (now table) k) ⌝ }
-    requires { ⌜ length (now out) ≡ 32 ⌝ }
+    requires { ⌜ (length (now from) ≡ 32) × (length (now out) ≡ 32) ⌝ }
     ensures { λ _. ⌜ now (out .exit) ≡ gained pattern (now (from .entry)) done (now (out .entry)) (ruleIn (now (table .entry)) k) ⌝ }
 {
     let rule = tables::rule_of(table, k);
@@ -146,17 +146,25 @@ fn token_by(pattern: Pattern) -> Token
     }
 }
 
-// The words after the token; from has those before it, and for a close those before its step's open.
-pub fn words_after(table: &Table, head: Head, pattern: Pattern, from: &Words, done: u32) -> Words
+// Puts the words after the token into out; from has those before it, and for a close those before its step's open.
+// It fills what the caller lends: words that are handed back by value are copied at every token.
+pub fn words_after(
+    table: &Table,
+    head: Head,
+    pattern: Pattern,
+    from: &[u32],
+    done: u32,
+    out: &mut Words,
+)
     requires { ⌜ Indexed (now table) head ⌝ }
-    ensures { λ r. ⌜ r ≡ wordsAfter pattern (now (from .entry)) done (now (table .entry)) (head .rules) ⌝ }
+    requires { ⌜ length (now from) ≡ 32 ⌝ }
+    ensures { λ _. ⌜ now (out .exit) ≡ wordsAfter pattern (now (from .entry)) done (now (table .entry)) (head .rules) ⌝ }
 {
     let count = head.rules;
-    let mut out = [0u32; 32];
+    *out = [0u32; 32];
     let mut k = rule_index::first_of(table, rule_index::class_at(token_by(pattern)));
     while k < count {
-        gain(pattern, from, done, &mut out, table, k);
+        gain(pattern, from, done, out, table, k);
         k = rule_index::next_of(table, k);
     }
-    out
 }

@@ -1,4 +1,3 @@
 pub mod Depths
-pub mod Fills
 pub mod Stacks
 pub mod Turns

@@ -13,13 +13,14 @@ use Rattle.pair_theory.specs.Pairs.{Configuration, begin, single, derivative, a
 use Rattle.sets_theory.specs.believed.Sets.{one, stopMark, stopMarks}
 use Rattle.pair_theory.proofs.Pairs.{stop-marks-pairs}
 use Rattle.tables.specs.declared.Head.{Head}
-use Rattle.tables.specs.Ready.{Ready, grammarIn}
+use Rattle.tables.specs.Ready.{grammarIn}
+use Rattle.rule_index.specs.Index.{Indexed, endsIn}
 use Rattle.history_file.specs.believed.HistoryFile.{tokenOf, tokensOf}
 use Rattle.pair_states.specs.Encodes.{Encodes}
 use Rattle.pair_states.specs.Wide.{wideGrammar}
 use Rattle.pair_states.proofs.Grammars.{proper}
-use Rattle.stop_marks_core.specs.declared.Top.{Top}
-use Rattle.stop_marks_core.specs.Stack.{Holds, StepHolds}
+use Rattle.stop_marks_core.specs.Stack.{Holds, markOf, StepHolds}
+use Rattle.stop_marks_core.proofs.Stacks.{mark-accepts}
 
 pub drop-token : (ts : List ℕ) (i : ℕ) → i < length ts → drop i (tokensOf ts) ≡ tokenOf (getD ts i 0) ∷ drop (i + 1) (tokensOf ts)
 drop-token ts i h =
@@ -27,22 +28,21 @@ drop-token ts i h =
     (drop-cons (tokensOf ts) i (tokenOf 0) (rw length-map h) ∙ ap (λ (x : Token). x ∷ drop (suc i) (tokensOf ts)) (List·getD-map tokenOf ts i 0))
 
 -- what is known before token i: ts are the token numbers, out₀ the buffer as it was lent
-pub record Turn (g : Grammar) (ts out₀ : List ℕ) (i : ℕ) (top : Top) (stack names out : List ℕ) : Type 0 where
+pub record Turn (g : Grammar) (ts out₀ : List ℕ) (i d : ℕ) (rows stack out : List ℕ) : Type 0 where
   pub configuration : Configuration
-  pub holds : Holds top stack names configuration
-  pub shallow : Shallow 128 (drop i (tokensOf ts)) (top .depth)
+  pub holds : Holds d rows stack configuration
+  pub shallow : Shallow 128 (drop i (tokensOf ts)) d
   pub marks : take i out ++ marksFrom g configuration (drop i (tokensOf ts)) ≡ marksFrom g (begin g) (tokensOf ts)
   pub rest : drop i out ≡ drop i out₀
-  pub stack-size : length stack ≡ 4096
-  pub names-size : length names ≡ 128
+  pub stack-size : length stack ≡ 4224
   pub size : length out ≡ length out₀
 
 -- how many steps are open before token i, and after it
-pub depths : {g : Grammar} {ts out₀ : List ℕ} {i : ℕ} {top : Top} {stack names out : List ℕ} → Turn g ts out₀ i top stack names out → i < length ts →
-    (top .depth ≤ 128) × (openAfter (tokenOf (getD ts i 0)) (top .depth) ≤ 128)
-depths {ts} {i} {top} u h = go (drop (i + 1) (tokensOf ts)) (rw (drop-token ts i h) at (u .shallow))
+pub depths : {g : Grammar} {ts out₀ : List ℕ} {i d : ℕ} {rows stack out : List ℕ} → Turn g ts out₀ i d rows stack out → i < length ts →
+    (d ≤ 128) × (openAfter (tokenOf (getD ts i 0)) d ≤ 128)
+depths {ts} {i} {d} u h = go (drop (i + 1) (tokensOf ts)) (rw (drop-token ts i h) at (u .shallow))
   where
-    go : (v : List Token) → Shallow 128 (tokenOf (getD ts i 0) ∷ v) (top .depth) → (top .depth ≤ 128) × (openAfter (tokenOf (getD ts i 0)) (top .depth) ≤ 128)
+    go : (v : List Token) → Shallow 128 (tokenOf (getD ts i 0) ∷ v) d → (d ≤ 128) × (openAfter (tokenOf (getD ts i 0)) d ≤ 128)
     go [] s = s
     go (x ∷ v) s = (s .0, s .1 .0)
 
@@ -55,22 +55,25 @@ module _ (table : List ℕ) (head : Head) (ts out₀ : List ℕ) where
   abbrev g : Grammar
   g = wideGrammar table head
 
-  pub first-turn : (rows stack names : List ℕ) → Encodes rows (single (head .start) (head .start)) → Shallow 128 (tokensOf ts) 0 → length stack ≡ 4096 → length names ≡ 128 → Turn g ts out₀ 0 (record { rows = rows; depth = 0 }) stack names out₀
-  first-turn rows stack names x s p q =
-      record { configuration = begin g; holds = record { state = x; saved = tt }; shallow = s; marks = refl; rest = refl; stack-size = p; names-size = q; size = refl }
+  pub first-turn : (rows stack : List ℕ) → Encodes rows (single (head .start) (head .start)) → Shallow 128 (tokensOf ts) 0 → length stack ≡ 4224 → Turn g ts out₀ 0 0 rows stack out₀
+  first-turn rows stack x s p =
+      record { configuration = begin g; holds = record { state = x; saved = tt }; shallow = s; marks = refl; rest = refl; stack-size = p; size = refl }
 
-  module _ (i : ℕ) (top : Top) (stack names out : List ℕ) (m : ℕ) (room : length ts + 1 ≤ length out₀) (u : Turn g ts out₀ i top stack names out)
-      (is : m ≡ one (accepts g (u .configuration))) where
+  module _ (i d : ℕ) (rows stack out : List ℕ) (m : ℕ) (room : length ts + 1 ≤ length out₀) (u : Turn g ts out₀ i d rows stack out)
+      (indexed : Indexed table head) (is : m ≡ markOf d rows (endsIn table)) where
+    accepted : m ≡ one (accepts g (u .configuration))
+    accepted = is ∙ mark-accepts table head indexed d rows stack (u .configuration) (u .holds)
+
     written : i < length out → take (i + 1) (set out i m) ≡ take i out ++ (m ∷ [])
     written h = rw add-one (take-suc-set out i m h)
 
     rest-next : drop (i + 1) out ≡ drop (i + 1) out₀
     rest-next = sym (drop-drop 1 i out) ∙ ap (drop 1) (u .rest) ∙ drop-drop 1 i out₀
 
-    pub next-turn : (top′ : Top) (stack′ names′ : List ℕ) → i < length ts → StepHolds table head (tokenOf (getD ts i 0)) top stack names top′ stack′ names′ →
-        Turn g ts out₀ (i + 1) top′ stack′ names′ (set out i m)
+    pub next-turn : (d′ : ℕ) (rows′ stack′ : List ℕ) → i < length ts → StepHolds table head (tokenOf (getD ts i 0)) d rows stack d′ rows′ stack′ →
+        Turn g ts out₀ (i + 1) d′ rows′ stack′ (set out i m)
     unfolding marksFrom
-    next-turn top′ stack′ names′ h s =
+    next-turn d′ rows′ stack′ h s =
         let x = u .configuration in
         let y = derivative g (tokenOf (getD ts i 0)) x in
         let v = drop (i + 1) (tokensOf ts) in
@@ -82,24 +85,23 @@ module _ (table : List ℕ) (head : Head) (ts out₀ : List ℕ) where
           marks =
               ap (λ (l : List ℕ). l ++ marksFrom g y v) (written below)
               ∙ append-snoc (take i out) m (marksFrom g y v)
-              ∙ ap (λ (k : ℕ). take i out ++ (k ∷ marksFrom g y v)) is
+              ∙ ap (λ (k : ℕ). take i out ++ (k ∷ marksFrom g y v)) accepted
               ∙ ap (λ (l : List Token). take i out ++ marksFrom g x l) (sym (drop-token ts i h))
               ∙ u .marks;
           rest = drop-set-lt (i + 1) out i m (omega arith) ∙ rest-next;
           stack-size = s .stack-size;
-          names-size = s .names-size;
           size = length-set out i m ∙ u .size;
         }
 
-    pub last-turn : Ready table head → i ≡ length ts → set out i m ≡ stopMarks (grammarIn table head) (tokensOf ts) ++ drop (length ts + 1) out₀
+    pub last-turn : i ≡ length ts → set out i m ≡ stopMarks (grammarIn table head) (tokensOf ts) ++ drop (length ts + 1) out₀
     unfolding marksFrom
-    last-turn ready e =
+    last-turn e =
         let below : i < length out = omega (arith, u .size) in
         let none : drop i (tokensOf ts) ≡ [] = rw e (rw (length-map ts tokenOf) at (drop-length (tokensOf ts))) in
         let all : take i out ++ (m ∷ []) ≡ marksFrom g (begin g) (tokensOf ts) =
-        ap (λ (k : ℕ). take i out ++ (k ∷ [])) is ∙ ap (λ (l : List Token). take i out ++ marksFrom g (u .configuration) l) (sym none) ∙ u .marks in
+        ap (λ (k : ℕ). take i out ++ (k ∷ [])) accepted ∙ ap (λ (l : List Token). take i out ++ marksFrom g (u .configuration) l) (sym none) ∙ u .marks in
         let after : drop (suc i) out ≡ drop (length ts + 1) out₀ =
         ap (λ (k : ℕ). drop k out) (sym (add-one i)) ∙ rest-next ∙ ap (λ (k : ℕ). drop (k + 1) out₀) e in
         set-split out i m below
         ∙ sym (append-snoc (take i out) m (drop (suc i) out))
-        ∙ ap₂ _++_ (all ∙ sym (stop-marks-pairs g (proper table head ready) (tokensOf ts)) ∙ marks-wide table head (tokensOf ts)) after
+        ∙ ap₂ _++_ (all ∙ sym (stop-marks-pairs g (proper table head (indexed .ready)) (tokensOf ts)) ∙ marks-wide table head (tokensOf ts)) after

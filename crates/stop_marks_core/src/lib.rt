@@ -1,5 +1,5 @@
 // Stop marks (document 01, "Readings"): which beginnings of the tokens have a reading, by the pair states of Definition 4.2 of the paper.
-// One pass from left to right. The stack holds, for each open step, the 32 words of the state before its open, and the open's name.
+// One pass from left to right. The states before and after a token are two arrays that take turns: no token copies a state's 32 words.
 use pair_words::Words;
 use tables::Head;
 use tables::Table;
@@ -8,56 +8,38 @@ use vpg::OpenName;
 use vpg::Token;
 ghost use mathlib.Core.Path.{_≡_};
 ghost use mathlib.Core.List.{_++_};
-ghost use Prim.Native.Nat.{_+_, _*_, _<_, _≤_};
+ghost use Prim.Native.Nat.{_+_, _<_, _≤_};
 ghost use lib.ListN.{length, drop};
-ghost use lib.Seq.{paste};
 ghost use Rattle.pair_theory.specs.Depth.{openAfter, Shallow};
 ghost use Rattle.sets_theory.specs.believed.Sets.{one, stopMarks};
 ghost use Rattle.tables.specs.Ready.{grammarIn};
 ghost use Rattle.history_file.specs.believed.HistoryFile.{tokensOf};
 ghost use Rattle.history_file.specs.HistoryTokens.{Tokens};
-ghost use Rattle.rule_index.specs.Index.{Indexed, endsIn};
-ghost use Rattle.stop_marks_core.specs.Stack.{blockAt, markOf, CloseHolds, StepHolds};
+ghost use Rattle.rule_index.specs.Index.{Indexed};
+ghost use Rattle.stop_marks_core.specs.Stack.{pushed, rowsOf, markOf, StepHolds};
 
-// For each open step, the 32 words of the state before its open.
-type Stack = [u32; 4096];
+// For each open step a block of 33 numbers: the 32 words of the state before its open, and the open's name.
+type Stack = [u32; 4224];
 
-// For each open step, the name of its open.
-type Names = [u16; 128];
-
-// A state as 32 words, and how many steps are open.
+// How many steps are open, and in which of two arrays the state is.
 struct Top {
-    rows: Words,
     depth: usize,
+    first: bool,
 }
 
-// Writes the state of step d. That there are 32 words is said too: a caller that has them in a struct doesn't know it otherwise.
-fn save(stack: &mut Stack, d: usize, rows: Words)
+// Writes the block of step d.
+fn save(stack: &mut Stack, d: usize, rows: &[u32], a: OpenName)
     requires { ⌜ d < 128 ⌝ }
-    requires { ⌜ length (now stack) ≡ 4096 ⌝ }
-    ensures { λ _. ⌜ (now (stack .exit) ≡ paste (now (stack .entry)) (d * 32) rows 32) × (length rows ≡ 32) ⌝ }
+    requires { ⌜ (length (now stack) ≡ 4224) × (length (now rows) ≡ 32) ⌝ }
+    ensures { λ _. ⌜ (now (stack .exit) ≡ pushed (now (stack .entry)) d (now (rows .entry)) a) × (a .0 < 65536) ⌝ }
 {
-    let b = d * 32;
+    let b = d * 33;
     let mut k: usize = 0;
     while k < 32 {
         stack[b + k] = rows[k];
         k += 1;
     }
-}
-
-// The state of step d.
-fn load(stack: &Stack, d: usize) -> Words
-    requires { ⌜ d < 128 ⌝ }
-    ensures { λ r. ⌜ r ≡ blockAt (now (stack .entry)) d ⌝ }
-{
-    let b = d * 32;
-    let mut rows = [0u32; 32];
-    let mut k: usize = 0;
-    while k < 32 {
-        rows[k] = stack[b + k];
-        k += 1;
-    }
-    rows
+    stack[b + 32] = a.0 as u32;
 }
 
 fn number(b: bool) -> u8
@@ -70,80 +52,98 @@ fn number(b: bool) -> u8
 }
 
 // The stop mark of a configuration: no step is open, and the top level may be finished.
-fn mark_of(top: Top, empties: u32) -> u8
-    ensures { λ r. ⌜ r ≡ markOf top empties ⌝ }
+fn mark_of(top: Top, a: &Words, b: &Words, empties: u32) -> u8
+    ensures { λ r. ⌜ r ≡ markOf (top .depth) (rowsOf top (now (a .entry)) (now (b .entry))) empties ⌝ }
 {
     if top.depth != 0 {
         return 0;
     }
-    let rows = top.rows;
-    number(pair_states::may_end(&rows, empties))
+    if top.first {
+        return number(pair_states::may_end(a, empties));
+    }
+    number(pair_states::may_end(b, empties))
 }
 
 // Over a close: back to the state before the step's open. With no step open, no pair is left.
 fn closed(
     table: &Table,
     head: Head,
-    empties: u32,
     b: CloseName,
-    top: Top,
-    stack: &Stack,
-    names: &Names,
-) -> Top
+    depth: usize,
+    rows: &Words,
+    stack: &[u32],
+    out: &mut Words,
+) -> usize
     requires { ⌜ Indexed (now table) head ⌝ }
-    requires { ⌜ empties ≡ endsIn (now table) ⌝ }
-    requires { ⌜ top .depth ≤ 128 ⌝ }
-    ensures { λ r. ⌜ CloseHolds (now (table .entry)) head b top (now (stack .entry)) (now (names .entry)) r ⌝ }
+    requires { ⌜ (depth ≤ 128) × (length (now stack) ≡ 4224) ⌝ }
+    ensures { λ r. ⌜ StepHolds (now (table .entry)) head (Token.Close b) depth (now (rows .entry)) (now (stack .entry)) r (now (out .exit)) (now (stack .entry)) ⌝ }
 {
-    if top.depth == 0 {
-        return Top {
-            rows: [0; 32],
-            depth: 0,
-        };
+    if depth == 0 {
+        *out = [0u32; 32];
+        return 0;
     }
-    let d = top.depth - 1;
-    let saved = load(stack, d);
-    let name = names[d];
-    let a = OpenName(name);
-    let rows = top.rows;
-    Top {
-        rows: pair_states::after_close(table, head, empties, b, &rows, a, &saved),
-        depth: d,
-    }
+    let d = depth - 1;
+    let at = d * 33;
+    let end = at + 32;
+    let a = OpenName((stack[end] % 65536) as u16);
+    pair_states::after_close(table, head, b, rows, a, &stack[at..end], out);
+    d
 }
 
-// Over one token: the words of the derivative of a configuration.
+// Over one token: puts the words of the derivative of a configuration into out, and answers how many steps are open then.
 fn step(
     table: &Table,
     head: Head,
-    empties: u32,
+    token: Token,
+    depth: usize,
+    rows: &Words,
+    out: &mut Words,
+    stack: &mut Stack,
+) -> usize
+    requires { ⌜ Indexed (now table) head ⌝ }
+    requires { ⌜ (depth ≤ 128) × (openAfter token depth ≤ 128) ⌝ }
+    requires { ⌜ length (now stack) ≡ 4224 ⌝ }
+    ensures { λ r. ⌜ StepHolds (now (table .entry)) head token depth (now (rows .entry)) (now (stack .entry)) r (now (out .exit)) (now (stack .exit)) ⌝ }
+{
+    match token {
+        Token::Mark(c) => {
+            pair_states::after_mark(table, head, c, rows, out);
+            depth
+        }
+        Token::Open(a) => {
+            save(stack, depth, rows, a);
+            pair_states::after_open(table, head, a, rows, out);
+            depth + 1
+        }
+        Token::Close(b) => closed(table, head, b, depth, rows, stack, out),
+    }
+}
+
+// The same from the array that has the state into the other one.
+fn turn(
+    table: &Table,
+    head: Head,
     token: Token,
     top: Top,
+    a: &mut Words,
+    b: &mut Words,
     stack: &mut Stack,
-    names: &mut Names,
 ) -> Top
     requires { ⌜ Indexed (now table) head ⌝ }
-    requires { ⌜ empties ≡ endsIn (now table) ⌝ }
     requires { ⌜ (top .depth ≤ 128) × (openAfter token (top .depth) ≤ 128) ⌝ }
-    requires { ⌜ (length (now stack) ≡ 4096) × (length (now names) ≡ 128) ⌝ }
-    ensures { λ r. ⌜ StepHolds (now (table .entry)) head token top (now (stack .entry)) (now (names .entry)) r (now (stack .exit)) (now (names .exit)) ⌝ }
+    requires { ⌜ length (now stack) ≡ 4224 ⌝ }
+    ensures { λ r. ⌜ StepHolds (now (table .entry)) head token (top .depth) (rowsOf top (now (a .entry)) (now (b .entry))) (now (stack .entry)) (r .depth) (rowsOf r (now (a .exit)) (now (b .exit))) (now (stack .exit)) ⌝ }
 {
-    let rows = top.rows;
     let depth = top.depth;
-    match token {
-        Token::Mark(c) => Top {
-            rows: pair_states::after_mark(table, head, c, &rows),
-            depth,
-        },
-        Token::Open(a) => {
-            save(stack, depth, rows);
-            names[depth] = a.0;
-            Top {
-                rows: pair_states::after_open(table, head, a, &rows),
-                depth: depth + 1,
-            }
-        }
-        Token::Close(b) => closed(table, head, empties, b, top, stack, names),
+    if top.first {
+        return Top {
+            depth: step(table, head, token, depth, a, b, stack),
+            first: false,
+        };
+    }
+    Top {
+        depth: step(table, head, token, depth, b, a, stack),
+        first: true,
     }
 }
 
@@ -156,18 +156,19 @@ pub fn marks(table: &Table, head: Head, tokens: &[u32], out: &mut [u8])
     ensures { λ _. ⌜ now (out .exit) ≡ stopMarks (grammarIn (now (table .entry)) head) (tokensOf (now (tokens .entry))) ++ drop (length (now (tokens .entry)) + 1) (now (out .entry)) ⌝ }
 {
     let empties = rule_index::ends(table);
-    let mut stack = [0u32; 4096];
-    let mut names = [0u16; 128];
+    let mut stack: Stack = [0u32; 4224];
+    let mut a = pair_states::begin(head.start);
+    let mut b = [0u32; 32];
     let mut top = Top {
-        rows: pair_states::begin(head.start),
         depth: 0,
+        first: true,
     };
     let mut i: usize = 0;
     while i < tokens.len() {
-        out[i] = mark_of(top, empties);
+        out[i] = mark_of(top, &a, &b, empties);
         let token = history_file::token_of(tokens[i]);
-        top = step(table, head, empties, token, top, &mut stack, &mut names);
+        top = turn(table, head, token, top, &mut a, &mut b, &mut stack);
         i += 1;
     }
-    out[i] = mark_of(top, empties);
+    out[i] = mark_of(top, &a, &b, empties);
 }

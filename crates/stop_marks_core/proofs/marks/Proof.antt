@@ -1,20 +1,20 @@
 -- `marks`. The invariant: the words are those of a configuration, and the marks written, with those that it gives for the tokens left, are all.
 use Prim.Native.Nat.{ℕ, _-_, _≤_}
 use native.Mathlib.Omega.{arith}
-use mathlib.Core.Path.{_∙_}
+use mathlib.Core.Path.{_∙_, ap}
 use borrow.Author.Needs.{needs}
 use lib.ListN.{length, replicate, length-replicate, length-set}
-use Rattle.stop_marks_core.proofs.Stacks.{mark-accepts}
-use Rattle.stop_marks_core.proofs.Turns.{Turn, depths, first-turn, next-turn, last-turn}
 use Rattle.pair_states.specs.Wide.{wideGrammar}
+use Rattle.stop_marks_core.specs.Stack.{rowsOf, markOf}
+use Rattle.stop_marks_core.proofs.Turns.{Turn, depths, first-turn, next-turn, last-turn}
 use Rattle.stop_marks_core.proofs.marks.Statement.{statement}
 use Rattle.stop_marks_core.proofs.marks.Tie as tie
 
 abbrev Inv-loop : tie.InvT-loop
-Inv-loop table head tokens out₀ empties stack₀ names₀ top₀ i₀ out stack names top i = (i ≤ length tokens) × Turn (wideGrammar table head) tokens out₀ i top stack names out
+Inv-loop table head tokens out₀ empties stack₀ a₀ b₀ top₀ i₀ out stack a b top i = (i ≤ length tokens) × Turn (wideGrammar table head) tokens out₀ i (top .depth) (rowsOf top a b) stack out
 
 abbrev μ-loop : tie.MeasureT-loop
-μ-loop table head tokens out₀ empties stack₀ names₀ top₀ i₀ out stack names top i = length tokens - i
+μ-loop table head tokens out₀ empties stack₀ a₀ b₀ top₀ i₀ out stack a b top i = length tokens - i
 
 ends-requires : tie.Need-ends-requires Inv-loop μ-loop
 ends-requires c κs = search needs
@@ -25,19 +25,14 @@ begin-requires c κs = search needs
 loop-holds : tie.Need-loop-holds Inv-loop μ-loop
 loop-holds c =
     let s = c .before .before .before .before in
-    let a = s .args in (
-      omega arith,
-      first-turn (a .table .now) (a .head) (a .tokens .now) (a .out .now)
-          (c .begin .result) (replicate 4096 0) (replicate 128 0) (c .begin .ensures) (s .pre .1 .1 .0) (length-replicate {A = ℕ} 4096 0) (length-replicate {A = ℕ} 128 0),
-    )
+    let a = s .args in
+    (omega arith, first-turn (a .table .now) (a .head) (a .tokens .now) (a .out .now) (c .begin .result) (replicate 4224 0) (c .begin .ensures) (s .pre .1 .1 .0) (length-replicate {A = ℕ} 4224 0))
 
 mark-of-requires : tie.Need-mark-of-requires Inv-loop μ-loop
 mark-of-requires c κs = search needs
 
 slice-write-out : tie.Need-slice-write-out Inv-loop μ-loop
-slice-write-out c =
-    let l = c .before .before .loop in
-    let u = l .inv .1 in omega (arith, u .size)
+slice-write-out c = let l = c .before .before .before .before .loop in omega (arith, l .inv .1 .size)
 
 mul-token-of : tie.Need-mul-token-of Inv-loop μ-loop
 mul-token-of c = search needs
@@ -46,15 +41,15 @@ shared-slice-read-token-of : tie.Need-shared-slice-read-token-of Inv-loop μ-loo
 shared-slice-read-token-of c = search needs
 
 token-of-requires : tie.Need-token-of-requires Inv-loop μ-loop
-token-of-requires c κs = c .before .before .before .before .before .before .before .before .pre .1 .0 .small (c .before .before .before .loop .i) (c .before .before .loop-test .taken)
+token-of-requires c κs =
+    let t = c .before .before .before .before in
+    t .before .before .before .before .before .before .pre .1 .0 .small (t .before .loop .i) (t .loop-test .taken)
 
-step-requires : tie.Need-step-requires Inv-loop μ-loop
-step-requires c κs =
-    let l = c .before .before .before .before .before .before .loop in
-    let s = c .before .before .before .before .before .before .before .before .before .before .before in
-    let u = l .inv .1 in
-    let d = depths u (c .before .before .before .before .before .loop-test .taken) in
-    (s .pre .0, (c .before .before .before .before .before .before .before .before .ends .ensures, (rw (c .before .before .token-of .ensures) d, (u .stack-size, u .names-size))))
+turn-requires : tie.Need-turn-requires Inv-loop μ-loop
+turn-requires c κs =
+    let t = c .before .before .before .before .before .before .before .before in
+    let u = t .before .loop .inv .1 in
+    (t .before .before .before .before .before .before .pre .0, (rw (c .before .before .before .token-of .ensures) (depths u (t .loop-test .taken)), u .stack-size))
 
 add-i : tie.Need-add-i Inv-loop μ-loop
 add-i c = search needs
@@ -64,43 +59,35 @@ loop-less c = search needs
 
 loop-again : tie.Need-loop-again Inv-loop μ-loop
 loop-again c =
-    let l = c .before .before .before .before .before .before .before .loop in
-    let e = c .before .before .before .before .before .before .before .before .before .ends .ensures in
-    let s = c .before .before .before .before .before .before .before .before .before .before .before .before in
+    let t = c .before .before .before .before .before .before .before .before .before in
+    let l = t .before .loop in
+    let s = t .before .before .before .before .before .before in
     let a = s .args in
-    let u = l .inv .1 in
-    let mark = c .before .before .before .before .before .mark-of in
-    let is = mark .ensures ∙ mark-accepts (a .table .now) (a .head) (s .pre .0) _ e (l .top) (l .stack) (l .names) (u .configuration) (u .holds) in (
+    let mark = c .before .before .before .before .before .before .mark-of in (
       omega arith,
-      next-turn (a .table .now) (a .head) (a .tokens .now) (a .out .now)
-          (l .i) (l .top) (l .stack) (l .names) (l .out) (mark .result) (s .pre .1 .1 .1) u is
-          (c .step .result) _ _ (c .before .before .before .before .before .before .loop-test .taken) (rw (c .before .before .before .token-of .ensures) at (c .step .ensures)),
+      next-turn (a .table .now) (a .head) (a .tokens .now) (a .out .now) (l .i) (l .top .depth) _ (l .stack) (l .out) (mark .result) (s .pre .1 .1 .1) (l .inv .1) (s .pre .0)
+          (mark .ensures ∙ ap (markOf (l .top .depth) (rowsOf (l .top) (l .a) (l .b))) (t .before .before .before .ends .ensures))
+          (c .turn .result .depth) _ _ (t .loop-test .taken) (rw (c .before .before .before .before .token-of .ensures) at (c .turn .ensures)),
     )
 
 mark-of-requires-2 : tie.Need-mark-of-requires-2 Inv-loop μ-loop
 mark-of-requires-2 c κs = search needs
 
 slice-write-out-2 : tie.Need-slice-write-out-2 Inv-loop μ-loop
-slice-write-out-2 c =
-    let l = c .before .before .loop in
-    let u = l .inv .1 in omega (arith, u .size)
+slice-write-out-2 c = let l = c .before .before .before .before .loop in omega (arith, l .inv .1 .size)
 
 same-length : tie.Need-same-length Inv-loop μ-loop
-same-length c =
-    let l = c .before .before .loop in
-    let u = l .inv .1 in length-set (l .out) (l .i) (c .mark-of2 .result) ∙ u .size
+same-length c = let l = c .before .before .before .before .loop in length-set (l .out) (l .i) (c .mark-of2 .result) ∙ l .inv .1 .size
 
 returns : tie.Need-returns Inv-loop μ-loop
 returns c =
-    let l = c .before .before .loop in
-    let e = c .before .before .before .before .ends .ensures in
-    let s = c .before .before .before .before .before .before .before in
+    let t = c .before .before .before in
+    let l = t .before .loop in
+    let s = t .before .before .before .before .before .before in
     let a = s .args in
-    let u = l .inv .1 in
-    let is = c .mark-of2 .ensures ∙ mark-accepts (a .table .now) (a .head) (s .pre .0) _ e (l .top) (l .stack) (l .names) (u .configuration) (u .holds) in
-    last-turn (a .table .now) (a .head) (a .tokens .now) (a .out .now)
-    (l .i) (l .top) (l .stack) (l .names) (l .out) (c .mark-of2 .result) (s .pre .1 .1 .1) u is
-    (s .pre .0 .ready) (omega arith)
+    last-turn (a .table .now) (a .head) (a .tokens .now) (a .out .now) (l .i) (l .top .depth) _ (l .stack) (l .out) (c .mark-of2 .result) (s .pre .1 .1 .1) (l .inv .1) (s .pre .0)
+    (c .mark-of2 .ensures ∙ ap (markOf (l .top .depth) (rowsOf (l .top) (l .a) (l .b))) (t .before .before .before .ends .ensures))
+    (omega arith)
 
 pub marks-spec : {M : Type 1} → statement M
 marks-spec =
@@ -116,7 +103,7 @@ marks-spec =
     mul-token-of
     shared-slice-read-token-of
     token-of-requires
-    step-requires
+    turn-requires
     add-i
     loop-less
     loop-again
