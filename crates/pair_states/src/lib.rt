@@ -11,7 +11,6 @@ ghost use mathlib.Core.Path.{_≡_};
 ghost use mathlib.Core.Bool.{cond};
 ghost use Prim.Native.Nat.{_<_};
 ghost use lib.Bits.{bitOr};
-ghost use lib.ListN.{length};
 ghost use Rattle.pair_theory.specs.Pairs.{PairState, single, overMark, overOpen, overClose};
 ghost use Rattle.rule_index.specs.Index.{Indexed};
 ghost use Rattle.pair_states.specs.Encodes.{Encodes};
@@ -81,11 +80,10 @@ pub fn after_close(
     b: CloseName,
     words: &Words,
     a: OpenName,
-    saved: &[u32],
+    saved: &Words,
     out: &mut Words,
 )
     requires { ⌜ Indexed (now table) head ⌝ }
-    requires { ⌜ length (now saved) ≡ 32 ⌝ }
     ensures { λ _. ⌜ ((S S₁ : PairState) → Encodes (now (words .entry)) S → Encodes (now (saved .entry)) S₁ → Encodes (now (out .exit)) (overClose (wideGrammar (now (table .entry)) head) b S S₁ a)) ⌝ }
 {
     let done = finished_of(words, rule_index::ends(table));

@@ -1,6 +1,5 @@
 -- The nonterminals that follow a rule are below 32, where all its nonterminals are.
 use Prim.Native.Nat.{ℕ, _<_}
-use mathlib.Core.Path.{_≡_}
 use mathlib.Core.Option.{Option, none, some}
 use Rattle.vpg.specs.declared.Rule.{Rule}
 use Rattle.vpg.specs.Parts.{onward, beyond}
@@ -21,7 +20,3 @@ next-below p L (some L₁) (some L₂) l h k = step-below p L₁ L₂ h k
 
 pub follows-below : (p : Pattern) (R : Rule) → Below 32 R → followsBy p R < 32
 follows-below p R h = next-below p (left R) (onward R) (beyond R) (h .0) (h .1) (h .2)
-
--- as a loop has them: next is what was asked of the rule R′ that was read
-pub follows-small : (p : Pattern) (R R′ : Rule) (next : ℕ) → Below 32 R → R′ ≡ R → next ≡ followsBy p R′ → next < 32
-follows-small p R R′ next h e f = rw (f, e) (follows-below p R h)

@@ -122,9 +122,9 @@ fn contexts(pattern: Pattern, own: u32, next: usize) -> u32
 }
 
 // Adds what rule k gives, where it is one of those looked for.
-fn gain(pattern: Pattern, from: &[u32], done: u32, out: &mut Words, table: &Table, k: usize)
+fn gain(pattern: Pattern, from: &Words, done: u32, out: &mut Words, table: &Table, k: usize)
     requires { ⌜ (k < 128) × Below 32 (ruleIn (now table) k) ⌝ }
-    requires { ⌜ (length (now from) ≡ 32) × (length (now out) ≡ 32) ⌝ }
+    requires { ⌜ length (now out) ≡ 32 ⌝ }
     ensures { λ _. ⌜ now (out .exit) ≡ gained pattern (now (from .entry)) done (now (out .entry)) (ruleIn (now (table .entry)) k) ⌝ }
 {
     let rule = tables::rule_of(table, k);
@@ -147,17 +147,16 @@ fn token_by(pattern: Pattern) -> Token
 }
 
 // Puts the words after the token into out; from has those before it, and for a close those before its step's open.
-// It fills what the caller lends: words that are handed back by value are copied at every token.
+// It fills what the caller lends: words that are handed back by value would be copied at every token.
 pub fn words_after(
     table: &Table,
     head: Head,
     pattern: Pattern,
-    from: &[u32],
+    from: &Words,
     done: u32,
     out: &mut Words,
 )
     requires { ⌜ Indexed (now table) head ⌝ }
-    requires { ⌜ length (now from) ≡ 32 ⌝ }
     ensures { λ _. ⌜ now (out .exit) ≡ wordsAfter pattern (now (from .entry)) done (now (table .entry)) (head .rules) ⌝ }
 {
     let count = head.rules;

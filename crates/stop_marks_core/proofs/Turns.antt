@@ -3,6 +3,7 @@ use Prim.Native.Nat.{ℕ, suc, _+_, _<_, _≤_}
 use native.Mathlib.Numerals.{add-one}
 use native.Mathlib.Omega.{arith}
 use mathlib.Core.Path.{_≡_, refl, sym, _∙_, ap, ap₂}
+use mathlib.Core.Bool.{Bool, true, false, cond, not}
 use mathlib.Core.List.{List, [], _∷_, _++_}
 use lib.ListN.{length, take, drop, getD, set, length-set, length-map, List·getD-map}
 use lib.Seq.{drop-cons, drop-drop, drop-length, take-suc-set, drop-set-lt, set-split, append-snoc}
@@ -28,23 +29,29 @@ drop-token ts i h =
     (drop-cons (tokensOf ts) i (tokenOf 0) (rw length-map h) ∙ ap (λ (x : Token). x ∷ drop (suc i) (tokensOf ts)) (List·getD-map tokenOf ts i 0))
 
 -- what is known before token i: ts are the token numbers, out₀ the buffer as it was lent
-pub record Turn (g : Grammar) (ts out₀ : List ℕ) (i d : ℕ) (rows stack out : List ℕ) : Type 0 where
+pub record Turn (g : Grammar) (ts out₀ : List ℕ) (i d : ℕ) (rows : List ℕ) (stack : List (List ℕ)) (names out : List ℕ) : Type 0 where
   pub configuration : Configuration
-  pub holds : Holds d rows stack configuration
+  pub holds : Holds d rows stack names configuration
   pub shallow : Shallow 128 (drop i (tokensOf ts)) d
   pub marks : take i out ++ marksFrom g configuration (drop i (tokensOf ts)) ≡ marksFrom g (begin g) (tokensOf ts)
   pub rest : drop i out ≡ drop i out₀
-  pub stack-size : length stack ≡ 4224
+  pub stack-size : length stack ≡ 128
+  pub names-size : length names ≡ 128
   pub size : length out ≡ length out₀
 
 -- how many steps are open before token i, and after it
-pub depths : {g : Grammar} {ts out₀ : List ℕ} {i d : ℕ} {rows stack out : List ℕ} → Turn g ts out₀ i d rows stack out → i < length ts →
+pub depths : {g : Grammar} {ts out₀ : List ℕ} {i d : ℕ} {rows : List ℕ} {stack : List (List ℕ)} {names out : List ℕ} → Turn g ts out₀ i d rows stack names out → i < length ts →
     (d ≤ 128) × (openAfter (tokenOf (getD ts i 0)) d ≤ 128)
 depths {ts} {i} {d} u h = go (drop (i + 1) (tokensOf ts)) (rw (drop-token ts i h) at (u .shallow))
   where
     go : (v : List Token) → Shallow 128 (tokenOf (getD ts i 0) ∷ v) d → (d ≤ 128) × (openAfter (tokenOf (getD ts i 0)) d ≤ 128)
     go [] s = s
     go (x ∷ v) s = (s .0, s .1 .0)
+
+-- after a token the other array has the state
+pub other : (first : Bool) (a b : List ℕ) → cond first b a ≡ cond (not first) a b
+other true a b = refl
+other false a b = refl
 
 -- the stop marks go by the rules and the start alone: how many nonterminals there are changes none
 marks-wide : (table : List ℕ) (head : Head) (w : List Token) → stopMarks (wideGrammar table head) w ≡ stopMarks (grammarIn table head) w
@@ -55,14 +62,15 @@ module _ (table : List ℕ) (head : Head) (ts out₀ : List ℕ) where
   abbrev g : Grammar
   g = wideGrammar table head
 
-  pub first-turn : (rows stack : List ℕ) → Encodes rows (single (head .start) (head .start)) → Shallow 128 (tokensOf ts) 0 → length stack ≡ 4224 → Turn g ts out₀ 0 0 rows stack out₀
-  first-turn rows stack x s p =
-      record { configuration = begin g; holds = record { state = x; saved = tt }; shallow = s; marks = refl; rest = refl; stack-size = p; size = refl }
+  pub first-turn : (rows : List ℕ) (stack : List (List ℕ)) (names : List ℕ) → Encodes rows (single (head .start) (head .start)) → Shallow 128 (tokensOf ts) 0 → length stack ≡ 128 →
+      length names ≡ 128 → Turn g ts out₀ 0 0 rows stack names out₀
+  first-turn rows stack names x s p q =
+      record { configuration = begin g; holds = record { state = x; saved = tt }; shallow = s; marks = refl; rest = refl; stack-size = p; names-size = q; size = refl }
 
-  module _ (i d : ℕ) (rows stack out : List ℕ) (m : ℕ) (room : length ts + 1 ≤ length out₀) (u : Turn g ts out₀ i d rows stack out)
+  module _ (i d : ℕ) (rows : List ℕ) (stack : List (List ℕ)) (names out : List ℕ) (m : ℕ) (room : length ts + 1 ≤ length out₀) (u : Turn g ts out₀ i d rows stack names out)
       (indexed : Indexed table head) (is : m ≡ markOf d rows (endsIn table)) where
     accepted : m ≡ one (accepts g (u .configuration))
-    accepted = is ∙ mark-accepts table head indexed d rows stack (u .configuration) (u .holds)
+    accepted = is ∙ mark-accepts table head indexed d rows stack names (u .configuration) (u .holds)
 
     written : i < length out → take (i + 1) (set out i m) ≡ take i out ++ (m ∷ [])
     written h = rw add-one (take-suc-set out i m h)
@@ -70,10 +78,10 @@ module _ (table : List ℕ) (head : Head) (ts out₀ : List ℕ) where
     rest-next : drop (i + 1) out ≡ drop (i + 1) out₀
     rest-next = sym (drop-drop 1 i out) ∙ ap (drop 1) (u .rest) ∙ drop-drop 1 i out₀
 
-    pub next-turn : (d′ : ℕ) (rows′ stack′ : List ℕ) → i < length ts → StepHolds table head (tokenOf (getD ts i 0)) d rows stack d′ rows′ stack′ →
-        Turn g ts out₀ (i + 1) d′ rows′ stack′ (set out i m)
+    pub next-turn : (d′ : ℕ) (rows′ : List ℕ) (stack′ : List (List ℕ)) (names′ : List ℕ) → i < length ts → StepHolds table head (tokenOf (getD ts i 0)) d rows stack names d′ rows′ stack′ names′ →
+        Turn g ts out₀ (i + 1) d′ rows′ stack′ names′ (set out i m)
     unfolding marksFrom
-    next-turn d′ rows′ stack′ h s =
+    next-turn d′ rows′ stack′ names′ h s =
         let x = u .configuration in
         let y = derivative g (tokenOf (getD ts i 0)) x in
         let v = drop (i + 1) (tokensOf ts) in
@@ -90,6 +98,7 @@ module _ (table : List ℕ) (head : Head) (ts out₀ : List ℕ) where
               ∙ u .marks;
           rest = drop-set-lt (i + 1) out i m (omega arith) ∙ rest-next;
           stack-size = s .stack-size;
+          names-size = s .names-size;
           size = length-set out i m ∙ u .size;
         }
 

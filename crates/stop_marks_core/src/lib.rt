@@ -7,6 +7,7 @@ use vpg::CloseName;
 use vpg::OpenName;
 use vpg::Token;
 ghost use mathlib.Core.Path.{_≡_};
+ghost use mathlib.Core.Bool.{cond};
 ghost use mathlib.Core.List.{_++_};
 ghost use Prim.Native.Nat.{_+_, _<_, _≤_};
 ghost use lib.ListN.{length, drop};
@@ -16,30 +17,19 @@ ghost use Rattle.tables.specs.Ready.{grammarIn};
 ghost use Rattle.history_file.specs.believed.HistoryFile.{tokensOf};
 ghost use Rattle.history_file.specs.HistoryTokens.{Tokens};
 ghost use Rattle.rule_index.specs.Index.{Indexed};
-ghost use Rattle.stop_marks_core.specs.Stack.{pushed, rowsOf, markOf, StepHolds};
+ghost use Rattle.stop_marks_core.specs.Stack.{markOf, StepHolds};
 
-// For each open step a block of 33 numbers: the 32 words of the state before its open, and the open's name.
-type Stack = [u32; 4224];
+// For each open step, the state before its open.
+type Stack = [Words; 128];
 
-// How many steps are open, and in which of two arrays the state is.
+// For each open step, the name of its open.
+type Names = [u16; 128];
+
+// The grammar's numbers, how many steps are open, and in which of two arrays the state is.
 struct Top {
+    head: Head,
     depth: usize,
     first: bool,
-}
-
-// Writes the block of step d.
-fn save(stack: &mut Stack, d: usize, rows: &[u32], a: OpenName)
-    requires { ⌜ d < 128 ⌝ }
-    requires { ⌜ (length (now stack) ≡ 4224) × (length (now rows) ≡ 32) ⌝ }
-    ensures { λ _. ⌜ (now (stack .exit) ≡ pushed (now (stack .entry)) d (now (rows .entry)) a) × (a .0 < 65536) ⌝ }
-{
-    let b = d * 33;
-    let mut k: usize = 0;
-    while k < 32 {
-        stack[b + k] = rows[k];
-        k += 1;
-    }
-    stack[b + 32] = a.0 as u32;
 }
 
 fn number(b: bool) -> u8
@@ -52,13 +42,13 @@ fn number(b: bool) -> u8
 }
 
 // The stop mark of a configuration: no step is open, and the top level may be finished.
-fn mark_of(top: Top, a: &Words, b: &Words, empties: u32) -> u8
-    ensures { λ r. ⌜ r ≡ markOf (top .depth) (rowsOf top (now (a .entry)) (now (b .entry))) empties ⌝ }
+fn mark_of(depth: usize, first: bool, a: &Words, b: &Words, empties: u32) -> u8
+    ensures { λ r. ⌜ r ≡ markOf depth (cond first (now (a .entry)) (now (b .entry))) empties ⌝ }
 {
-    if top.depth != 0 {
+    if depth != 0 {
         return 0;
     }
-    if top.first {
+    if first {
         return number(pair_states::may_end(a, empties));
     }
     number(pair_states::may_end(b, empties))
@@ -67,84 +57,78 @@ fn mark_of(top: Top, a: &Words, b: &Words, empties: u32) -> u8
 // Over a close: back to the state before the step's open. With no step open, no pair is left.
 fn closed(
     table: &Table,
-    head: Head,
+    top: Top,
     b: CloseName,
-    depth: usize,
     rows: &Words,
-    stack: &[u32],
     out: &mut Words,
+    stack: &Stack,
+    names: &Names,
 ) -> usize
-    requires { ⌜ Indexed (now table) head ⌝ }
-    requires { ⌜ (depth ≤ 128) × (length (now stack) ≡ 4224) ⌝ }
-    ensures { λ r. ⌜ StepHolds (now (table .entry)) head (Token.Close b) depth (now (rows .entry)) (now (stack .entry)) r (now (out .exit)) (now (stack .entry)) ⌝ }
+    requires { ⌜ Indexed (now table) (top .head) ⌝ }
+    requires { ⌜ top .depth ≤ 128 ⌝ }
+    requires { ⌜ (length (now stack) ≡ 128) × (length (now names) ≡ 128) ⌝ }
+    ensures { λ r. ⌜ StepHolds (now (table .entry)) (top .head) (Token.Close b) (top .depth) (now (rows .entry)) (now (stack .entry)) (now (names .entry)) r (now (out .exit)) (now (stack .entry)) (now (names .entry)) ⌝ }
 {
-    if depth == 0 {
+    if top.depth == 0 {
         *out = [0u32; 32];
         return 0;
     }
-    let d = depth - 1;
-    let at = d * 33;
-    let end = at + 32;
-    let a = OpenName((stack[end] % 65536) as u16);
-    pair_states::after_close(table, head, b, rows, a, &stack[at..end], out);
+    let d = top.depth - 1;
+    let a = OpenName(names[d]);
+    pair_states::after_close(table, top.head, b, rows, a, &stack[d], out);
     d
 }
 
 // Over one token: puts the words of the derivative of a configuration into out, and answers how many steps are open then.
 fn step(
     table: &Table,
-    head: Head,
+    top: Top,
     token: Token,
-    depth: usize,
     rows: &Words,
     out: &mut Words,
     stack: &mut Stack,
+    names: &mut Names,
 ) -> usize
-    requires { ⌜ Indexed (now table) head ⌝ }
-    requires { ⌜ (depth ≤ 128) × (openAfter token depth ≤ 128) ⌝ }
-    requires { ⌜ length (now stack) ≡ 4224 ⌝ }
-    ensures { λ r. ⌜ StepHolds (now (table .entry)) head token depth (now (rows .entry)) (now (stack .entry)) r (now (out .exit)) (now (stack .exit)) ⌝ }
+    requires { ⌜ Indexed (now table) (top .head) ⌝ }
+    requires { ⌜ (top .depth ≤ 128) × (openAfter token (top .depth) ≤ 128) ⌝ }
+    requires { ⌜ (length (now stack) ≡ 128) × (length (now names) ≡ 128) ⌝ }
+    ensures { λ r. ⌜ StepHolds (now (table .entry)) (top .head) token (top .depth) (now (rows .entry)) (now (stack .entry)) (now (names .entry)) r (now (out .exit)) (now (stack .exit)) (now (names .exit)) ⌝ }
 {
+    let depth = top.depth;
     match token {
         Token::Mark(c) => {
-            pair_states::after_mark(table, head, c, rows, out);
+            pair_states::after_mark(table, top.head, c, rows, out);
             depth
         }
         Token::Open(a) => {
-            save(stack, depth, rows, a);
-            pair_states::after_open(table, head, a, rows, out);
+            stack[depth] = *rows;
+            names[depth] = a.0;
+            pair_states::after_open(table, top.head, a, rows, out);
             depth + 1
         }
-        Token::Close(b) => closed(table, head, b, depth, rows, stack, out),
+        Token::Close(b) => closed(table, top, b, rows, out, stack, names),
     }
 }
 
 // The same from the array that has the state into the other one.
 fn turn(
     table: &Table,
-    head: Head,
-    token: Token,
     top: Top,
+    token: Token,
     a: &mut Words,
     b: &mut Words,
     stack: &mut Stack,
-) -> Top
-    requires { ⌜ Indexed (now table) head ⌝ }
+    names: &mut Names,
+) -> usize
+    requires { ⌜ Indexed (now table) (top .head) ⌝ }
     requires { ⌜ (top .depth ≤ 128) × (openAfter token (top .depth) ≤ 128) ⌝ }
-    requires { ⌜ length (now stack) ≡ 4224 ⌝ }
-    ensures { λ r. ⌜ StepHolds (now (table .entry)) head token (top .depth) (rowsOf top (now (a .entry)) (now (b .entry))) (now (stack .entry)) (r .depth) (rowsOf r (now (a .exit)) (now (b .exit))) (now (stack .exit)) ⌝ }
+    requires { ⌜ (length (now stack) ≡ 128) × (length (now names) ≡ 128) ⌝ }
+    ensures { λ r. ⌜ StepHolds (now (table .entry)) (top .head) token (top .depth) (cond (top .first) (now (a .entry)) (now (b .entry))) (now (stack .entry)) (now (names .entry)) r (cond (top .first) (now (b .exit)) (now (a .exit))) (now (stack .exit)) (now (names .exit)) ⌝ }
 {
-    let depth = top.depth;
     if top.first {
-        return Top {
-            depth: step(table, head, token, depth, a, b, stack),
-            first: false,
-        };
+        return step(table, top, token, a, b, stack, names);
     }
-    Top {
-        depth: step(table, head, token, depth, b, a, stack),
-        first: true,
-    }
+    step(table, top, token, b, a, stack, names)
 }
 
 // The stop marks of the positions 0 to n, for n tokens: out[i] is 1 where the first i tokens have a reading, else 0.
@@ -156,19 +140,20 @@ pub fn marks(table: &Table, head: Head, tokens: &[u32], out: &mut [u8])
     ensures { λ _. ⌜ now (out .exit) ≡ stopMarks (grammarIn (now (table .entry)) head) (tokensOf (now (tokens .entry))) ++ drop (length (now (tokens .entry)) + 1) (now (out .entry)) ⌝ }
 {
     let empties = rule_index::ends(table);
-    let mut stack: Stack = [0u32; 4224];
+    let mut stack = [[0u32; 32]; 128];
+    let mut names = [0u16; 128];
     let mut a = pair_states::begin(head.start);
     let mut b = [0u32; 32];
-    let mut top = Top {
-        depth: 0,
-        first: true,
-    };
+    let mut depth: usize = 0;
+    let mut first = true;
     let mut i: usize = 0;
     while i < tokens.len() {
-        out[i] = mark_of(top, &a, &b, empties);
+        out[i] = mark_of(depth, first, &a, &b, empties);
         let token = history_file::token_of(tokens[i]);
-        top = turn(table, head, token, top, &mut a, &mut b, &mut stack);
+        let top = Top { head, depth, first };
+        depth = turn(table, top, token, &mut a, &mut b, &mut stack, &mut names);
+        first = !first;
         i += 1;
     }
-    out[i] = mark_of(top, &a, &b, empties);
+    out[i] = mark_of(depth, first, &a, &b, empties);
 }

@@ -15,9 +15,9 @@ words-after-requires c κs = search needs
 
 returns : tie.Need-returns
 returns c = λ S S₁ x y.
-    let a = c .before .before .before .before .before in
+    let a = c .before .before .before .before in
     rw (c .words-after .ensures, c .before .before .finished-of .ensures, c .before .before .before .ends .ensures)
-    (close-encodes _ _ (a .pre .0) (a .args .b) (a .args .a) (a .args .words .now) (a .args .saved .now) S S₁ x y)
+    (close-encodes _ _ (a .pre) (a .args .b) (a .args .a) (a .args .words .now) (a .args .saved .now) S S₁ x y)
 
 pub after-close-spec : {M : Type 1} → statement M
 after-close-spec = tie.close (tie.spec ends-requires finished-of-requires words-after-requires returns)

@@ -1,9 +1,9 @@
 -- `gain`: the rule passes, and a word gains what it gives; or nothing changes.
 use native.Mathlib.Omega.{arith}
-use mathlib.Core.Path.{sym, _∙_, ap}
+use mathlib.Core.Path.{_≡_, sym, _∙_, ap}
 use Rattle.tables.specs.Table.{ruleIn}
 use Rattle.pair_words.specs.Words.{matchesBy, followsBy}
-use Rattle.pair_words.proofs.Below.{follows-small}
+use Rattle.pair_words.proofs.Below.{follows-below}
 use Rattle.pair_words.proofs.Walks.{gains, gains-none}
 use borrow.Author.Needs.{needs}
 use Rattle.pair_words.proofs.gain.Statement.{statement}
@@ -13,7 +13,7 @@ rule-of-requires : tie.Need-rule-of-requires
 rule-of-requires c κs = search needs
 
 matches-rule-requires : tie.Need-matches-rule-requires
-matches-rule-requires c κs = rw (c .rule-of .ensures) (c .before .before .pre .0 .1)
+matches-rule-requires c κs = rw (c .rule-of .ensures) (c .before .pre .0 .1)
 
 left-in-requires : tie.Need-left-in-requires
 left-in-requires c κs = search needs
@@ -26,38 +26,53 @@ follows-requires c κs = search needs
 
 mul-out : tie.Need-mul-out
 mul-out c =
-    let s = c .before .before .before .before .before .before .before in
-    omega (arith, follows-small (s .args .pattern) (ruleIn (s .args .table .now) (s .args .k)) _ _ (s .pre .0 .1) (c .before .before .before .before .before .rule-of .ensures) (c .follows .ensures))
+    let s = c .before .before .before .before .before .before in
+    let a = s .args in
+    let small = follows-below (a .pattern) (ruleIn (a .table .now) (a .k)) (s .pre .0 .1) in
+    let e : c .follows .result ≡ followsBy (a .pattern) (ruleIn (a .table .now) (a .k)) = c .follows .ensures ∙ ap (followsBy (a .pattern)) (c .before .before .before .before .before .rule-of .ensures) in
+    omega (arith, small, e)
 
 element-copy-out-out : tie.Need-element-copy-out-out
 element-copy-out-out c =
-    let s = c .before .before .before .before .before .before .before in
-    omega (arith, follows-small (s .args .pattern) (ruleIn (s .args .table .now) (s .args .k)) _ _ (s .pre .0 .1) (c .before .before .before .before .before .rule-of .ensures) (c .follows .ensures))
+    let s = c .before .before .before .before .before .before in
+    let a = s .args in
+    let small = follows-below (a .pattern) (ruleIn (a .table .now) (a .k)) (s .pre .0 .1) in
+    let e : c .follows .result ≡ followsBy (a .pattern) (ruleIn (a .table .now) (a .k)) = c .follows .ensures ∙ ap (followsBy (a .pattern)) (c .before .before .before .before .before .rule-of .ensures) in
+    omega (arith, small, e)
 
 mul-contexts : tie.Need-mul-contexts
 mul-contexts c = search needs
 
-shared-slice-read-contexts : tie.Need-shared-slice-read-contexts
-shared-slice-read-contexts c = search needs
+element-copy-out-contexts : tie.Need-element-copy-out-contexts
+element-copy-out-contexts c = search needs
 
 contexts-requires : tie.Need-contexts-requires
 contexts-requires c κs =
-    let s = c .before .before .before .before .before .before .before .before .before in
-    omega (arith, follows-small (s .args .pattern) (ruleIn (s .args .table .now) (s .args .k)) _ _ (s .pre .0 .1) (c .before .before .before .before .before .before .before .rule-of .ensures) (c .before .before .follows .ensures))
+    let s = c .before .before .before .before .before .before .before .before in
+    let a = s .args in
+    let small = follows-below (a .pattern) (ruleIn (a .table .now) (a .k)) (s .pre .0 .1) in
+    let e : c .before .before .follows .result ≡ followsBy (a .pattern) (ruleIn (a .table .now) (a .k)) = c .before .before .follows .ensures ∙ ap (followsBy (a .pattern)) (c .before .before .before .before .before .before .before .rule-of .ensures) in
+    omega (arith, small, e)
 
 mul-out-2 : tie.Need-mul-out-2
 mul-out-2 c =
-    let s = c .before .before .before .before .before .before .before .before .before .before in
-    omega (arith, follows-small (s .args .pattern) (ruleIn (s .args .table .now) (s .args .k)) _ _ (s .pre .0 .1) (c .before .before .before .before .before .before .before .before .rule-of .ensures) (c .before .before .before .follows .ensures))
+    let s = c .before .before .before .before .before .before .before .before .before in
+    let a = s .args in
+    let small = follows-below (a .pattern) (ruleIn (a .table .now) (a .k)) (s .pre .0 .1) in
+    let e : c .before .before .before .follows .result ≡ followsBy (a .pattern) (ruleIn (a .table .now) (a .k)) = c .before .before .before .follows .ensures ∙ ap (followsBy (a .pattern)) (c .before .before .before .before .before .before .before .before .rule-of .ensures) in
+    omega (arith, small, e)
 
 element-write-out : tie.Need-element-write-out
 element-write-out c =
-    let s = c .before .before .before .before .before .before .before .before .before .before in
-    omega (arith, follows-small (s .args .pattern) (ruleIn (s .args .table .now) (s .args .k)) _ _ (s .pre .0 .1) (c .before .before .before .before .before .before .before .before .rule-of .ensures) (c .before .before .before .follows .ensures))
+    let s = c .before .before .before .before .before .before .before .before .before in
+    let a = s .args in
+    let small = follows-below (a .pattern) (ruleIn (a .table .now) (a .k)) (s .pre .0 .1) in
+    let e : c .before .before .before .follows .result ≡ followsBy (a .pattern) (ruleIn (a .table .now) (a .k)) = c .before .before .before .follows .ensures ∙ ap (followsBy (a .pattern)) (c .before .before .before .before .before .before .before .before .rule-of .ensures) in
+    omega (arith, small, e)
 
 returns : tie.Need-returns
 returns c =
-    let s = c .before .before .before .before .before .before .before .before .before .before in
+    let s = c .before .before .before .before .before .before .before .before .before in
     let a = s .args in
     let rule = c .before .before .before .before .before .before .before .before .rule-of .ensures in
     let matches = ap (matchesBy (a .pattern) (a .done)) (sym rule) ∙ sym (c .before .before .before .before .before .before .before .matches-rule .ensures) ∙ c .before .before .before .before .before .before .if1 .taken in
@@ -68,7 +83,7 @@ returns c =
 
 returns-2 : tie.Need-returns-2
 returns-2 c =
-    let a = c .before .before .before .before .args in
+    let a = c .before .before .before .args in
     let fails = ap (matchesBy (a .pattern) (a .done)) (sym (c .before .before .rule-of .ensures)) ∙ sym (c .before .matches-rule .ensures) ∙ c .if1 .left in
     gains-none (a .pattern) (a .from .now) (a .done) (a .out .now) (ruleIn (a .table .now) (a .k)) fails
 
@@ -84,7 +99,7 @@ gain-spec =
     mul-out
     element-copy-out-out
     mul-contexts
-    shared-slice-read-contexts
+    element-copy-out-contexts
     contexts-requires
     mul-out-2
     element-write-out

@@ -26,46 +26,46 @@ class-at-requires : tie.Need-class-at-requires Inv-loop μ-loop
 class-at-requires c κs = search needs
 
 first-of-requires : tie.Need-first-of-requires Inv-loop μ-loop
-first-of-requires c κs = rw (c .class-at .ensures, c .before .token-by .ensures) (class-small (tokenBy (c .before .before .before .before .args .pattern)))
+first-of-requires c κs = rw (c .class-at .ensures, c .before .token-by .ensures) (class-small (tokenBy (c .before .before .before .args .pattern)))
 
 loop-holds : tie.Need-loop-holds Inv-loop μ-loop
 loop-holds c =
-    let s = c .before .before .before .before .before in
+    let s = c .before .before .before .before in
     let a = s .args in
     let e = c .first-of .ensures ∙ ap (firstIn (a .table .now)) (c .before .class-at .ensures ∙ ap classAt (c .before .before .token-by .ensures)) in
-    walk-first (a .pattern) (a .from .now) (a .done) (a .table .now) (a .head) (s .pre .0) (c .first-of .result) e
+    walk-first (a .pattern) (a .from .now) (a .done) (a .table .now) (a .head) (s .pre) (c .first-of .result) e
 
 gain-requires : tie.Need-gain-requires Inv-loop μ-loop
 gain-requires c κs =
-    let s = c .before .before .before .before .before .before .before .before in
+    let s = c .before .before .before .before .before .before .before in
     let a = s .args in
     let l = c .before .before .loop in (
-      (omega (arith, s .pre .0 .ready .few), s .pre .0 .ready .small (l .k) (c .before .loop-test .taken)),
-      (s .pre .1, ap length (l .inv .is) ∙ words-size (a .pattern) (a .from .now) (a .done) (a .table .now) (l .k)),
+      (omega (arith, s .pre .ready .few), s .pre .ready .small (l .k) (c .before .loop-test .taken)),
+      ap length (l .inv .is) ∙ words-size (a .pattern) (a .from .now) (a .done) (a .table .now) (l .k),
     )
 
 next-of-requires : tie.Need-next-of-requires Inv-loop μ-loop
-next-of-requires c κs = omega (arith, c .before .before .before .before .before .before .before .before .before .pre .0 .ready .few)
+next-of-requires c κs = omega (arith, c .before .before .before .before .before .before .before .before .pre .ready .few)
 
 loop-less : tie.Need-loop-less Inv-loop μ-loop
 loop-less c =
-    let s = c .before .before .before .before .before .before .before .before .before .before in
+    let s = c .before .before .before .before .before .before .before .before .before in
     let l = c .before .before .before .before .loop in
-    let f = s .pre .0 .nexts (l .k) (c .before .before .before .loop-test .taken) in
+    let f = s .pre .nexts (l .k) (c .before .before .before .loop-test .taken) in
     omega (arith, f .from, c .next-of .ensures)
 
 loop-again : tie.Need-loop-again Inv-loop μ-loop
 loop-again c =
-    let s = c .before .before .before .before .before .before .before .before .before .before in
+    let s = c .before .before .before .before .before .before .before .before .before in
     let a = s .args in
     let l = c .before .before .before .before .loop in
-    walk-next (a .pattern) (a .from .now) (a .done) (a .table .now) (a .head) (s .pre .0) (l .k) (c .next-of .result) (l .out) _ (l .inv)
+    walk-next (a .pattern) (a .from .now) (a .done) (a .table .now) (a .head) (s .pre) (l .k) (c .next-of .result) (l .out) _ (l .inv)
     (c .before .before .before .loop-test .taken) (c .before .gain .ensures) (c .next-of .ensures)
 
 returns : tie.Need-returns Inv-loop μ-loop
 returns c =
     let l = c .before .loop in
-    let e : l .k ≡ c .before .before .before .before .before .before .before .args .head .rules = omega (arith, l .inv .most) in
+    let e : l .k ≡ c .before .before .before .before .before .before .args .head .rules = omega (arith, l .inv .most) in
     l .inv .is ∙ rw e
 
 pub words-after-spec : {M : Type 1} → statement M

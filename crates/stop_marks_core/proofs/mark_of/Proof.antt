@@ -7,7 +7,7 @@ use Rattle.stop_marks_core.proofs.mark_of.Statement.{statement}
 use Rattle.stop_marks_core.proofs.mark_of.Tie as tie
 
 returns : tie.Need-returns
-returns c = rw (ne-eqb (c .before .before .args .top .depth) 0 (c .if1 .taken))
+returns c = rw (ne-eqb (c .before .args .depth) 0 (c .if1 .taken))
 
 may-end-requires : tie.Need-may-end-requires
 may-end-requires c κs = search needs
@@ -17,7 +17,7 @@ number-requires c κs = search needs
 
 returns-2 : tie.Need-returns-2
 returns-2 c =
-    rw (eq-eqb (c .before .before .before .before .before .args .top .depth) 0 (c .before .before .before .if1 .left), c .before .before .if2 .taken)
+    rw (eq-eqb (c .before .before .before .before .args .depth) 0 (c .before .before .before .if1 .left), c .before .before .if2 .taken)
     (c .number .ensures ∙ ap one (c .before .may-end .ensures))
 
 may-end-requires-2 : tie.Need-may-end-requires-2
@@ -28,7 +28,7 @@ number-requires-2 c κs = search needs
 
 returns-3 : tie.Need-returns-3
 returns-3 c =
-    rw (eq-eqb (c .before .before .before .before .before .args .top .depth) 0 (c .before .before .before .if1 .left), c .before .before .if2 .left)
+    rw (eq-eqb (c .before .before .before .before .args .depth) 0 (c .before .before .before .if1 .left), c .before .before .if2 .left)
     (c .number2 .ensures ∙ ap one (c .before .may-end2 .ensures))
 
 pub mark-of-spec : {M : Type 1} → statement M

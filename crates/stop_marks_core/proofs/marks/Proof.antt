@@ -2,19 +2,21 @@
 use Prim.Native.Nat.{ℕ, _-_, _≤_}
 use native.Mathlib.Omega.{arith}
 use mathlib.Core.Path.{_∙_, ap}
+use mathlib.Core.Bool.{cond}
+use mathlib.Core.List.{List}
 use borrow.Author.Needs.{needs}
 use lib.ListN.{length, replicate, length-replicate, length-set}
 use Rattle.pair_states.specs.Wide.{wideGrammar}
-use Rattle.stop_marks_core.specs.Stack.{rowsOf, markOf}
-use Rattle.stop_marks_core.proofs.Turns.{Turn, depths, first-turn, next-turn, last-turn}
+use Rattle.stop_marks_core.specs.Stack.{markOf}
+use Rattle.stop_marks_core.proofs.Turns.{Turn, depths, other, first-turn, next-turn, last-turn}
 use Rattle.stop_marks_core.proofs.marks.Statement.{statement}
 use Rattle.stop_marks_core.proofs.marks.Tie as tie
 
 abbrev Inv-loop : tie.InvT-loop
-Inv-loop table head tokens out₀ empties stack₀ a₀ b₀ top₀ i₀ out stack a b top i = (i ≤ length tokens) × Turn (wideGrammar table head) tokens out₀ i (top .depth) (rowsOf top a b) stack out
+Inv-loop table head tokens out₀ empties stack₀ names₀ a₀ b₀ depth₀ first₀ i₀ out stack names a b depth first i = (i ≤ length tokens) × Turn (wideGrammar table head) tokens out₀ i depth (cond first a b) stack names out
 
 abbrev μ-loop : tie.MeasureT-loop
-μ-loop table head tokens out₀ empties stack₀ a₀ b₀ top₀ i₀ out stack a b top i = length tokens - i
+μ-loop table head tokens out₀ empties stack₀ names₀ a₀ b₀ depth₀ first₀ i₀ out stack names a b depth first i = length tokens - i
 
 ends-requires : tie.Need-ends-requires Inv-loop μ-loop
 ends-requires c κs = search needs
@@ -25,8 +27,11 @@ begin-requires c κs = search needs
 loop-holds : tie.Need-loop-holds Inv-loop μ-loop
 loop-holds c =
     let s = c .before .before .before .before in
-    let a = s .args in
-    (omega arith, first-turn (a .table .now) (a .head) (a .tokens .now) (a .out .now) (c .begin .result) (replicate 4224 0) (c .begin .ensures) (s .pre .1 .1 .0) (length-replicate {A = ℕ} 4224 0))
+    let a = s .args in (
+      omega arith,
+      first-turn (a .table .now) (a .head) (a .tokens .now) (a .out .now) (c .begin .result) (replicate 128 (replicate 32 0)) (replicate 128 0) (c .begin .ensures) (s .pre .1 .1 .0)
+          (length-replicate {A = List ℕ} 128 (replicate 32 0)) (length-replicate {A = ℕ} 128 0),
+    )
 
 mark-of-requires : tie.Need-mark-of-requires Inv-loop μ-loop
 mark-of-requires c κs = search needs
@@ -47,9 +52,9 @@ token-of-requires c κs =
 
 turn-requires : tie.Need-turn-requires Inv-loop μ-loop
 turn-requires c κs =
-    let t = c .before .before .before .before .before .before .before .before in
+    let t = c .before .before .before .before .before .before .before .before .before in
     let u = t .before .loop .inv .1 in
-    (t .before .before .before .before .before .before .pre .0, (rw (c .before .before .before .token-of .ensures) (depths u (t .loop-test .taken)), u .stack-size))
+    (t .before .before .before .before .before .before .pre .0, (rw (c .before .before .before .before .token-of .ensures) (depths u (t .loop-test .taken)), (u .stack-size, u .names-size)))
 
 add-i : tie.Need-add-i Inv-loop μ-loop
 add-i c = search needs
@@ -59,15 +64,16 @@ loop-less c = search needs
 
 loop-again : tie.Need-loop-again Inv-loop μ-loop
 loop-again c =
-    let t = c .before .before .before .before .before .before .before .before .before in
+    let t = c .before .before .before .before .before .before .before .before .before .before in
     let l = t .before .loop in
     let s = t .before .before .before .before .before .before in
     let a = s .args in
-    let mark = c .before .before .before .before .before .before .mark-of in (
+    let after = c .turn .last .1 .1 .1 in
+    let mark = c .before .before .before .before .before .before .before .mark-of in (
       omega arith,
-      next-turn (a .table .now) (a .head) (a .tokens .now) (a .out .now) (l .i) (l .top .depth) _ (l .stack) (l .out) (mark .result) (s .pre .1 .1 .1) (l .inv .1) (s .pre .0)
-          (mark .ensures ∙ ap (markOf (l .top .depth) (rowsOf (l .top) (l .a) (l .b))) (t .before .before .before .ends .ensures))
-          (c .turn .result .depth) _ _ (t .loop-test .taken) (rw (c .before .before .before .before .token-of .ensures) at (c .turn .ensures)),
+      next-turn (a .table .now) (a .head) (a .tokens .now) (a .out .now) (l .i) (l .depth) _ (l .stack) (l .names) (l .out) (mark .result) (s .pre .1 .1 .1) (l .inv .1) (s .pre .0)
+          (mark .ensures ∙ ap (markOf (l .depth) (cond (l .first) (l .a) (l .b))) (t .before .before .before .ends .ensures))
+          (c .turn .result) _ _ _ (t .loop-test .taken) (rw (c .before .before .before .before .before .token-of .ensures, other (l .first) (after .0) (after .1 .0)) at (c .turn .ensures)),
     )
 
 mark-of-requires-2 : tie.Need-mark-of-requires-2 Inv-loop μ-loop
@@ -85,8 +91,8 @@ returns c =
     let l = t .before .loop in
     let s = t .before .before .before .before .before .before in
     let a = s .args in
-    last-turn (a .table .now) (a .head) (a .tokens .now) (a .out .now) (l .i) (l .top .depth) _ (l .stack) (l .out) (c .mark-of2 .result) (s .pre .1 .1 .1) (l .inv .1) (s .pre .0)
-    (c .mark-of2 .ensures ∙ ap (markOf (l .top .depth) (rowsOf (l .top) (l .a) (l .b))) (t .before .before .before .ends .ensures))
+    last-turn (a .table .now) (a .head) (a .tokens .now) (a .out .now) (l .i) (l .depth) _ (l .stack) (l .names) (l .out) (c .mark-of2 .result) (s .pre .1 .1 .1) (l .inv .1) (s .pre .0)
+    (c .mark-of2 .ensures ∙ ap (markOf (l .depth) (cond (l .first) (l .a) (l .b))) (t .before .before .before .ends .ensures))
     (omega arith)
 
 pub marks-spec : {M : Type 1} → statement M

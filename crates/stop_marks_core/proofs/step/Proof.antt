@@ -14,11 +14,17 @@ after-mark-requires c κs = search needs
 enum-known-token-2 : tie.Need-enum-known-token-2
 enum-known-token-2 c = search needs
 
-save-requires : tie.Need-save-requires
-save-requires c κs =
-    let s = c .before .before .before .before .before in
-    let more = room (s .args .token) _ (s .args .depth) (c .before .before .before .token2 .given .1) (s .pre .1 .0 .1) in
-    (omega arith, (s .pre .1 .1, search needs))
+mul-t16 : tie.Need-mul-t16
+mul-t16 c = search needs
+
+element-set-from-stack : tie.Need-element-set-from-stack
+element-set-from-stack c = let s = c .before .before .before .before in room (s .args .token) _ (s .args .top .depth) (c .before .before .token2 .given .1) (s .pre .1 .0 .1)
+
+mul-names : tie.Need-mul-names
+mul-names c = search needs
+
+element-write-names : tie.Need-element-write-names
+element-write-names c = let s = c .before .before .before .before in room (s .args .token) _ (s .args .top .depth) (c .before .before .token2 .given .1) (s .pre .1 .0 .1)
 
 after-open-requires : tie.Need-after-open-requires
 after-open-requires c κs = search needs
@@ -37,15 +43,15 @@ returns c =
     let s = c .before .before .before .before .before in
     let a = s .args in
     rw (c .before .before .before .token .given .1)
-    (mark-step (a .table .now) (a .head) (a .rows .now) (a .stack .now) (s .pre .1 .1) _ (a .depth) _ (c .after-mark .ensures))
+    (mark-step (a .table .now) (a .top .head) (a .top .depth) (a .rows .now) (a .stack .now) (a .names .now) (s .pre .1 .1 .0) (s .pre .1 .1 .1) _ _ (c .after-mark .ensures))
 
 returns-2 : tie.Need-returns-2
 returns-2 c =
-    let s = c .before .before .before .before .before .before .before .before in
+    let s = c .before .before .before .before .before .before in
     let a = s .args in
-    let more = room (a .token) _ (a .depth) (c .before .before .before .before .before .before .token2 .given .1) (s .pre .1 .0 .1) in
-    rw (c .before .before .before .before .before .before .token2 .given .1, c .before .before .save .ensures .0)
-    (open-step (a .table .now) (a .head) (a .rows .now) (a .stack .now) (s .pre .1 .1) _ (a .depth) _ more (search needs) (c .before .before .save .ensures .1) (c .after-open .ensures))
+    let more = room (a .token) _ (a .top .depth) (c .before .before .before .before .token2 .given .1) (s .pre .1 .0 .1) in
+    rw (c .before .before .before .before .token2 .given .1)
+    (open-step (a .table .now) (a .top .head) (a .top .depth) (a .rows .now) (a .stack .now) (a .names .now) (s .pre .1 .1 .0) (s .pre .1 .1 .1) _ _ more (c .after-open .ensures))
 
 returns-3 : tie.Need-returns-3
 returns-3 c = rw (c .before .before .before .before .before .token3 .given .1) (c .closed .ensures)
@@ -57,7 +63,10 @@ step-spec =
     enum-known-token
     after-mark-requires
     enum-known-token-2
-    save-requires
+    mul-t16
+    element-set-from-stack
+    mul-names
+    element-write-names
     after-open-requires
     add-result
     enum-known-token-3
