@@ -1,5 +1,5 @@
 // Stop marks (document 01, "Readings"): which beginnings of the tokens have a reading, by the pair states of Definition 4.2 of the paper.
-// One pass from left to right. The states before and after a token are two arrays that take turns: no token copies a state's 32 words.
+// One pass from left to right. The states before and after a token are two arrays that take turns: the 32 words are copied at an open alone.
 use pair_words::Words;
 use tables::Head;
 use tables::Table;
@@ -25,7 +25,7 @@ type Stack = [Words; 128];
 // For each open step, the name of its open.
 type Names = [u16; 128];
 
-// The grammar's numbers, how many steps are open, and in which of two arrays the state is.
+// What a token is met with: the grammar's numbers, how many steps are open, and whether the first of the two arrays has the state.
 struct Top {
     head: Head,
     depth: usize,
@@ -41,7 +41,7 @@ fn number(b: bool) -> u8
     0
 }
 
-// The stop mark of a configuration: no step is open, and the top level may be finished.
+// The stop mark of a configuration, whose state is in a or in b: no step is open, and the top level may be finished.
 fn mark_of(depth: usize, first: bool, a: &Words, b: &Words, empties: u32) -> u8
     ensures { λ r. ⌜ r ≡ markOf depth (cond first (now (a .entry)) (now (b .entry))) empties ⌝ }
 {

@@ -1,5 +1,4 @@
 -- `step`: over each kind of token.
-use native.Mathlib.Omega.{arith}
 use Rattle.stop_marks_core.proofs.Stacks.{room, mark-step, open-step}
 use borrow.Author.Needs.{needs}
 use Rattle.stop_marks_core.proofs.step.Statement.{statement}
