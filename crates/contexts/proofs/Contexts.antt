@@ -1,6 +1,7 @@
 -- Contexts and words: the rules that can stand at a place are those that can stand before the tokens there.
-use Prim.Native.Nat.{ℕ, zero, suc}
-use mathlib.Core.Path.{_≡_, sym, _∙_}
+use Prim.Native.Nat.{ℕ, zero, suc, _<_}
+use native.Mathlib.Omega.{arith}
+use mathlib.Core.Path.{_≡_, refl, sym, _∙_}
 use mathlib.Core.Logic.{_≢_}
 use mathlib.Core.Bool.{Bool, true, false, cond, _&&_, _||_, or-false, and-true, and-false}
 use mathlib.Core.List.{List}
@@ -9,9 +10,11 @@ use Rattle.laws.proofs.Bools.{eqb-comm}
 use Rattle.laws.proofs.Any.{any-snoc}
 use Rattle.bits.specs.Bit.{bit, addBit}
 use Rattle.bits.proofs.Bits.{bit-zero, bit-add}
+use Rattle.vpg.specs.Tests.{anyClose}
 use Rattle.vpg.specs.Steps.{left}
 use Rattle.level_theory.specs.Masks.{lefts}
 use Rattle.tables.specs.Table.{ruleIn, rulesIn}
+use Rattle.history_file.specs.believed.HistoryFile.{tokenWith}
 use Rattle.contexts.specs.declared.Context.{Context}
 use Rattle.rule_index.specs.Classes.{classAt, classOf}
 use Rattle.rule_index.proofs.Classes.{class-apart}
@@ -30,10 +33,21 @@ level-bit t p (suc n) L =
     with-bit (appliesTo (ruleIn t n) p) (levelIn t p n) (left (ruleIn t n)) L _ (level-bit t p n L)
     ∙ sym (any-snoc (λ R. eqb (left R) L && appliesTo R p) (rulesIn t n) (ruleIn t n))
 
--- a rule of another class than that of the token here can't stand, and adds nothing to the level
-pub applies-apart : (t : List ℕ) (p : Context) (q : ℕ) → classOf (ruleIn t q) ≢ classAt (tokenHere p) → appliesTo (ruleIn t q) p ≡ false
-applies-apart t p q = class-apart (bit (p .inside)) (afterClose p) (tokenHere p) (ruleIn t q)
+-- the kinds of marks and opens
+no-close : (p : Context) → p .kind < 2 → anyClose (tokenHere p) ≡ false
+unfolding tokenWith
+no-close p h = go (p .kind) h
+  where
+    go : (k : ℕ) → k < 2 → anyClose (tokenWith k (p .name)) ≡ false
+    go zero h = refl
+    go (suc zero) h = refl
+    go (suc (suc k)) h = absurd (omega arith)
 
-pub level-apart : (t : List ℕ) (p : Context) (q : ℕ) → classOf (ruleIn t q) ≢ classAt (tokenHere p) → levelIn t p (suc q) ≡ levelIn t p q
-unfolding levelIn
-level-apart t p q d = rw (applies-apart t p q d)
+-- at a mark or an open a rule of another class can't stand, and adds nothing to the level
+module _ (t : List ℕ) (p : Context) (h : p .kind < 2) (q : ℕ) (d : classOf (ruleIn t q) ≢ classAt (tokenHere p)) where
+  pub applies-apart : appliesTo (ruleIn t q) p ≡ false
+  applies-apart = class-apart (bit (p .inside)) (afterClose p) (tokenHere p) (no-close p h) (ruleIn t q) d
+
+  pub level-apart : levelIn t p (suc q) ≡ levelIn t p q
+  unfolding levelIn
+  level-apart = rw applies-apart

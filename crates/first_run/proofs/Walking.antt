@@ -27,9 +27,9 @@ below-first P t {k = k} f other h q l = go (ltb q k) refl
     go false e = other q (f .none q (ltb-false q k e) l)
 
 module _ (t : List ℕ) (L : ℕ) (context : Context) where
-  -- a rule of another class than that of the token here doesn't fit
-  pub fits-apart : (q : ℕ) → classOf (ruleIn t q) ≢ classAt (tokenHere context) → ruleFits (ruleIn t q) L context ≡ false
-  fits-apart q d = rw (applies-apart t context q d) (and-false (eqb (left (ruleIn t q)) L))
+  -- at a mark or an open a rule of another class doesn't fit
+  pub fits-apart : context .kind < 2 → (q : ℕ) → classOf (ruleIn t q) ≢ classAt (tokenHere context) → ruleFits (ruleIn t q) L context ≡ false
+  fits-apart h q d = rw (applies-apart t context h q d) (and-false (eqb (left (ruleIn t q)) L))
 
   pub empty-smallest : (head : Head) (r : ℕ) → 2 ≤ context .kind → FirstEmpty t (head .rules) L r → Smallest t head L context r
   empty-smallest head r h f = record {

@@ -1,3 +1,4 @@
+pub mod Behind
 pub mod Positions
 pub mod Rewriting
 pub mod Successor

@@ -1,5 +1,5 @@
 -- The backward search, one position at a time.
-use Prim.Native.Nat.{ℕ, suc, _+_, _<_, _≤_}
+use Prim.Native.Nat.{ℕ, suc, _<_, _≤_}
 use native.Mathlib.Nat.{eq-or-lt-of-le}
 use native.Mathlib.Omega.{arith}
 use mathlib.Core.Path.{_≡_, sym, _∙_, ap}
@@ -8,34 +8,14 @@ use mathlib.Core.Bool.{true, false, _&&_}
 use mathlib.Core.List.{List}
 use lib.Dec.{eqb}
 use lib.ListN.{length, getD}
-use Rattle.laws.proofs.Bools.{and-right}
-use Rattle.bits.specs.Bit.{bit}
 use Rattle.vpg.specs.declared.Token.{Token}
 use Rattle.vpg.specs.Steps.{left}
 use Rattle.contexts.specs.declared.Context.{Context}
-use Rattle.contexts.specs.Context.{tokenHere, afterClose, appliesTo}
 use Rattle.tables.specs.Table.{ruleIn, rulesIn}
-use Rattle.rule_index.specs.Classes.{classAt, classOf}
-use Rattle.rule_index.specs.Index.{FirstFrom}
-use Rattle.rule_index.proofs.Classes.{stands-class}
 use Rattle.levels.specs.Levels.{Leveled, Stands}
 use Rattle.first_run.specs.Fill.{ruleFits}
-use Rattle.first_run.proofs.Walking.{below-first, fits-apart}
 use Rattle.next_run.specs.Next.{fitsAt, NoneFrom, LastAt}
-
--- no rule between the one in the buffer and r fits
-abbrev pub NoneBetween : List ℕ → ℕ → ℕ → Context → ℕ → Type 0
-NoneBetween t b L context r = (s : ℕ) → b < s → s < r → ruleFits (ruleIn t s) L context ≡ false
-
--- nor does one of another class
-pub between-first : (t : List ℕ) (b L : ℕ) (context : Context) {rules k n : ℕ} → FirstFrom t rules (classAt (tokenHere context)) k n → NoneBetween t b L context k → NoneBetween t b L context n
-between-first t b L context f h s l m = below-first (λ q. b < q → ruleFits (ruleIn t q) L context ≡ false) t f (λ q d e. fits-apart t L context q d) (λ q e g. h q g e) s m l
-
-pub between-more : (t : List ℕ) (b L : ℕ) (context : Context) (r : ℕ) → NoneBetween t b L context r → ruleFits (ruleIn t r) L context ≡ false → NoneBetween t b L context (r + 1)
-between-more t b L context r h q s l k = ⊎-elim (λ e. rw e q) (λ z. h s l z) (eq-or-lt-of-le (step k))
-  where
-    step : s < r + 1 → s ≤ r
-    step z = omega arith
+use Rattle.next_run.proofs.Behind.{NoneBetween}
 
 module _ (t : List ℕ) (n : ℕ) (w : List Token) (mask at e : List ℕ) (leveled : Leveled (rulesIn t n) w mask 0) where
   pub none-end : (p : ℕ) → length w < p → NoneFrom t n w at e p
@@ -45,11 +25,8 @@ module _ (t : List ℕ) (n : ℕ) (w : List Token) (mask at e : List ℕ) (level
     fits-same : (r : ℕ) → fitsAt t n w at p r ≡ ruleFits (ruleIn t r) (getD at p 0) context
     fits-same r = ap (λ b. eqb (left (ruleIn t r)) (getD at p 0) && b) (sym (stands (rulesIn t n) (λ q h l. leveled q (omega arith) l) (ruleIn t r)))
 
-    -- a rule that fits here is of the class of the token here
-    pub class-here : (r : ℕ) → fitsAt t n w at p r ≡ true → classOf (ruleIn t r) ≡ classAt (tokenHere context)
-    class-here r h =
-        stands-class (bit (context .inside)) (afterClose context) (tokenHere context) (ruleIn t r)
-        (and-right (eqb (left (ruleIn t r)) (getD at p 0)) (appliesTo (ruleIn t r) context) (sym (fits-same r) ∙ h))
+    pub fits-here : (r : ℕ) → fitsAt t n w at p r ≡ true → ruleFits (ruleIn t r) (getD at p 0) context ≡ true
+    fits-here r h = sym (fits-same r) ∙ h
 
     pub none-next : (r : ℕ) → n ≤ r → NoneBetween t (getD e p 0) (getD at p 0) context r → NoneFrom t n w at e (suc p) → NoneFrom t n w at e p
     none-next r h k x q l z s a b = ⊎-elim (λ i. here q i s a b) (λ i. x q i z s a b) (eq-or-lt-of-le l)

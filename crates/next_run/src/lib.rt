@@ -23,7 +23,7 @@ pub enum Found {
 }
 
 // The last position at which a larger rule still leads to a reading, and the smallest such rule there: it comes behind the one in the buffer in
-// its class.
+// its class. At a close that is the class of the nonterminal's empty rules, in which no other comes.
 pub fn last_position(
     table: &Table,
     head: Head,

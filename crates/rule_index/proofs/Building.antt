@@ -2,7 +2,7 @@
 use Prim.Native.Nat.{ℕ, _+_, _/_, _%_, _<_, _≤_}
 use native.Mathlib.Omega.{arith}
 use native.Mathlib.Decide.{decLt}
-use mathlib.Core.Path.{_≡_, refl, sym, _∙_}
+use mathlib.Core.Path.{_≡_, refl, sym, _∙_, ap}
 use mathlib.Core.Logic.{_≢_}
 use mathlib.Core.Bool.{Bool, true, false, cond, _&&_, or-true, or-false, and-false}
 use mathlib.Core.List.{List}
@@ -12,15 +12,13 @@ use lib.ListN.{length, getD, set, length-set}
 use lib.Seq.{getD-set-same, getD-set-other}
 use Rattle.bits.specs.Bit.{bit, addBit}
 use Rattle.bits.proofs.Bits.{bit-zero, bit-add}
-use Rattle.vpg.specs.declared.Rule.{Rule}
-use Rattle.vpg.specs.Steps.{left}
 use Rattle.tables.specs.declared.Head.{Head}
 use Rattle.tables.specs.Table.{ruleIn}
 use Rattle.tables.specs.Ready.{Ready}
-use Rattle.rule_index.specs.Classes.{classOf}
+use Rattle.rule_index.specs.Classes.{emptyClass, classOf}
 use Rattle.rule_index.specs.Index.{FirstFrom, FirstEmpty, Indexed, firstIn, nextIn, endIn, endsIn}
-use Rattle.rule_index.specs.Building.{SameRules, EmptyFrom, IndexedFrom, linked, noted, added, withEnd, EndsBelow, withEnds}
-use Rattle.rule_index.proofs.Classes.{rule-class-small}
+use Rattle.rule_index.specs.Building.{SameRules, IndexedFrom, linked, withEnd, EndsBelow, withEnds}
+use Rattle.rule_index.proofs.Classes.{empty-class}
 use Rattle.rule_index.proofs.Kept.{rule-kept, ready-kept, set-behind, same-on}
 
 module _ (t u : List ℕ) (same : SameRules t u) (rules : ℕ) (few : rules ≤ 128) where
@@ -32,20 +30,11 @@ module _ (t u : List ℕ) (same : SameRules t u) (rules : ℕ) (few : rules ≤ 
     none = λ q l m. rw (rule-kept t u (same .rules) q (omega (arith, f .most))) (f .none q l m);
   }
 
-  end-kept : (L k n : ℕ) → EmptyFrom t rules L k n → EmptyFrom u rules L k n
-  end-kept L k n f = record {
-    from = f .from;
-    most = f .most;
-    found = λ l. rw (rule-kept t u (same .rules) n (omega arith)) (f .found l);
-    none = λ q l m. rw (rule-kept t u (same .rules) q (omega (arith, f .most))) (f .none q l m);
-  }
-
   -- the index where its numbers stay
   index-kept : (k : ℕ) → ((i : ℕ) → 768 ≤ i → i < 1184 → getD u i 0 ≡ getD t i 0) → IndexedFrom t rules k → IndexedFrom u rules k
   index-kept k stay x = record {
     firsts = λ c l. rw (stay (768 + c) (omega arith) (omega arith)) (first-kept c k _ (x .firsts c l));
     nexts = λ q l m. rw (rule-kept t u (same .rules) q (omega arith), stay (1024 + q) (omega arith) (omega arith)) (first-kept _ (q + 1) _ (x .nexts q l m));
-    ends = λ L l. rw (stay (1152 + L) (omega arith) (omega arith)) (end-kept L k _ (x .ends L l));
   }
 
 -- from r on: at r, and behind it
@@ -68,17 +57,6 @@ module _ (t : List ℕ) (rules r : ℕ) where
     none = from-here (λ (q : ℕ). q < n → classOf (ruleIn t q) ≢ c) r (λ m. d) (f .none);
   }
 
-  end-here : (L : ℕ) → r < rules → ruleIn t r ≡ Rule.Empty L → EmptyFrom t rules L r r
-  end-here L l e = record { from = omega arith; most = omega arith; found = λ h. e; none = λ q h m. absurd (omega arith) }
-
-  end-over : (L n : ℕ) → ruleIn t r ≢ Rule.Empty L → EmptyFrom t rules L (r + 1) n → EmptyFrom t rules L r n
-  end-over L n d f = record {
-    from = omega (arith, f .from);
-    most = f .most;
-    found = f .found;
-    none = from-here (λ (q : ℕ). q < n → ruleIn t q ≢ Rule.Empty L) r (λ m. d) (f .none);
-  }
-
 -- one place more that holds v
 pub filled : (t : List ℕ) (i v : ℕ) → i < length t → ((k : ℕ) → 768 ≤ k → k < i → getD t k 0 ≡ v) → (k : ℕ) → 768 ≤ k → k < i + 1 → getD (set t i v) k 0 ≡ v
 filled t i v room all k l m = go (decLt k i)
@@ -92,17 +70,11 @@ pub index-none : (t : List ℕ) (rules : ℕ) → ((i : ℕ) → 768 ≤ i → i
 index-none t rules all = record {
   firsts = λ c l. rw (all (768 + c) (omega arith) (omega arith)) (record { from = omega arith; most = omega arith; of-class = λ h. absurd (omega arith); none = λ q h m. absurd (omega arith) });
   nexts = λ q l m. absurd (omega arith);
-  ends = λ L l. rw (all (1152 + L) (omega arith) (omega arith)) (record { from = omega arith; most = omega arith; found = λ h. absurd (omega arith); none = λ q h m. absurd (omega arith) });
 }
 
 module _ (t : List ℕ) (class r : ℕ) where
-  linked-same : SameRules t (linked t class r)
+  pub linked-same : SameRules t (linked t class r)
   linked-same = same-on (set-behind t (1024 + r) (firstIn t class) (omega arith)) (set-behind (set t (1024 + r) (firstIn t class)) (768 + class) r (omega arith))
-
-  noted-same : (R : Rule) → SameRules t (noted (linked t class r) R r)
-  noted-same (Rule.Empty L) = same-on linked-same (set-behind (linked t class r) (1152 + L) r (omega arith))
-  noted-same (Rule.Mark L c L₁) = linked-same
-  noted-same (Rule.Step L a L₁ b L₂) = linked-same
 
   -- a place that is none of the two
   stays : (i : ℕ) → i ≢ 1024 + r → i ≢ 768 + class → getD (linked t class r) i 0 ≡ getD t i 0
@@ -114,15 +86,6 @@ module _ (t : List ℕ) (class r : ℕ) where
 
     next-new : nextIn (linked t class r) r ≡ firstIn t class
     next-new = getD-set-other (set t (1024 + r) (firstIn t class)) (768 + class) (1024 + r) r 0 (λ e. omega arith) ∙ getD-set-same t (1024 + r) (firstIn t class) 0 (omega arith)
-
-    ends-stay : (L : ℕ) → L < 32 → endIn (linked t class r) L ≡ endIn t L
-    ends-stay L l = stays (1152 + L) (λ e. omega arith) (λ e. omega arith)
-
-    end-new : (L : ℕ) → L < 32 → endIn (set (linked t class r) (1152 + L) r) L ≡ r
-    end-new L l = getD-set-same (linked t class r) (1152 + L) r 0 (simp length-set (omega arith))
-
-    end-other : (K L : ℕ) → L < 32 → L ≢ K → endIn (set (linked t class r) (1152 + K) r) L ≡ endIn t L
-    end-other K L l d = getD-set-other (linked t class r) (1152 + K) (1152 + L) r 0 (λ e. d (omega arith)) ∙ ends-stay L l
 
 module _ (t : List ℕ) (rules r class : ℕ) (size : length t ≡ 1186) (few : rules ≤ 128) (here : r < rules)
     (is : classOf (ruleIn t r) ≡ class) (small : class < 256) (x : IndexedFrom t rules (r + 1)) where
@@ -141,44 +104,15 @@ module _ (t : List ℕ) (rules r class : ℕ) (size : length t ≡ 1186) (few : 
       (λ l. rw (is, next-new t class r size small (omega arith)) (x .firsts class small))
       (λ q l m. rw (stays t class r (1024 + q) (λ p. omega arith) (λ p. omega arith)) (x .nexts q l m))
 
-  index-linked : (u : List ℕ) → SameRules t u → ((i : ℕ) → i < 1152 → getD u i 0 ≡ getD (linked t class r) i 0)
-      → ((L : ℕ) → L < 32 → EmptyFrom t rules L r (endIn u L)) → IndexedFrom u rules r
-  index-linked u same stay ends = record {
-    firsts = λ c l. rw (stay (768 + c) (omega arith)) (first-kept t u same rules few c r _ (firsts-linked c l));
-    nexts = λ q l m. rw (rule-kept t u (same .rules) q (omega arith), stay (1024 + q) (omega arith)) (first-kept t u same rules few _ (q + 1) _ (nexts-linked q l m));
-    ends = λ L l. end-kept t u same rules few L r _ (ends L l);
+  -- rule r added to the index of the rules behind it
+  pub index-linked : IndexedFrom (linked t class r) rules r
+  index-linked = record {
+    firsts = λ c l. first-kept t (linked t class r) same rules few c r _ (firsts-linked c l);
+    nexts = λ q l m. rw (rule-kept t (linked t class r) (same .rules) q (omega arith)) (first-kept t (linked t class r) same rules few _ (q + 1) _ (nexts-linked q l m));
   }
-
-  ends-noted : (K : ℕ) → ruleIn t r ≡ Rule.Empty K → K < 32 → (L : ℕ) → L < 32 → EmptyFrom t rules L r (endIn (set (linked t class r) (1152 + K) r) L)
-  ends-noted K e k L l = go (eqb L K) refl
     where
-      go : (b : Bool) → eqb L K ≡ b → EmptyFrom t rules L r (endIn (set (linked t class r) (1152 + K) r) L)
-      go true p = let s : L ≡ K = eqb-true L K p in rw (s, end-new t class r size small (omega arith) K k) (end-here t rules r K here e)
-      go false p =
-          rw (end-other t class r size small (omega arith) K L l (eqb-false L K p))
-          (end-over t rules r L (endIn t L) (λ q. eqb-false L K p (let z : K ≡ L = cc in sym z)) (x .ends L l))
-
-  -- no empty rule
-  ends-left : ((L : ℕ) → ruleIn t r ≢ Rule.Empty L) → (L : ℕ) → L < 32 → EmptyFrom t rules L r (endIn (linked t class r) L)
-  ends-left d L l = rw (ends-stay t class r size small (omega arith) L l) (end-over t rules r L (endIn t L) (d L) (x .ends L l))
-
-  index-noted : (R : Rule) → ruleIn t r ≡ R → left R < 32 → IndexedFrom (noted (linked t class r) R r) rules r
-  index-noted (Rule.Empty K) e l =
-      index-linked (set (linked t class r) (1152 + K) r) (noted-same t class r (Rule.Empty K))
-      (λ i h. getD-set-other (linked t class r) (1152 + K) i r 0 (λ p. omega arith)) (ends-noted K e l)
-  index-noted (Rule.Mark M c M₁) e l =
-      index-linked (linked t class r) (linked-same t class r) (λ i h. refl) (ends-left (λ L q. let z : _≡_ {A = ℕ} 0 1 = cc in omega arith))
-  index-noted (Rule.Step M a M₁ b M₂) e l =
-      index-linked (linked t class r) (linked-same t class r) (λ i h. refl) (ends-left (λ L q. let z : _≡_ {A = ℕ} 0 1 = cc in omega arith))
-
-pub added-same : (t : List ℕ) (r : ℕ) → SameRules t (added t r)
-unfolding added
-added-same t r = noted-same t (classOf (ruleIn t r)) r (ruleIn t r)
-
--- rule r added to the index of the rules behind it
-pub index-added : (t : List ℕ) (rules r : ℕ) → length t ≡ 1186 → rules ≤ 128 → r < rules → left (ruleIn t r) < 32 → IndexedFrom t rules (r + 1) → IndexedFrom (added t r) rules r
-unfolding added
-index-added t rules r size few here l x = index-noted t rules r (classOf (ruleIn t r)) size few here refl (rule-class-small (ruleIn t r)) x (ruleIn t r) refl l
+      same : SameRules t (linked t class r)
+      same = linked-same t class r
 
 pub ends-none : (t : List ℕ) (rules : ℕ) → EndsBelow t rules 0 0
 ends-none t rules L = bit-zero L ∙ rw (le-ltb L 0 (omega arith))
@@ -226,16 +160,16 @@ module _ (t : List ℕ) (word : ℕ) where
       size = ends-same .size ∙ size;
       firsts = y .firsts;
       nexts = λ r l. y .nexts r (omega arith) l;
-      ends = λ L l. whole L (y .ends L l);
+      ends = λ L l. empties L (y .firsts (emptyClass L) (omega arith));
       mask = λ L. rw ends-word (w L ∙ below L (ltb L 32) refl);
     }
       where
         y : IndexedFrom (withEnds t word) (head .rules) 0
         y = index-kept t (withEnds t word) ends-same (head .rules) (ready .few) 0 (λ i l m. others-stay i m) x
 
-        whole : (L : ℕ) {n : ℕ} → EmptyFrom (withEnds t word) (head .rules) L 0 n → FirstEmpty (withEnds t word) (head .rules) L n
-        whole L f = record { most = f .most; found = f .found; none = λ q l. f .none q (omega arith) l }
+        empties : (L : ℕ) {n : ℕ} → FirstFrom (withEnds t word) (head .rules) (emptyClass L) 0 n → FirstEmpty (withEnds t word) (head .rules) L n
+        empties L f = record { most = f .most; found = λ l. empty-class _ L (f .of-class l); none = λ q l e. f .none q (omega arith) l (ap classOf e) }
 
         below : (L : ℕ) (b : Bool) → ltb L 32 ≡ b → (b && ltb (endIn t L) (head .rules)) ≡ (b && ltb (endIn (withEnds t word) L) (head .rules))
-        below L true e = let l = ltb-true L 32 e in rw (others-stay (1152 + L) (omega arith))
+        below L true e = let l = ltb-true L 32 e in rw (others-stay (768 + emptyClass L) (omega arith))
         below L false e = refl

@@ -1,4 +1,4 @@
--- The index behind the rules of a table: for each class its rules in rising order, each with the next one; for each nonterminal its empty rule.
+-- The index behind the rules of a table: for each class its rules in rising order, each with the next one.
 -- Law: passed (rule_index/proofs/Chains.antt)
 use Prim.Native.Nat.{ℕ, _+_, _*_, _<_, _≤_}
 use mathlib.Core.Path.{_≡_}
@@ -12,7 +12,7 @@ use Rattle.vpg.specs.declared.Rule.{Rule}
 use Rattle.tables.specs.declared.Head.{Head}
 use Rattle.tables.specs.Table.{ruleIn}
 use Rattle.tables.specs.Ready.{Ready}
-use Rattle.rule_index.specs.Classes.{classOf}
+use Rattle.rule_index.specs.Classes.{emptyClass, classOf}
 
 -- the first rule of a class
 abbrev pub firstIn : List ℕ → ℕ → ℕ
@@ -24,7 +24,7 @@ nextIn t r = getD t (1024 + r) 0
 
 -- the empty rule of a nonterminal
 abbrev pub endIn : List ℕ → ℕ → ℕ
-endIn t L = getD t (1152 + L) 0
+endIn t L = firstIn t (emptyClass L)
 
 -- the nonterminals that have an empty rule, as the digits of a word
 abbrev pub endsIn : List ℕ → ℕ

@@ -1,4 +1,4 @@
-// The index of a table: the rules that can stand at a token, in rising order, and the empty rule of each nonterminal.
+// The index of a table: the rules that can stand at a mark or an open, in rising order, and the empty rules of each nonterminal.
 // It stands behind the table's rules, so that it goes wherever they go.
 use tables::Head;
 use tables::Table;
@@ -12,25 +12,25 @@ ghost use Rattle.tables.specs.Table.{ruleIn};
 ghost use Rattle.tables.specs.Ready.{Ready};
 ghost use Rattle.rule_index.specs.Classes.{classAt, classOf};
 ghost use Rattle.rule_index.specs.Index.{firstIn, nextIn, endIn, endsIn, Indexed};
-ghost use Rattle.rule_index.specs.Building.{SameRules, IndexedFrom, EndsBelow, linked, noted, added, withEnd, withEnds};
+ghost use Rattle.rule_index.specs.Building.{SameRules, IndexedFrom, EndsBelow, linked, withEnd, withEnds};
 
-// The class of a token.
+// The class of a token; that of a close is no rule's.
 pub fn class_at(token: Token) -> usize
     ensures { λ r. ⌜ r ≡ classAt token ⌝ }
 {
     match token {
         Token::Mark(c) => 4 * (number(c.0) % 64),
         Token::Open(a) => 4 * (number(a.0) % 64) + 1,
-        Token::Close(_) => 2,
+        Token::Close(_) => 3,
     }
 }
 
-// The class of a rule.
+// The class of a rule. The empty rules of a nonterminal are one, so that a walk from one of them meets no rule of another nonterminal.
 pub fn class_of(rule: Rule) -> usize
     ensures { λ r. ⌜ r ≡ classOf rule ⌝ }
 {
     match rule {
-        Rule::Empty(_) => 2,
+        Rule::Empty(nonterminal) => 4 * number(nonterminal) + 2,
         Rule::Mark(_, c, _) => 4 * (number(c.0) % 64),
         Rule::Step(_, a, _, _, _) => 4 * (number(a.0) % 64) + 1,
     }
@@ -69,7 +69,7 @@ pub fn end_of(table: &Table, nonterminal: usize) -> usize
     requires { ⌜ nonterminal < 32 ⌝ }
     ensures { λ r. ⌜ r ≡ endIn (now (table .entry)) nonterminal ⌝ }
 {
-    number(table[1152 + nonterminal])
+    number(table[768 + (4 * nonterminal + 2)])
 }
 
 // The nonterminals that have an empty rule.
@@ -103,28 +103,13 @@ fn link(table: &mut Table, class: usize, r: usize)
     table[768 + class] = r as u16;
 }
 
-// Notes rule r as its nonterminal's where it is empty.
-fn note_end(table: &mut Table, rule: Rule, r: usize)
-    requires { ⌜ (left rule < 32) × (r < 128) ⌝ }
-    ensures { λ _. ⌜ now (table .exit) ≡ noted (now (table .entry)) rule r ⌝ }
-{
-    match rule {
-        Rule::Empty(nonterminal) => {
-            table[1152 + number(nonterminal)] = r as u16;
-        }
-        Rule::Mark(_, _, _) => {}
-        Rule::Step(_, _, _, _, _) => {}
-    }
-}
-
 // Adds rule r to the index of the rules behind it.
 fn add_rule(table: &mut Table, r: usize)
     requires { ⌜ (r < 128) × (left (ruleIn (now table) r) < 32) ⌝ }
-    ensures { λ _. ⌜ now (table .exit) ≡ added (now (table .entry)) r ⌝ }
+    ensures { λ _. ⌜ now (table .exit) ≡ linked (now (table .entry)) (classOf (ruleIn (now (table .entry)) r)) r ⌝ }
 {
     let rule = tables::rule_of(table, r);
     link(table, class_of(rule), r);
-    note_end(table, rule, r);
 }
 
 // Adds all rules, from the last to the first, so that each chain rises.

@@ -1,5 +1,5 @@
 -- What is written has the rules of the set, and the nonterminals with which they go on.
-use Prim.Native.Nat.{ℕ, zero, suc, _≤_}
+use Prim.Native.Nat.{ℕ, zero, suc, _<_, _≤_}
 use native.Mathlib.Omega.{arith}
 use mathlib.Core.Path.{_≡_, refl, sym, _∙_, ap}
 use mathlib.Core.Logic.{_≢_}
@@ -50,24 +50,25 @@ module _ (t : List ℕ) (here : ℕ) (context : Context) where
   abbrev Class : ℕ
   Class = classAt (tokenHere context)
 
-  -- a rule of another class than the token's is not in the set
-  other-class : (q : ℕ) → classOf (ruleIn t q) ≢ Class → Keeps q ≡ false
-  other-class q d = rw (applies-apart t context q d) (and-false (bit here (left (ruleIn t q))))
+  module _ (h : context .kind < 2) where
+    -- at a mark or an open a rule of another class is not in the set
+    other-class : (q : ℕ) → classOf (ruleIn t q) ≢ Class → Keeps q ≡ false
+    other-class q d = rw (applies-apart t context h q d) (and-false (bit here (left (ruleIn t q))))
 
-  -- so up to the next rule of the class the ways and the words stay
-  pub ways-passed : {rules k n : ℕ} → FirstFrom t rules (classAt (tokenHere context)) k n → waysIn t here context n ≡ waysIn t here context k
-  unfolding waysIn
-  ways-passed = passed Ways-of t Class same
-    where
-      same : (q : ℕ) → classOf (ruleIn t q) ≢ Class → Ways-of (suc q) ≡ Ways-of q
-      same q d = rw (other-class q d)
+    -- so up to the next rule of the class the ways and the words stay
+    pub ways-passed : {rules k n : ℕ} → FirstFrom t rules (classAt (tokenHere context)) k n → waysIn t here context n ≡ waysIn t here context k
+    unfolding waysIn
+    ways-passed = passed Ways-of t Class same
+      where
+        same : (q : ℕ) → classOf (ruleIn t q) ≢ Class → Ways-of (suc q) ≡ Ways-of q
+        same q d = rw (other-class q d)
 
-  pub words-passed : {rules k n : ℕ} → FirstFrom t rules (classAt (tokenHere context)) k n → wordsIn t here context n ≡ wordsIn t here context k
-  unfolding wordsIn
-  words-passed = passed Words-of t Class same
-    where
-      same : (q : ℕ) → classOf (ruleIn t q) ≢ Class → Words-of (suc q) ≡ Words-of q
-      same q d = rw (other-class q d)
+    pub words-passed : {rules k n : ℕ} → FirstFrom t rules (classAt (tokenHere context)) k n → wordsIn t here context n ≡ wordsIn t here context k
+    unfolding wordsIn
+    words-passed = passed Words-of t Class same
+      where
+        same : (q : ℕ) → classOf (ruleIn t q) ≢ Class → Words-of (suc q) ≡ Words-of q
+        same q d = rw (other-class q d)
 
   pub held-most : (n : ℕ) → waysIn t here context n .held ≤ n
   unfolding waysIn

@@ -112,7 +112,7 @@ fn first_here(table: &Table, context: Context) -> usize
 
 // The set of rules at a mark or an open where the nonterminals `here` can stand: only the rules of the token's class are looked at.
 fn class_set(table: &Table, head: Head, here: u32, context: Context, words: &mut [u32]) -> Ways
-    requires { ⌜ Indexed (now table) head ⌝ }
+    requires { ⌜ Indexed (now table) head × (context .kind < 2) ⌝ }
     requires { ⌜ length (now words) ≡ 4 ⌝ }
     ensures { λ x. ⌜ (x ≡ waysIn (now (table .entry)) here context (head .rules)) × (now (words .exit) ≡ wordsIn (now (table .entry)) here context (head .rules)) ⌝ }
 {
@@ -187,7 +187,7 @@ fn ways_turn(ways: Ways, here: u32, table: &Table, r: usize, context: Context) -
 
 // The ways on at a mark or an open.
 fn class_ways(table: &Table, head: Head, here: u32, context: Context) -> Ways
-    requires { ⌜ Indexed (now table) head ⌝ }
+    requires { ⌜ Indexed (now table) head × (context .kind < 2) ⌝ }
     ensures { λ x. ⌜ x ≡ waysIn (now (table .entry)) here context (head .rules) ⌝ }
 {
     let count = head.rules;

@@ -45,7 +45,7 @@ loop-holds c =
     let t = s .args .table .now in
     let p = s .args .context in
     let f = starts (s .pre) (tokenHere p) (c .before .class-at .result) (c .first-of .result) (c .before .class-at .ensures ∙ ap classAt (c .before .before .token-of .ensures)) (c .first-of .ensures) in
-    (f .most, sym (passed (levelIn t p) t (classAt (tokenHere p)) (level-apart t p) f), f .of-class)
+    (f .most, sym (passed (levelIn t p) t (classAt (tokenHere p)) (level-apart t p (c .before .before .before .if1 .left)) f), f .of-class)
 
 with-left-requires : tie.Need-with-left-requires Inv-loop μ-loop
 with-left-requires c κs =
@@ -69,7 +69,7 @@ loop-again c =
     let t = s .args .table .now in
     let p = s .args .context in
     let f = goes-on (s .pre) (l .loop .r) (classAt (tokenHere p)) (c .next-of .result) (c .before .before .loop-test .taken) (l .loop .inv .2 (c .before .before .loop-test .taken)) (c .next-of .ensures) in
-    (f .most, rw (c .before .with-left .ensures, l .loop .inv .1) (sym (passed (levelIn t p) t (classAt (tokenHere p)) (level-apart t p) f)), f .of-class)
+    (f .most, rw (c .before .with-left .ensures, l .loop .inv .1) (sym (passed (levelIn t p) t (classAt (tokenHere p)) (level-apart t p (l .before .before .before .before .if1 .left)) f)), f .of-class)
 
 returns-2 : tie.Need-returns-2 Inv-loop μ-loop
 returns-2 c = let e : c .before .loop .r ≡ c .before .before .before .before .before .before .before .args .head .rules = omega arith in rw (c .before .loop .inv .1, e)

@@ -46,7 +46,7 @@ loop-holds c =
     let s = c .before .before .before .before .before in
     let a = s .args in
     let f = starts (s .pre) (tokenHere (a .context)) (c .before .class-at .result) (c .first-of .result) (c .before .class-at .ensures ∙ ap classAt (c .before .before .token-of .ensures)) (c .first-of .ensures) in
-    (f .most, below-first _ (a .table .now) f (fits-apart (a .table .now) (a .nonterminal) (a .context)) (λ q h. absurd (omega arith)), f .of-class)
+    (f .most, below-first _ (a .table .now) f (fits-apart (a .table .now) (a .nonterminal) (a .context) (c .before .before .before .if1 .left)) (λ q h. absurd (omega arith)), f .of-class)
 
 fits-requires : tie.Need-fits-requires Inv-loop μ-loop
 fits-requires c κs =
@@ -80,7 +80,7 @@ loop-again c =
     let f = goes-on (s .pre) (l .loop .r) (classAt (tokenHere (a .context))) (c .next-of .result) (i .loop-test .taken) (l .loop .inv .2 (i .loop-test .taken)) (c .next-of .ensures) in
     let no = sym (c .before .before .fits2 .ensures) ∙ c .before .if2 .left in
     let h = below-more (λ q. ruleFits (ruleIn (a .table .now) q) (a .nonterminal) (a .context) ≡ false) (l .loop .r) (l .loop .inv .1) no in
-    (f .most, below-first _ (a .table .now) f (fits-apart (a .table .now) (a .nonterminal) (a .context)) (λ q k. h q (omega arith)), f .of-class)
+    (f .most, below-first _ (a .table .now) f (fits-apart (a .table .now) (a .nonterminal) (a .context) (l .before .before .before .before .if1 .left)) (λ q k. h q (omega arith)), f .of-class)
 
 returns-3 : tie.Need-returns-3 Inv-loop μ-loop
 returns-3 c =

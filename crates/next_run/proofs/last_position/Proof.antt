@@ -1,17 +1,17 @@
 -- `next_run::last_position` meets its contract.
 use borrow.Author.Needs.{needs}
 use Prim.Native.Nat.{suc, _+_, _-_, _≤_, _<_}
-use mathlib.Core.Path.{_≡_, sym, _∙_}
+use mathlib.Core.Path.{_≡_, refl, sym, _∙_}
 use native.Mathlib.Omega.{arith}
 use lib.ListN.{length, getD}
-use Rattle.contexts.specs.Context.{tokenHere}
 use Rattle.tables.specs.Table.{ruleIn}
-use Rattle.rule_index.specs.Classes.{classAt, classOf}
+use Rattle.rule_index.specs.Classes.{classOf}
 use Rattle.rule_index.proofs.Walk.{goes-on}
 use Rattle.history_file.specs.believed.HistoryFile.{tokensOf}
 use Rattle.levels.proofs.Levels.{tokens-length}
 use Rattle.next_run.specs.Next.{NoneFrom}
-use Rattle.next_run.proofs.Positions.{NoneBetween, between-first, between-more, none-end, class-here, none-next, found-at}
+use Rattle.next_run.proofs.Behind.{NoneBetween, between-first, between-more}
+use Rattle.next_run.proofs.Positions.{none-end, fits-here, none-next, found-at}
 use Rattle.next_run.proofs.last_position.Statement.{statement}
 use Rattle.next_run.proofs.last_position.Tie as tie
 
@@ -19,7 +19,7 @@ abbrev Inv-loop : tie.InvT-loop
 Inv-loop table tokens closes masks at reading count p context nonterminal old r₀ r =
     (getD reading p 0 < r)
     × NoneBetween table (getD reading p 0) nonterminal context r
-    × (r < count → classOf (ruleIn table r) ≡ classAt (tokenHere context))
+    × (r < count → classOf (ruleIn table r) ≡ classOf (ruleIn table (getD reading p 0)))
 
 abbrev μ-loop : tie.MeasureT-loop
 μ-loop table tokens closes masks at reading count p context nonterminal old r₀ r = count - r
@@ -79,9 +79,9 @@ loop-holds c =
     let b = getD (a .reading .now) p 0 in
     let x = q .context-at .result in
     let h = s .pre .1 .1 p (omega (arith, tokens-length (a .tokens .now))) in
-    let k = class-here (a .table .now) (a .head .rules) (tokensOf (a .tokens .now)) (a .masks .now) (a .at .now) (a .reading .now) (s .pre .0 .leveled) p x (q .context-at .ensures) b (h .1) in
-    let f = goes-on (s .pre .0 .indexed) b (classAt (tokenHere x)) (c .next-of .result) (h .0) k (c .next-of .ensures) in
-    (f .from, between-first (a .table .now) b (getD (a .at .now) p 0) x f (λ i m n. absurd (omega arith)), f .of-class)
+    let k = fits-here (a .table .now) (a .head .rules) (tokensOf (a .tokens .now)) (a .masks .now) (a .at .now) (a .reading .now) (s .pre .0 .leveled) p x (q .context-at .ensures) b (h .1) in
+    let f = goes-on (s .pre .0 .indexed) b _ (c .next-of .result) (h .0) refl (c .next-of .ensures) in
+    (f .from, between-first (a .table .now) b (getD (a .at .now) p 0) x k f (λ i m n. absurd (omega arith)), f .of-class)
 
 search-less : tie.Need-search-less Inv-loop μ-loop Inv-search μ-search
 search-less c = search needs
@@ -114,7 +114,7 @@ loop-less c =
     let q = i .before .before .before .before in
     let s = q .before .before .before .before .before in
     let x = q .context-at .result in
-    let f = goes-on (s .pre .0 .indexed) (i .loop .r) (classAt (tokenHere x)) (c .next-of2 .result) (n .loop-test .taken) (i .loop .inv .2 (n .loop-test .taken)) (c .next-of2 .ensures) in
+    let f = goes-on (s .pre .0 .indexed) (i .loop .r) _ (c .next-of2 .result) (n .loop-test .taken) (i .loop .inv .2 (n .loop-test .taken)) (c .next-of2 .ensures) in
     omega (arith, f .from)
 
 loop-again : tie.Need-loop-again Inv-loop μ-loop Inv-search μ-search
@@ -124,11 +124,15 @@ loop-again c =
     let q = i .before .before .before .before in
     let s = q .before .before .before .before .before in
     let x = q .context-at .result in
-    let f = goes-on (s .pre .0 .indexed) (i .loop .r) (classAt (tokenHere x)) (c .next-of2 .result) (n .loop-test .taken) (i .loop .inv .2 (n .loop-test .taken)) (c .next-of2 .ensures) in
+    let f = goes-on (s .pre .0 .indexed) (i .loop .r) _ (c .next-of2 .result) (n .loop-test .taken) (i .loop .inv .2 (n .loop-test .taken)) (c .next-of2 .ensures) in
     let a = s .args in
+    let p = q .before .before .search .p - 1 in
+    let b = getD (a .reading .now) p 0 in
+    let t = s .pre .1 .1 p (omega (arith, tokens-length (a .tokens .now))) in
+    let y = fits-here (a .table .now) (a .head .rules) (tokensOf (a .tokens .now)) (a .masks .now) (a .at .now) (a .reading .now) (s .pre .0 .leveled) p x (q .context-at .ensures) b (t .1) in
     let no = sym (c .before .before .fits2 .ensures) ∙ c .before .if2 .left in
     let h = between-more (a .table .now) _ _ _ (i .loop .r) (i .loop .inv .1) no in
-    (omega (arith, f .from), between-first (a .table .now) _ _ x f (λ j m k. h j m (omega arith)), f .of-class)
+    (omega (arith, f .from), between-first (a .table .now) b (getD (a .at .now) p 0) x y f (λ j m k. h j m (omega arith)), f .of-class)
 
 returns : tie.Need-returns Inv-loop μ-loop Inv-search μ-search
 returns c =

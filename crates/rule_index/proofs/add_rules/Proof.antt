@@ -1,12 +1,13 @@
 -- `rule_index::add_rules` meets its contract.
 use Prim.Native.Nat.{ℕ, _+_, _-_, _<_, _≤_}
 use native.Mathlib.Omega.{arith}
-use mathlib.Core.Path.{_≡_, _∙_}
+use mathlib.Core.Path.{_≡_, refl, _∙_}
 use borrow.Author.Needs.{needs}
 use Rattle.vpg.specs.Steps.{left}
 use Rattle.tables.specs.Table.{ruleIn}
 use Rattle.rule_index.specs.Building.{SameRules, IndexedFrom}
-use Rattle.rule_index.proofs.Building.{added-same, index-added}
+use Rattle.rule_index.proofs.Classes.{rule-class-small}
+use Rattle.rule_index.proofs.Building.{linked-same, index-linked}
 use Rattle.rule_index.proofs.Kept.{same-self, same-on, ready-kept}
 use Rattle.rule_index.proofs.add_rules.Statement.{statement}
 use Rattle.rule_index.proofs.add_rules.Tie as tie
@@ -44,9 +45,9 @@ loop-again c =
     let k = ready-kept _ t (l .loop .inv .1) _ (l .before .pre .1) in
     let e : r + 1 ≡ l .loop .due = omega arith in (
       omega arith,
-      rw (c .add-rule .ensures) (same-on (l .loop .inv .1) (added-same t _)),
+      rw (c .add-rule .ensures) (same-on (l .loop .inv .1) (linked-same t _ _)),
       rw (c .add-rule .ensures)
-          (index-added t _ r (l .loop .inv .1 .size ∙ l .before .pre .0) (k .few) (omega arith) (k .small r (omega arith) .0) (rw e (l .loop .inv .2))),
+          (index-linked t _ r _ (l .loop .inv .1 .size ∙ l .before .pre .0) (k .few) (omega arith) refl (rule-class-small (ruleIn t r) (k .small r (omega arith) .0)) (rw e (l .loop .inv .2))),
     )
 
 returns : tie.Need-returns Inv-loop μ-loop

@@ -3,9 +3,6 @@ use borrow.Author.Needs.{needs}
 use Rattle.rule_index.proofs.class_of.Statement.{statement}
 use Rattle.rule_index.proofs.class_of.Tie as tie
 
-enum-told : tie.Need-enum-told
-enum-told c = search needs
-
 enum-known-rule : tie.Need-enum-known-rule
 enum-known-rule c = search needs
 
@@ -14,6 +11,9 @@ number-requires c κs = search needs
 
 mul-result : tie.Need-mul-result
 mul-result c = search needs
+
+add-result : tie.Need-add-result
+add-result c = search needs
 
 enum-known-rule-2 : tie.Need-enum-known-rule-2
 enum-known-rule-2 c = search needs
@@ -24,30 +24,42 @@ number-requires-2 c κs = search needs
 mul-result-2 : tie.Need-mul-result-2
 mul-result-2 c = search needs
 
-add-result : tie.Need-add-result
-add-result c = search needs
+enum-known-rule-3 : tie.Need-enum-known-rule-3
+enum-known-rule-3 c = search needs
+
+number-requires-3 : tie.Need-number-requires-3
+number-requires-3 c κs = search needs
+
+mul-result-3 : tie.Need-mul-result-3
+mul-result-3 c = search needs
+
+add-result-2 : tie.Need-add-result-2
+add-result-2 c = search needs
 
 returns : tie.Need-returns
-returns c = search needs
+returns c = simp (c .number .ensures, c .before .before .rule .given .1)
 
 returns-2 : tie.Need-returns-2
-returns-2 c = simp (c .number .ensures, c .before .before .rule .given .1)
+returns-2 c = simp (c .number2 .ensures, c .before .before .rule2 .given .1)
 
 returns-3 : tie.Need-returns-3
-returns-3 c = simp (c .number2 .ensures, c .before .before .rule2 .given .1)
+returns-3 c = simp (c .number3 .ensures, c .before .before .rule3 .given .1)
 
 pub class-of-spec : {M : Type 1} → statement M
 class-of-spec =
     tie.close
     (tie.spec
-    enum-told
     enum-known-rule
     number-requires
     mul-result
+    add-result
     enum-known-rule-2
     number-requires-2
     mul-result-2
-    add-result
+    enum-known-rule-3
+    number-requires-3
+    mul-result-3
+    add-result-2
     returns
     returns-2
     returns-3)

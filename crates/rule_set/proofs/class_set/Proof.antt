@@ -37,25 +37,25 @@ unfolding waysIn wordsIn
 loop-holds c =
     let s = c .before .before .before .before .before .before .before in
     let p = s .args .context in
-    let f = starts (s .pre .0) (tokenHere p) (classAt (tokenHere p)) (c .first-here .result) refl (c .first-here .ensures) in
+    let f = starts (s .pre .0 .0) (tokenHere p) (classAt (tokenHere p)) (c .first-here .result) refl (c .first-here .ensures) in
     let cleared = c .before .before .before .before .clear .ensures in
-    (f .most, ap length cleared, c .before .no-ways .ensures ∙ sym (ways-passed (s .args .table .now) (s .args .here) p f), cleared ∙ sym (words-passed (s .args .table .now) (s .args .here) p f), f .of-class)
+    (f .most, ap length cleared, c .before .no-ways .ensures ∙ sym (ways-passed (s .args .table .now) (s .args .here) p (s .pre .0 .1) f), cleared ∙ sym (words-passed (s .args .table .now) (s .args .here) p (s .pre .0 .1) f), f .of-class)
 
 next-of-requires : tie.Need-next-of-requires Inv-loop μ-loop
-next-of-requires c κs = omega (arith, c .before .before .before .before .before .before .before .before .before .pre .0 .ready .few)
+next-of-requires c κs = omega (arith, c .before .before .before .before .before .before .before .before .before .pre .0 .0 .ready .few)
 
 keeps-requires : tie.Need-keeps-requires Inv-loop μ-loop
 keeps-requires c κs =
     let s = c .before .before .before .before .before .before .before .before .before .before in
-    (omega (arith, s .pre .0 .ready .few), s .pre .0 .ready .small _ (c .before .loop-test .taken))
+    (omega (arith, s .pre .0 .0 .ready .few), s .pre .0 .0 .ready .small _ (c .before .loop-test .taken))
 
 add-requires : tie.Need-add-requires Inv-loop μ-loop
 add-requires c κs =
     let l = c .before .before .before .before .before in
-    (l .loop .inv .1, omega (arith, l .before .before .before .before .before .before .before .before .pre .0 .ready .few))
+    (l .loop .inv .1, omega (arith, l .before .before .before .before .before .before .before .before .pre .0 .0 .ready .few))
 
 rule-of-requires : tie.Need-rule-of-requires Inv-loop μ-loop
-rule-of-requires c κs = omega (arith, c .before .before .before .before .before .before .before .before .before .before .before .before .before .before .before .before .pre .0 .ready .few)
+rule-of-requires c κs = omega (arith, c .before .before .before .before .before .before .before .before .before .before .before .before .before .before .before .before .pre .0 .0 .ready .few)
 
 ways-with-requires : tie.Need-ways-with-requires Inv-loop μ-loop
 ways-with-requires c κs =
@@ -63,12 +63,12 @@ ways-with-requires c κs =
     let s = l .before .before .before .before .before .before .before .before in
     let held : l .loop .ways .held ≡ waysIn (s .args .table .now) (s .args .here) (s .args .context) (l .loop .r) .held = ap (λ (x : Ways). x .held) (l .loop .inv .2) in
     let most = held-most (s .args .table .now) (s .args .here) (s .args .context) (l .loop .r) in
-    (omega (arith, s .pre .0 .ready .few, held, most), rw (c .rule-of .ensures) (s .pre .0 .ready .small _ (c .before .before .before .before .before .before .before .before .loop-test .taken)))
+    (omega (arith, s .pre .0 .0 .ready .few, held, most), rw (c .rule-of .ensures) (s .pre .0 .0 .ready .small _ (c .before .before .before .before .before .before .before .before .loop-test .taken)))
 
 loop-less : tie.Need-loop-less Inv-loop μ-loop
 loop-less c =
     let l = c .before .before .before .before .before .before .before .before .before .before in
-    omega (arith, c .before .before .before .before .before .before .before .before .next-of .ensures, l .before .before .before .before .before .before .before .before .pre .0 .nexts (l .loop .r) (c .before .before .before .before .before .before .before .before .before .loop-test .taken) .from)
+    omega (arith, c .before .before .before .before .before .before .before .before .next-of .ensures, l .before .before .before .before .before .before .before .before .pre .0 .0 .nexts (l .loop .r) (c .before .before .before .before .before .before .before .before .before .loop-test .taken) .from)
 
 loop-again : tie.Need-loop-again Inv-loop μ-loop
 unfolding waysIn wordsIn
@@ -77,22 +77,22 @@ loop-again c =
     let l = c .before .before .before .before .before .before .before .before .before .before in
     let s = l .before .before .before .before .before .before .before .before in
     let p = s .args .context in
-    let f = goes-on (s .pre .0) (l .loop .r) (classAt (tokenHere p)) (n .next-of .result) (n .before .loop-test .taken) (l .loop .inv .4 (n .before .loop-test .taken)) (n .next-of .ensures) in
+    let f = goes-on (s .pre .0 .0) (l .loop .r) (classAt (tokenHere p)) (n .next-of .result) (n .before .loop-test .taken) (l .loop .inv .4 (n .before .loop-test .taken)) (n .next-of .ensures) in
     let yes = sym (c .before .before .before .before .before .before .before .keeps .ensures) ∙ c .before .before .before .before .before .before .if1 .taken in
     let added = c .before .before .before .before .add .ensures in
     let ways : c .ways-with .result ≡ waysIn (s .args .table .now) (s .args .here) p (suc (l .loop .r)) = rw (yes, ← (l .loop .inv .2)) (c .ways-with .ensures ∙ rw (c .before .rule-of .ensures)) in
     let words : c .before .before .before .before .add .last .0 ≡ wordsIn (s .args .table .now) (s .args .here) p (suc (l .loop .r)) = rw (yes, ← (l .loop .inv .3)) added in (
       f .most,
       ap length added ∙ add-length 32 (l .loop .words) (l .loop .r) ∙ l .loop .inv .1,
-      ways ∙ sym (ways-passed (s .args .table .now) (s .args .here) p f),
-      words ∙ sym (words-passed (s .args .table .now) (s .args .here) p f),
+      ways ∙ sym (ways-passed (s .args .table .now) (s .args .here) p (s .pre .0 .1) f),
+      words ∙ sym (words-passed (s .args .table .now) (s .args .here) p (s .pre .0 .1) f),
       f .of-class,
     )
 
 loop-less-2 : tie.Need-loop-less-2 Inv-loop μ-loop
 loop-less-2 c =
     let l = c .before .before .before .before in
-    omega (arith, c .before .before .next-of .ensures, l .before .before .before .before .before .before .before .before .pre .0 .nexts (l .loop .r) (c .before .before .before .loop-test .taken) .from)
+    omega (arith, c .before .before .next-of .ensures, l .before .before .before .before .before .before .before .before .pre .0 .0 .nexts (l .loop .r) (c .before .before .before .loop-test .taken) .from)
 
 loop-again-2 : tie.Need-loop-again-2 Inv-loop μ-loop
 unfolding waysIn wordsIn
@@ -101,11 +101,11 @@ loop-again-2 c =
     let l = c .before .before .before .before in
     let s = l .before .before .before .before .before .before .before .before in
     let p = s .args .context in
-    let f = goes-on (s .pre .0) (l .loop .r) (classAt (tokenHere p)) (n .next-of .result) (n .before .loop-test .taken) (l .loop .inv .4 (n .before .loop-test .taken)) (n .next-of .ensures) in
+    let f = goes-on (s .pre .0 .0) (l .loop .r) (classAt (tokenHere p)) (n .next-of .result) (n .before .loop-test .taken) (l .loop .inv .4 (n .before .loop-test .taken)) (n .next-of .ensures) in
     let no = sym (c .before .keeps .ensures) ∙ c .if1 .left in
     let ways : l .loop .ways ≡ waysIn (s .args .table .now) (s .args .here) p (suc (l .loop .r)) = rw no (l .loop .inv .2) in
     let words : l .loop .words ≡ wordsIn (s .args .table .now) (s .args .here) p (suc (l .loop .r)) = rw no (l .loop .inv .3) in
-    (f .most, l .loop .inv .1, ways ∙ sym (ways-passed (s .args .table .now) (s .args .here) p f), words ∙ sym (words-passed (s .args .table .now) (s .args .here) p f), f .of-class)
+    (f .most, l .loop .inv .1, ways ∙ sym (ways-passed (s .args .table .now) (s .args .here) p (s .pre .0 .1) f), words ∙ sym (words-passed (s .args .table .now) (s .args .here) p (s .pre .0 .1) f), f .of-class)
 
 same-length : tie.Need-same-length Inv-loop μ-loop
 same-length c = c .before .loop .inv .1 ∙ sym (c .before .before .before .before .before .before .before .before .before .pre .1)

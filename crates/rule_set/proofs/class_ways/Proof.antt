@@ -30,8 +30,8 @@ unfolding waysIn
 loop-holds c =
     let s = c .before .before in
     let p = s .args .context in
-    let f = starts (s .pre) (tokenHere p) (classAt (tokenHere p)) (c .first-here .result) refl (c .first-here .ensures) in
-    (f .most, c .before .no-ways .ensures ∙ sym (ways-passed (s .args .table .now) (s .args .here) p f), f .of-class)
+    let f = starts (s .pre .0) (tokenHere p) (classAt (tokenHere p)) (c .first-here .result) refl (c .first-here .ensures) in
+    (f .most, c .before .no-ways .ensures ∙ sym (ways-passed (s .args .table .now) (s .args .here) p (s .pre .1) f), f .of-class)
 
 ways-turn-requires : tie.Need-ways-turn-requires Inv-loop μ-loop
 ways-turn-requires c κs =
@@ -39,16 +39,16 @@ ways-turn-requires c κs =
     let s = c .before .before .before .before in
     let held : l .ways .held ≡ waysIn (s .args .table .now) (s .args .here) (s .args .context) (l .r) .held = ap (λ (x : Ways). x .held) (l .inv .1) in
     let most = held-most (s .args .table .now) (s .args .here) (s .args .context) (l .r) in
-    (omega (arith, s .pre .ready .few, held, most), omega (arith, s .pre .ready .few), s .pre .ready .small _ (c .loop-test .taken))
+    (omega (arith, s .pre .0 .ready .few, held, most), omega (arith, s .pre .0 .ready .few), s .pre .0 .ready .small _ (c .loop-test .taken))
 
 next-of-requires : tie.Need-next-of-requires Inv-loop μ-loop
-next-of-requires c κs = omega (arith, c .before .before .before .before .before .pre .ready .few)
+next-of-requires c κs = omega (arith, c .before .before .before .before .before .pre .0 .ready .few)
 
 loop-less : tie.Need-loop-less Inv-loop μ-loop
 loop-less c =
     let l = c .before .before .before .loop in
     let s = c .before .before .before .before .before .before in
-    omega (arith, c .next-of .ensures, s .pre .nexts (l .r) (c .before .before .loop-test .taken) .from)
+    omega (arith, c .next-of .ensures, s .pre .0 .nexts (l .r) (c .before .before .loop-test .taken) .from)
 
 loop-again : tie.Need-loop-again Inv-loop μ-loop
 unfolding waysIn
@@ -57,9 +57,9 @@ loop-again c =
     let s = c .before .before .before .before .before .before in
     let p = s .args .context in
     let taken = c .before .before .loop-test .taken in
-    let f = goes-on (s .pre) (l .r) (classAt (tokenHere p)) (c .next-of .result) taken (l .inv .2 taken) (c .next-of .ensures) in
+    let f = goes-on (s .pre .0) (l .r) (classAt (tokenHere p)) (c .next-of .result) taken (l .inv .2 taken) (c .next-of .ensures) in
     let turned : c .before .ways-turn .result ≡ waysIn (s .args .table .now) (s .args .here) p (suc (l .r)) = rw (← (l .inv .1)) (c .before .ways-turn .ensures) in
-    (f .most, turned ∙ sym (ways-passed (s .args .table .now) (s .args .here) p f), f .of-class)
+    (f .most, turned ∙ sym (ways-passed (s .args .table .now) (s .args .here) p (s .pre .1) f), f .of-class)
 
 returns : tie.Need-returns Inv-loop μ-loop
 returns c = let e : c .before .loop .r ≡ c .before .before .before .before .args .head .rules = omega arith in rw (← e) (c .before .loop .inv .1)

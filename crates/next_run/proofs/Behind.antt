@@ -1,0 +1,50 @@
+-- The smallest larger rule that fits: it is of the class of the old one, which fits too.
+use Prim.Native.Nat.{ℕ, _+_, _<_, _≤_}
+use native.Mathlib.Nat.{eq-or-lt-of-le}
+use native.Mathlib.Omega.{arith}
+use mathlib.Core.Path.{_≡_, refl, sym, _∙_}
+use mathlib.Core.Logic.{_≢_, ⊎-elim}
+use mathlib.Core.Bool.{Bool, true, false}
+use mathlib.Core.List.{List}
+use borrow.Author.Tests.{eqb-true}
+use lib.Dec.{eqb}
+use Rattle.laws.proofs.Bools.{and-left, and-right}
+use Rattle.bits.specs.Bit.{bit}
+use Rattle.vpg.specs.Steps.{left}
+use Rattle.contexts.specs.declared.Context.{Context}
+use Rattle.contexts.specs.Context.{tokenHere, afterClose, appliesTo}
+use Rattle.tables.specs.Table.{ruleIn}
+use Rattle.rule_index.specs.Classes.{classOf}
+use Rattle.rule_index.specs.Index.{FirstFrom}
+use Rattle.rule_index.proofs.Classes.{one-class}
+use Rattle.first_run.specs.Fill.{ruleFits}
+use Rattle.first_run.proofs.Walking.{below-first}
+
+-- no rule between the old one and r fits
+abbrev pub NoneBetween : List ℕ → ℕ → ℕ → Context → ℕ → Type 0
+NoneBetween t old L context r = (s : ℕ) → old < s → s < r → ruleFits (ruleIn t s) L context ≡ false
+
+pub between-more : (t : List ℕ) (old L : ℕ) (context : Context) (r : ℕ) → NoneBetween t old L context r → ruleFits (ruleIn t r) L context ≡ false → NoneBetween t old L context (r + 1)
+between-more t old L context r h q s l k = ⊎-elim (λ e. rw e q) (λ z. h s l z) (eq-or-lt-of-le (step k))
+  where
+    step : s < r + 1 → s ≤ r
+    step z = omega arith
+
+module _ (t : List ℕ) (old L : ℕ) (context : Context) (fits : ruleFits (ruleIn t old) L context ≡ true) where
+  fits-class : (r : ℕ) → ruleFits (ruleIn t r) L context ≡ true → classOf (ruleIn t r) ≡ classOf (ruleIn t old)
+  fits-class r h =
+      one-class (bit (context .inside)) (afterClose context) (tokenHere context) (ruleIn t r) (ruleIn t old) (for r h ∙ sym (for old fits)) (stands r h) (stands old fits)
+    where
+      for : (q : ℕ) → ruleFits (ruleIn t q) L context ≡ true → left (ruleIn t q) ≡ L
+      for q x = eqb-true (left (ruleIn t q)) L (and-left (eqb (left (ruleIn t q)) L) (appliesTo (ruleIn t q) context) x)
+
+      stands : (q : ℕ) → ruleFits (ruleIn t q) L context ≡ true → appliesTo (ruleIn t q) context ≡ true
+      stands q x = and-right (eqb (left (ruleIn t q)) L) (appliesTo (ruleIn t q) context) x
+
+  -- nor does one of another class
+  pub between-first : {rules k n : ℕ} → FirstFrom t rules (classOf (ruleIn t old)) k n → NoneBetween t old L context k → NoneBetween t old L context n
+  between-first f h s l m = below-first (λ q. old < q → ruleFits (ruleIn t q) L context ≡ false) t f (λ q d e. go q d (ruleFits (ruleIn t q) L context) refl) (λ q e g. h q g e) s m l
+    where
+      go : (q : ℕ) → classOf (ruleIn t q) ≢ classOf (ruleIn t old) → (b : Bool) → ruleFits (ruleIn t q) L context ≡ b → b ≡ false
+      go q d true e = absurd (d (fits-class q e))
+      go q d false e = refl
