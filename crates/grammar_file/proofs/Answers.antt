@@ -26,14 +26,14 @@ unfolding fill
 length-fill [] t k = refl
 length-fill (r ∷ rs) t k = length-fill rs (putSix t k (sixOf r)) (k + 1) ∙ length-put t k (sixOf r)
 
-length-table : (rs : Rules) → length (tableOf rs) ≡ 1186
+length-table : (rs : Rules) → length (tableOf rs) ≡ 1154
 unfolding tableOf
-length-table rs = length-fill rs (replicate 1186 0) 0 ∙ length-replicate {A = ℕ} 1186 0
+length-table rs = length-fill rs (replicate 1154 0) 0 ∙ length-replicate {A = ℕ} 1154 0
 
 -- what an accepted file says, by the head and the table
 pub record GrammarIs (s table : List ℕ) (head : Head) : Type 0 where
   pub is : grammarOf s ≡ accepted (grammarIn table head)
-  pub size : length table ≡ 1186
+  pub size : length table ≡ 1154
   pub ready : Ready table head
 
 module _ (s : List ℕ) {r : GrammarAnswer} {table : List ℕ} (says : _≡_ {A = GrammarAnswer × List ℕ} (r, table) (grammarRead (grammarOf s))) where

@@ -27,13 +27,13 @@ pub enum GrammarAnswer {
 fn refused(table: &mut Table, e: u8) -> GrammarAnswer
     ensures { λ r. ⌜ (r, now (table .exit)) ≡ grammarRead (GrammarFile.refused e) ⌝ }
 {
-    *table = [0u16; 1186];
+    *table = [0u16; 1154];
     GrammarAnswer::Refused(e)
 }
 
 // The rules that the head announces, from a place to the end, into a table of zeros.
 fn rules_at(s: &[u8], from: usize, head: Head, table: &mut Table) -> GrammarAnswer
-    requires { ⌜ (head .rules ≤ 128) × (now table ≡ replicate 1186 0) ⌝ }
+    requires { ⌜ (head .rules ≤ 128) × (now table ≡ replicate 1154 0) ⌝ }
     ensures { λ r. ⌜ (r, now (table .exit)) ≡ grammarRead (rulesFrom (bytes (now (s .entry))) (head .nonterminals) (head .start) (head .rules) from []) ⌝ }
 {
     let count = head.rules;
@@ -62,7 +62,7 @@ fn rules_at(s: &[u8], from: usize, head: Head, table: &mut Table) -> GrammarAnsw
 
 // Reads the file into a table of zeros that the caller lends; a refused file leaves zeros.
 pub fn read_grammar(s: &[u8], table: &mut Table) -> GrammarAnswer
-    requires { ⌜ now table ≡ replicate 1186 0 ⌝ }
+    requires { ⌜ now table ≡ replicate 1154 0 ⌝ }
     ensures { λ r. ⌜ (r, now (table .exit)) ≡ grammarRead (grammarOf (now (s .entry))) ⌝ }
 {
     let first = numbers::count_at(s, 0, NONTERMINALS, 3);

@@ -129,7 +129,7 @@ fn list_refused(grammar: &[u8], e: u8, text: &mut [u8]) -> Cursor
 pub fn list(grammar: &[u8], history: &[u8], text: &mut [u8]) -> Cursor
     ensures { λ r. ⌜ (r, now (text .exit)) ≡ laid (atStart, now (text .entry)) (listing (now (grammar .entry)) (now (history .entry))) ⌝ }
 {
-    let mut table = [0u16; 1186];
+    let mut table = [0u16; 1154];
     let mut tokens = [0u32; 1024];
     let opened = service::open_files(grammar, history, 0, 0, &mut table, &mut tokens);
     let Opened::Files(head, n) = opened else {

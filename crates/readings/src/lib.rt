@@ -69,7 +69,7 @@ fn next_on(table: &Table, head: Head, tokens: &[u32], reading: &mut [u8]) -> Ans
 pub fn first_reading(grammar: &[u8], history: &[u8], reading: &mut [u8]) -> Answer
     ensures { λ r. ⌜ (said r, now (reading .exit)) ≡ callOn (subject (now (grammar .entry)) (now (history .entry)) (length (now (reading .entry)))) first (now (reading .entry)) ⌝ }
 {
-    let mut table = [0u16; 1186];
+    let mut table = [0u16; 1154];
     let mut tokens = [0u32; 1024];
     let opened = service::open_files(grammar, history, 1, reading.len(), &mut table, &mut tokens);
     let Opened::Files(head, n) = opened else {
@@ -82,7 +82,7 @@ pub fn first_reading(grammar: &[u8], history: &[u8], reading: &mut [u8]) -> Answ
 pub fn next_reading(grammar: &[u8], history: &[u8], reading: &mut [u8]) -> Answer
     ensures { λ r. ⌜ (said r, now (reading .exit)) ≡ callOn (subject (now (grammar .entry)) (now (history .entry)) (length (now (reading .entry)))) next (now (reading .entry)) ⌝ }
 {
-    let mut table = [0u16; 1186];
+    let mut table = [0u16; 1154];
     let mut tokens = [0u32; 1024];
     let opened = service::open_files(grammar, history, 1, reading.len(), &mut table, &mut tokens);
     let Opened::Files(head, n) = opened else {

@@ -31,7 +31,7 @@ module _ (t u : List ℕ) (same : SameRules t u) (rules : ℕ) (few : rules ≤ 
   }
 
   -- the index where its numbers stay
-  index-kept : (k : ℕ) → ((i : ℕ) → 768 ≤ i → i < 1184 → getD u i 0 ≡ getD t i 0) → IndexedFrom t rules k → IndexedFrom u rules k
+  index-kept : (k : ℕ) → ((i : ℕ) → 768 ≤ i → i < 1152 → getD u i 0 ≡ getD t i 0) → IndexedFrom t rules k → IndexedFrom u rules k
   index-kept k stay x = record {
     firsts = λ c l. rw (stay (768 + c) (omega arith) (omega arith)) (first-kept c k _ (x .firsts c l));
     nexts = λ q l m. rw (rule-kept t u (same .rules) q (omega arith), stay (1024 + q) (omega arith) (omega arith)) (first-kept _ (q + 1) _ (x .nexts q l m));
@@ -66,7 +66,7 @@ filled t i v room all k l m = go (decLt k i)
     go (no h) = let e : k ≡ i = omega arith in rw e (getD-set-same t i v 0 room)
 
 -- the index of no rules
-pub index-none : (t : List ℕ) (rules : ℕ) → ((i : ℕ) → 768 ≤ i → i < 1184 → getD t i 0 ≡ rules) → IndexedFrom t rules rules
+pub index-none : (t : List ℕ) (rules : ℕ) → ((i : ℕ) → 768 ≤ i → i < 1152 → getD t i 0 ≡ rules) → IndexedFrom t rules rules
 index-none t rules all = record {
   firsts = λ c l. rw (all (768 + c) (omega arith) (omega arith)) (record { from = omega arith; most = omega arith; of-class = λ h. absurd (omega arith); none = λ q h m. absurd (omega arith) });
   nexts = λ q l m. absurd (omega arith);
@@ -80,14 +80,14 @@ module _ (t : List ℕ) (class r : ℕ) where
   stays : (i : ℕ) → i ≢ 1024 + r → i ≢ 768 + class → getD (linked t class r) i 0 ≡ getD t i 0
   stays i a b = getD-set-other (set t (1024 + r) (firstIn t class)) (768 + class) i r 0 b ∙ getD-set-other t (1024 + r) i (firstIn t class) 0 a
 
-  module _ (size : length t ≡ 1186) (class-small : class < 256) (r-small : r < 128) where
+  module _ (size : length t ≡ 1154) (class-small : class < 256) (r-small : r < 128) where
     head-new : firstIn (linked t class r) class ≡ r
     head-new = getD-set-same (set t (1024 + r) (firstIn t class)) (768 + class) r 0 (simp length-set (omega arith))
 
     next-new : nextIn (linked t class r) r ≡ firstIn t class
     next-new = getD-set-other (set t (1024 + r) (firstIn t class)) (768 + class) (1024 + r) r 0 (λ e. omega arith) ∙ getD-set-same t (1024 + r) (firstIn t class) 0 (omega arith)
 
-module _ (t : List ℕ) (rules r class : ℕ) (size : length t ≡ 1186) (few : rules ≤ 128) (here : r < rules)
+module _ (t : List ℕ) (rules r class : ℕ) (size : length t ≡ 1154) (few : rules ≤ 128) (here : r < rules)
     (is : classOf (ruleIn t r) ≡ class) (small : class < 256) (x : IndexedFrom t rules (r + 1)) where
   firsts-linked : (c : ℕ) → c < 256 → FirstFrom t rules c r (firstIn (linked t class r) c)
   firsts-linked c l = go (eqb c class) refl
@@ -137,18 +137,18 @@ ends-more t rules n word x L = go (ltb (endIn t n) rules) refl (eqb L n) refl
 -- the word of these nonterminals, behind the rest of the index
 module _ (t : List ℕ) (word : ℕ) where
   pub ends-same : SameRules t (withEnds t word)
-  ends-same = same-on (set-behind t 1184 (word % 65536) (omega arith)) (set-behind (set t 1184 (word % 65536)) 1185 (word / 65536) (omega arith))
+  ends-same = same-on (set-behind t 1152 (word % 65536) (omega arith)) (set-behind (set t 1152 (word % 65536)) 1153 (word / 65536) (omega arith))
 
-  others-stay : (i : ℕ) → i < 1184 → getD (withEnds t word) i 0 ≡ getD t i 0
+  others-stay : (i : ℕ) → i < 1152 → getD (withEnds t word) i 0 ≡ getD t i 0
   others-stay i h =
-      getD-set-other (set t 1184 (word % 65536)) 1185 i (word / 65536) 0 (λ e. omega arith) ∙ getD-set-other t 1184 i (word % 65536) 0 (λ e. omega arith)
+      getD-set-other (set t 1152 (word % 65536)) 1153 i (word / 65536) 0 (λ e. omega arith) ∙ getD-set-other t 1152 i (word % 65536) 0 (λ e. omega arith)
 
-  module _ (size : length t ≡ 1186) where
-    low-digits : getD (withEnds t word) 1184 0 ≡ word % 65536
-    low-digits = getD-set-other (set t 1184 (word % 65536)) 1185 1184 (word / 65536) 0 (λ e. omega arith) ∙ getD-set-same t 1184 (word % 65536) 0 (omega arith)
+  module _ (size : length t ≡ 1154) where
+    low-digits : getD (withEnds t word) 1152 0 ≡ word % 65536
+    low-digits = getD-set-other (set t 1152 (word % 65536)) 1153 1152 (word / 65536) 0 (λ e. omega arith) ∙ getD-set-same t 1152 (word % 65536) 0 (omega arith)
 
-    high-digits : getD (withEnds t word) 1185 0 ≡ word / 65536
-    high-digits = getD-set-same (set t 1184 (word % 65536)) 1185 (word / 65536) 0 (simp length-set (omega arith))
+    high-digits : getD (withEnds t word) 1153 0 ≡ word / 65536
+    high-digits = getD-set-same (set t 1152 (word % 65536)) 1153 (word / 65536) 0 (simp length-set (omega arith))
 
     ends-word : endsIn (withEnds t word) ≡ word
     ends-word = rw (low-digits, high-digits) (omega arith)

@@ -35,4 +35,4 @@ EndsBelow t rules n word = (L : ℕ) → bit word L ≡ (ltb L n && ltb (endIn t
 
 -- a word of 32 digits as two numbers
 abbrev pub withEnds : List ℕ → ℕ → List ℕ
-withEnds t word = set (set t 1184 (word % 65536)) 1185 (word / 65536)
+withEnds t word = set (set t 1152 (word % 65536)) 1153 (word / 65536)

@@ -28,7 +28,7 @@ endIn t L = firstIn t (emptyClass L)
 
 -- the nonterminals that have an empty rule, as the digits of a word
 abbrev pub endsIn : List ℕ → ℕ
-endsIn t = getD t 1184 0 + 65536 * getD t 1185 0
+endsIn t = getD t 1152 0 + 65536 * getD t 1153 0
 
 -- n is the first rule from number k on that is of class c; where there is none, it is the number of rules
 pub record FirstFrom (t : List ℕ) (rules c k n : ℕ) : Type 0 where
@@ -46,7 +46,7 @@ pub record FirstEmpty (t : List ℕ) (rules L n : ℕ) : Type 0 where
 -- a table that the layers above can work on, and its index
 pub record Indexed (t : List ℕ) (head : Head) : Type 0 where
   pub ready : Ready t head
-  pub size : length t ≡ 1186
+  pub size : length t ≡ 1154
   pub firsts : (c : ℕ) → c < 256 → FirstFrom t (head .rules) c 0 (firstIn t c)
   pub nexts : (r : ℕ) → r < head .rules → FirstFrom t (head .rules) (classOf (ruleIn t r)) (r + 1) (nextIn t r)
   pub ends : (L : ℕ) → L < 32 → FirstEmpty t (head .rules) L (endIn t L)

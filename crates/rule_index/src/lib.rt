@@ -76,19 +76,19 @@ pub fn end_of(table: &Table, nonterminal: usize) -> usize
 pub fn ends(table: &Table) -> u32
     ensures { λ r. ⌜ r ≡ endsIn (now (table .entry)) ⌝ }
 {
-    let low = wide(table[1184]);
-    let high = wide(table[1185]);
+    let low = wide(table[1152]);
+    let high = wide(table[1153]);
     low + 65536 * high
 }
 
 // Makes the index of no rules: whatever is looked for, there is none.
 fn clear(table: &mut Table, rules: usize)
-    requires { ⌜ (length (now table) ≡ 1186) × (rules ≤ 128) ⌝ }
+    requires { ⌜ (length (now table) ≡ 1154) × (rules ≤ 128) ⌝ }
     ensures { λ _. ⌜ SameRules (now (table .entry)) (now (table .exit)) × IndexedFrom (now (table .exit)) rules rules ⌝ }
 {
     let none = rules as u16;
     let mut i: usize = 768;
-    while i < 1184 {
+    while i < 1152 {
         table[i] = none;
         i += 1;
     }
@@ -114,7 +114,7 @@ fn add_rule(table: &mut Table, r: usize)
 
 // Adds all rules, from the last to the first, so that each chain rises.
 fn add_rules(table: &mut Table, head: Head)
-    requires { ⌜ (length (now table) ≡ 1186) × Ready (now table) head × IndexedFrom (now table) (head .rules) (head .rules) ⌝ }
+    requires { ⌜ (length (now table) ≡ 1154) × Ready (now table) head × IndexedFrom (now table) (head .rules) (head .rules) ⌝ }
     ensures { λ _. ⌜ SameRules (now (table .entry)) (now (table .exit)) × IndexedFrom (now (table .exit)) (head .rules) 0 ⌝ }
 {
     let rules = head.rules;
@@ -153,13 +153,13 @@ fn ends_of(table: &Table, rules: usize) -> u32
 fn put_ends(table: &mut Table, word: u32)
     ensures { λ _. ⌜ now (table .exit) ≡ withEnds (now (table .entry)) word ⌝ }
 {
-    table[1184] = (word % 65536) as u16;
-    table[1185] = (word / 65536) as u16;
+    table[1152] = (word % 65536) as u16;
+    table[1153] = (word / 65536) as u16;
 }
 
 // Builds the index behind the rules of a table.
 pub fn index_rules(table: &mut Table, head: Head)
-    requires { ⌜ (length (now table) ≡ 1186) × Ready (now table) head ⌝ }
+    requires { ⌜ (length (now table) ≡ 1154) × Ready (now table) head ⌝ }
     ensures { λ _. ⌜ (take 768 (now (table .exit)) ≡ take 768 (now (table .entry))) × Indexed (now (table .exit)) head ⌝ }
 {
     clear(table, head.rules);

@@ -47,7 +47,7 @@ fn doubtful_on(table: &Table, head: Head, tokens: &[u32]) -> u32
 pub fn sets(grammar: &[u8], history: &[u8], words: &mut [u32]) -> Outcome
     ensures { λ r. ⌜ (outcomeSaid r, now (words .exit)) ≡ setsDue (now (grammar .entry)) (now (history .entry)) (now (words .entry)) ⌝ }
 {
-    let mut table = [0u16; 1186];
+    let mut table = [0u16; 1154];
     let mut tokens = [0u32; 1024];
     let opened = service::open_files(grammar, history, 4, words.len(), &mut table, &mut tokens);
     let Opened::Files(head, n) = opened else {
@@ -61,7 +61,7 @@ pub fn sets(grammar: &[u8], history: &[u8], words: &mut [u32]) -> Outcome
 pub fn doubtful_count(grammar: &[u8], history: &[u8]) -> CountAnswer
     ensures { λ r. ⌜ countSaid r ≡ countDue (now (grammar .entry)) (now (history .entry)) ⌝ }
 {
-    let mut table = [0u16; 1186];
+    let mut table = [0u16; 1154];
     let mut tokens = [0u32; 1024];
     let opened = service::open_files(grammar, history, 0, 0, &mut table, &mut tokens);
     let Opened::Files(head, n) = opened else {

@@ -161,7 +161,7 @@ fill-at (r ∷ rs) t k (suc j) d room h =
 -- the k-th rule of a table is the k-th of the list
 pub table-rule : (rs : List Rule) (k : ℕ) (d : Rule) → length rs ≤ 128 → k < length rs → ruleIn (tableOf rs) k ≡ getD rs k d
 unfolding tableOf
-table-rule rs k d few h = rw (zero-add k) at (fill-at rs (replicate 1186 0) 0 k d (omega arith) h)
+table-rule rs k d few h = rw (zero-add k) at (fill-at rs (replicate 1154 0) 0 k d (omega arith) h)
 
 -- the last of a list with one element more
 at-seam : {A : Type 0} (l : List A) (x : A) (r : ℕ) → r ≡ length l → getElem? (l ++ (x ∷ [])) r ≡ some x

@@ -52,7 +52,7 @@ fill t k (r ∷ rs) = fill (putSix t k (sixOf r)) (k + 1) rs
 
 -- the table of at most 128 rules
 unfoldable pub tableOf : List Rule → List ℕ
-tableOf rs = fill (replicate 1186 0) 0 rs
+tableOf rs = fill (replicate 1154 0) 0 rs
 
 abbrev pub sameSix : Six → Six → Bool
 sameSix a b =

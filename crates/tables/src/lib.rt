@@ -11,7 +11,7 @@ ghost use Rattle.tables.specs.Table.{sixOf, ruleFrom, sixIn, ruleIn, rul
 ghost use Rattle.tables.specs.Keys.{keyIn, hasKey, withKey, Keyed};
 
 // The rules of a grammar, at most 128, six numbers to each; behind them, from number 768 on, room for the index that crates/rule_index keeps.
-pub type Table = [u16; 1186];
+pub type Table = [u16; 1154];
 
 // What a grammar file says before its rules: how many nonterminals there are, the start, and how many rules.
 pub struct Head {

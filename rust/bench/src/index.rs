@@ -57,7 +57,8 @@ impl Index for Scan {
     }
 }
 
-/// The rules of each class, chained in rising order: the token's number modulo 256, and 2 for all closes and the end.
+/// The rules of each class, chained in rising order: the token's number modulo 256 for marks and opens, 4 L + 2 for the empty
+/// rules of stage L.
 pub struct Classes {
     first: [u8; 256],
     next: [u8; 128],
@@ -68,7 +69,7 @@ const NONE: u8 = 255;
 
 fn class_of(rule: &Rule) -> usize {
     match *rule {
-        Rule::Ends { .. } => 2,
+        Rule::Ends { from } => 4 * usize::from(from) + 2,
         Rule::Marks { mark, .. } => 4 * (usize::from(mark) % 64),
         Rule::Steps { open, .. } => 4 * (usize::from(open) % 64) + 1,
     }
@@ -76,7 +77,7 @@ fn class_of(rule: &Rule) -> usize {
 
 fn class_at(token: Option<Token>) -> usize {
     match token {
-        None | Some(Token::Close(_)) => 2,
+        None | Some(Token::Close(_)) => 3,
         Some(Token::Mark(name)) => 4 * (usize::from(name) % 64),
         Some(Token::Open(name)) => 4 * (usize::from(name) % 64) + 1,
     }

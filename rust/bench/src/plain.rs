@@ -254,10 +254,6 @@ pub fn next_reading<I: Index>(grammar: &[u8], history: &[u8], out: &mut [u8]) ->
         }
     }
     for place in (0..=n).rev() {
-        // A stage has one empty rule at most: where only these can stand there is no larger one.
-        if levels.ends_at(place).is_some() {
-            continue;
-        }
         for (number, rule) in levels.index.larger(rules, out[place].into()) {
             if levels.fits(rule, at[place], place) {
                 out[place] = number as u8;

@@ -21,7 +21,7 @@ use Rattle.grammar_file.proofs.rules_at.Tie as tie
 abbrev Inv-loop : tie.InvT-loop
 Inv-loop s from head table₀ count keys₀ at₀ k₀ table keys at k =
     (k ≤ head .rules)
-    × (length table ≡ 1186)
+    × (length table ≡ 1154)
     × (table ≡ tableOf (rulesIn table k))
     × (rulesFrom (bytes s) (head .nonterminals) (head .start) (head .rules - k) at (rulesIn table k) ≡ rulesFrom (bytes s) (head .nonterminals) (head .start) (head .rules) from [])
     × Keyed table k keys

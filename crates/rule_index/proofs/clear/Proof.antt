@@ -11,10 +11,10 @@ use Rattle.rule_index.proofs.clear.Statement.{statement}
 use Rattle.rule_index.proofs.clear.Tie as tie
 
 abbrev Inv-loop : tie.InvT-loop
-Inv-loop table₀ rules none i₀ table i = (768 ≤ i) × (i ≤ 1184) × SameRules table₀ table × ((k : ℕ) → 768 ≤ k → k < i → getD table k 0 ≡ rules)
+Inv-loop table₀ rules none i₀ table i = (768 ≤ i) × (i ≤ 1152) × SameRules table₀ table × ((k : ℕ) → 768 ≤ k → k < i → getD table k 0 ≡ rules)
 
 abbrev μ-loop : tie.MeasureT-loop
-μ-loop table₀ rules none i₀ table i = 1184 - i
+μ-loop table₀ rules none i₀ table i = 1152 - i
 
 cast-none : tie.Need-cast-none Inv-loop μ-loop
 cast-none c = search needs
