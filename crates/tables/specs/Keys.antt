@@ -12,7 +12,7 @@ use Rattle.tables.specs.Table.{sixOf, ruleIn}
 
 -- a number below 2,048 that equal rules share
 abbrev pub keyIn : Six → ℕ
-keyIn v = (1361 * v .0 + 3 * v .1 + 101 * v .2 + 443 * v .3 + 821 * v .4 + 1499 * v .5) % 2048
+keyIn v = (525 * v .0 + 1326 * v .1 + 1409 * v .2 + 513 * v .3 + 287 * v .4 + 1335 * v .5) % 2048
 
 abbrev pub keyOf : Rule → ℕ
 keyOf r = keyIn (sixOf r)
