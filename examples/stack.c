@@ -55,6 +55,9 @@ static void stop_marks(void)
     gaffmedlar_stop_marks(grammar, grammar_len, history, history_len, marks, sizeof marks);
 }
 
+static void step_bytes(void) { gaffmedlar_step_bytes(history, history_len, 0); }
+static void step_refusal(void) { gaffmedlar_step_refusal(history, history_len, 1022); }
+
 static size_t used(void (*function)(void))
 {
     memset(stack, PAINT, STACK);
@@ -131,7 +134,8 @@ int main(void)
     } all[] = {{"gaffmedlar_grammar_check", grammar_check, 8}, {"gaffmedlar_history_check", history_check, 8},
                {"gaffmedlar_first_reading", first, 32},        {"gaffmedlar_next_reading", next, 40},
                {"gaffmedlar_run_calls", run_calls, 48},        {"gaffmedlar_sets", sets, 32},
-               {"gaffmedlar_doubtful_count", doubtful, 32},    {"gaffmedlar_stop_marks", stop_marks, 28}};
+               {"gaffmedlar_doubtful_count", doubtful, 32},    {"gaffmedlar_stop_marks", stop_marks, 28},
+               {"gaffmedlar_step_bytes", step_bytes, 8},       {"gaffmedlar_step_refusal", step_refusal, 8}};
     int faults = 0;
     stack = malloc(STACK);
     if (stack == NULL)

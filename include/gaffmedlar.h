@@ -9,9 +9,10 @@
  *     0         all went well: accepted, written, counted, made
  *     100       "none": the history has no reading
  *     101       "no further": the reading in the buffer is the last one
- *     1 to 16   the number of the refusal, of which the constants below say what is wrong
+ *     1 to 17   the number of the refusal, of which the constants below say what is wrong
  *
- * The number of the first fault is given, the grammar's before the history's, both before 15, and 15 before 16.
+ * The number of the first fault is given, the grammar's before the history's, both before 15, and 15 before 16; the
+ * history's before 17. gaffmedlar_step_bytes gives no number: gaffmedlar_step_refusal gives it.
  *
  * Readings
  *
@@ -84,6 +85,7 @@ extern "C" {
 #define GAFFMEDLAR_REFUSED_TOO_DEEP 14           /* history: an open while 128 steps are open */
 #define GAFFMEDLAR_REFUSED_BUFFER_SHORT 15       /* call: a lent buffer shorter than its service writes or reads */
 #define GAFFMEDLAR_REFUSED_NOT_A_READING 16      /* call: the first n + 1 bytes handed to "next reading" are no reading of this history */
+#define GAFFMEDLAR_REFUSED_NOT_AN_OPEN 17        /* call: the position is not that of an open */
 
 /* The most that files which pass can have: use these for buffers of a fixed size. */
 #define GAFFMEDLAR_STAGES_MAX 32
@@ -108,6 +110,12 @@ struct gaffmedlar_history {
 struct gaffmedlar_count {
     uint8_t answer; /* 0, or the number of the refusal */
     uint32_t count; /* 0 where refused */
+};
+
+/* A part of a file: `length` bytes from file[start] on. */
+struct gaffmedlar_part {
+    size_t start;  /* 0 where refused */
+    size_t length; /* 0 where refused */
 };
 
 /* Checks a grammar file. Answers 0 with the counts, or 1 to 9. Writes nothing. Stack: 8 KiB. */
@@ -158,6 +166,17 @@ struct gaffmedlar_count gaffmedlar_doubtful_count(const uint8_t *grammar, size_t
 uint8_t gaffmedlar_stop_marks(const uint8_t *grammar, size_t grammar_len, const uint8_t *history, size_t history_len,
                               uint8_t *marks, size_t marks_len);
 
+/* Gives the bytes of one step: history[start] to history[start + length - 1] are those from the first byte of the open at
+ * the position through the last byte of its close. They hold the tokens of the step and nothing else. The position is
+ * counted in tokens, from 0, and may be any number.
+ * A step has 2 bytes at least, so length 0 says that it is refused; start is then 0 too, and gaffmedlar_step_refusal says
+ * why. Writes nothing. Stack: 8 KiB. */
+struct gaffmedlar_part gaffmedlar_step_bytes(const uint8_t *history, size_t history_len, size_t position);
+
+/* Says why gaffmedlar_step_bytes gives an empty part. Answers 0 where it gives a step, else 1, 2, 9 to 14, or 17 (the
+ * history passes, and no open stands at the position). Writes nothing. Stack: 8 KiB. */
+uint8_t gaffmedlar_step_refusal(const uint8_t *history, size_t history_len, size_t position);
+
 /* What a number says in words, for messages. */
 static inline const char *gaffmedlar_words(uint8_t answer)
 {
@@ -196,6 +215,8 @@ static inline const char *gaffmedlar_words(uint8_t answer)
         return "a lent buffer shorter than its service writes or reads";
     case GAFFMEDLAR_REFUSED_NOT_A_READING:
         return "the first n + 1 bytes handed to \"next reading\" are no reading of this history";
+    case GAFFMEDLAR_REFUSED_NOT_AN_OPEN:
+        return "the position is not that of an open";
     case GAFFMEDLAR_NO_READING:
         return "none: the history has no reading";
     case GAFFMEDLAR_NO_FURTHER:
@@ -285,6 +306,17 @@ static inline uint8_t gaffmedlar_stop_marks_(const uint8_t *grammar, size_t gram
                                  gaffmedlar_buffer_(marks, marks_len), marks_len);
 }
 
+static inline struct gaffmedlar_part gaffmedlar_step_bytes_(const uint8_t *history, size_t history_len,
+                                                            size_t position)
+{
+    return gaffmedlar_step_bytes(gaffmedlar_read_(history, history_len), history_len, position);
+}
+
+static inline uint8_t gaffmedlar_step_refusal_(const uint8_t *history, size_t history_len, size_t position)
+{
+    return gaffmedlar_step_refusal(gaffmedlar_read_(history, history_len), history_len, position);
+}
+
 #define gaffmedlar_grammar_check gaffmedlar_grammar_check_
 #define gaffmedlar_history_check gaffmedlar_history_check_
 #define gaffmedlar_first_reading gaffmedlar_first_reading_
@@ -293,6 +325,8 @@ static inline uint8_t gaffmedlar_stop_marks_(const uint8_t *grammar, size_t gram
 #define gaffmedlar_sets gaffmedlar_sets_
 #define gaffmedlar_doubtful_count gaffmedlar_doubtful_count_
 #define gaffmedlar_stop_marks gaffmedlar_stop_marks_
+#define gaffmedlar_step_bytes gaffmedlar_step_bytes_
+#define gaffmedlar_step_refusal gaffmedlar_step_refusal_
 
 #ifdef __cplusplus
 }

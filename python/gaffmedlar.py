@@ -23,6 +23,7 @@ from __future__ import annotations
 
 import ctypes
 import enum
+import operator
 import os
 from array import array
 from typing import Any, Iterable, Iterator, List, NamedTuple, Optional, Union
@@ -32,7 +33,7 @@ __version__ = "0.1.0"
 __all__ = [
     "Call", "CallAnswer", "First", "GrammarCounts", "Next", "READING_MAX", "REFUSALS", "Refusal", "RefusalRow", "Sets",
     "WORDS_MAX", "doubtful_count", "first_reading", "grammar_check", "history_check", "next_reading", "readings",
-    "run_calls", "sets", "sets_into", "stop_marks",
+    "run_calls", "sets", "sets_into", "step_bytes", "step_range", "stop_marks",
 ]
 
 READING_MAX = 1025
@@ -67,17 +68,18 @@ REFUSALS = tuple(RefusalRow(*row) for row in (
     (14, "TOO_DEEP", "history", "an open while 128 steps are open"),
     (15, "BUFFER_SHORT", "call", "a lent buffer shorter than its service writes or reads"),
     (16, "NOT_A_READING", "call", "the first n + 1 bytes handed to \"next reading\" are no reading of this history"),
+    (17, "NOT_AN_OPEN", "call", "the position is not that of an open"),
 ))
 """All refusals, in the order of their numbers. The table is that of docs/refusals.tsv."""
 
 
 class Refusal(Exception):
-    """A file or a buffer was turned down.
+    """A file, a buffer or a position was turned down.
 
-    number   document 01's number, 1 to 16
+    number   document 01's number, 1 to 17
     name     the number's name, as in the C header: "STILL_OPEN"
     words    what is wrong, in words
-    file     "grammar" or "history", whichever file is at fault; None where it is the call (15, 16)
+    file     "grammar" or "history", whichever file is at fault; None where it is the call (15 to 17)
     """
 
     def __init__(self, number: int, file: Optional[str]):
@@ -138,8 +140,14 @@ class _CountReply(ctypes.Structure):
     _fields_ = [("answer", ctypes.c_uint8), ("count", ctypes.c_uint32)]
 
 
+class _PartReply(ctypes.Structure):
+    _fields_ = [("start", ctypes.c_size_t), ("length", ctypes.c_size_t)]
+
+
 _READ = [ctypes.c_char_p, ctypes.c_size_t]
 _LENT = [ctypes.c_void_p, ctypes.c_size_t]
+_POSITION = [ctypes.c_size_t]
+_POSITION_MAX = ctypes.c_size_t(-1).value
 # What include/gaffmedlar.h declares: the reply, and a pointer and a number of elements for each file, list and buffer.
 _SERVICES = {
     "grammar_check": (_GrammarReply, _READ),
@@ -150,6 +158,8 @@ _SERVICES = {
     "sets": (ctypes.c_uint8, _READ + _READ + _LENT),
     "doubtful_count": (_CountReply, _READ + _READ),
     "stop_marks": (ctypes.c_uint8, _READ + _READ + _LENT),
+    "step_bytes": (_PartReply, _READ + _POSITION),
+    "step_refusal": (ctypes.c_uint8, _READ + _POSITION),
 }
 # Where the library lies, seen from this module's folder: installed, and in the repository.
 _PLACES = ("../libgaffmedlar.so", "../../libgaffmedlar.so", "../../lib/libgaffmedlar.so", "../target/shared/libgaffmedlar.so")
@@ -215,12 +225,12 @@ def _lent_words(buffer: Any) -> Any:
 
 
 def _call(service: str, *values: Any) -> Any:
-    """Calls a service with the address and the number of elements of each value.
+    """Calls a service with the address and the number of elements of each value, and a position as it is.
 
     A buffer's array is an argument of this function alone, so that an exception which is raised for the answer doesn't
     keep it, and with it the caller's buffer, from being released.
     """
-    arguments = [part for value in values for part in (value, len(value))]
+    arguments = [part for value in values for part in ((value,) if isinstance(value, int) else (value, len(value)))]
     return getattr(_library, "gaffmedlar_" + service)(*arguments)
 
 
@@ -368,6 +378,34 @@ def stop_marks(grammar: Any, history: Any, marks: Any = None) -> Any:
         marks = bytearray(history_check(history) + 1)
     _done(_call("stop_marks", grammar, history, _lent(marks)), grammar, history)
     return marks
+
+
+def step_range(history: Any, position: int) -> range:
+    """Where in the history file the bytes of the step stand whose open is at the position. Raises Refusal (1, 2, 9 to 14, 17).
+
+    They go from the first byte of that open through the last byte of its close. Positions are counted in tokens, from 0; a
+    number that is no position at all, -1 for instance, is refused by 17 too.
+    """
+    history, position = _file(history), operator.index(position)
+    # a number that doesn't fit is handed over as the largest one, where no open can stand
+    position = position if 0 <= position <= _POSITION_MAX else _POSITION_MAX
+    part = _call("step_bytes", history, position)
+    if part.length == 0:  # a step has two bytes at least
+        raise _refusal(_call("step_refusal", history, position), None, history)
+    return range(part.start, part.start + part.length)
+
+
+def step_bytes(history: Any, position: int) -> memoryview:
+    """The bytes of the step whose open stands at the position, as part of the caller's own. Raises Refusal as step_range does.
+
+    It is a memoryview of the object that was handed over, not a copy; bytes(..) of it is one. A bytearray can't change its
+    length as long as such a view of it is held.
+    """
+    place = step_range(history, position)
+    view = memoryview(history)
+    if view.ndim != 1:
+        view = view.cast("B")
+    return view[place.start:place.stop]
 
 
 def readings(grammar: Any, history: Any) -> Iterator[bytes]:

@@ -6,6 +6,7 @@ SERVICES = [
     ("calls", []),
     ("sets", []),
     ("stop_marks", []),
+    ("step_bytes", ["step_bytes", "step_check"]),
     ("gaffmedlar", []),
     ("listing_output", []),
 ]

@@ -1,9 +1,12 @@
 // The services for C and for languages that call C. Each answers one number, or a struct with the number and the counts: 0 where all went
-// well, 100 for "none", 101 for "no further", else document 01's number of the refusal.
+// well, 100 for "none", 101 for "no further", else document 01's number of the refusal. A part of a file is a struct with its place alone, and
+// another function says the number.
 use files::GrammarCheck;
 use files::HistoryCheck;
 use service::Outcome;
 use sets::CountAnswer;
+use step_bytes::StepCheck;
+use step_bytes::StepPlace;
 ghost use mathlib.Core.Path.{_≡_};
 ghost use lib.ListN.{length};
 ghost use Rattle.listing_model.specs.believed.Listing.{first, next};
@@ -16,7 +19,8 @@ ghost use Rattle.readings.specs.believed.Answers.{subject};
 ghost use Rattle.calls.specs.believed.CallList.{coded, callsDue};
 ghost use Rattle.sets.specs.believed.Sets.{setsDue, countDue};
 ghost use Rattle.stop_marks.specs.believed.StopMarks.{marksDue};
-ghost use Rattle.gaffmedlar.specs.believed.Wire.{grammarWire, historyWire, countWire, outcomeCode, outcomeWire, callsWire};
+ghost use Rattle.step_bytes.specs.believed.StepBytes.{stepOf, numberIn};
+ghost use Rattle.gaffmedlar.specs.believed.Wire.{grammarWire, historyWire, countWire, outcomeCode, outcomeWire, callsWire, partWire, stepCode};
 
 // 0 and the counts of an accepted grammar; or the number of the refusal, and zeros.
 #[repr(C)]
@@ -38,6 +42,13 @@ pub struct HistoryReply {
 pub struct CountReply {
     pub answer: u8,
     pub count: u32,
+}
+
+// Where a part of a file starts, and how many bytes it has; zeros where it is refused.
+#[repr(C)]
+pub struct PartReply {
+    pub start: usize,
+    pub length: usize,
 }
 
 // 0, or the number of the refusal.
@@ -143,4 +154,31 @@ pub extern "C" fn gaffmedlar_stop_marks(grammar: &[u8], history: &[u8], marks: &
     ensures { λ r. ⌜ (r, now (marks .exit)) ≡ outcomeWire (marksDue (now (grammar .entry)) (now (history .entry)) (now (marks .entry))) ⌝ }
 {
     outcome_code(stop_marks::stop_marks(grammar, history, marks))
+}
+
+// The bytes of the step whose open stands at the position: where in the history they start, and how many there are.
+#[no_mangle]
+pub extern "C" fn gaffmedlar_step_bytes(history: &[u8], position: usize) -> PartReply
+    ensures { λ r. ⌜ r ≡ partWire (stepOf (now (history .entry)) position) ⌝ }
+{
+    let place = step_bytes::locate(history, position);
+    match place {
+        StepPlace::Part(start, length) => PartReply { start, length },
+        StepPlace::Refused(_) => PartReply {
+            start: 0,
+            length: 0,
+        },
+    }
+}
+
+// Why there is no step at the position; 0 where there is one.
+#[no_mangle]
+pub extern "C" fn gaffmedlar_step_refusal(history: &[u8], position: usize) -> u8
+    ensures { λ r. ⌜ r ≡ stepCode (numberIn (stepOf (now (history .entry)) position)) ⌝ }
+{
+    let check = step_bytes::step_check(history, position);
+    match check {
+        StepCheck::Found => 0,
+        StepCheck::Refused(e) => e,
+    }
 }

@@ -2,4 +2,5 @@ pub mod Accepted
 pub mod Answers
 pub mod BothWays
 pub mod Padded
+pub mod Shapes
 pub mod Tokens

@@ -20,6 +20,10 @@ below-at limit [] i b h = absurd (omega arith)
 below-at limit (n ∷ ns) zero b h = b .0
 below-at limit (n ∷ ns) (suc i) b h = below-at limit ns i (b .1) (omega arith)
 
+pub below-all : (limit : ℕ) (ns : List ℕ) → ((i : ℕ) → getD ns i 0 < limit) → AllBelow limit ns
+below-all limit [] h = tt
+below-all limit (n ∷ ns) h = (h 0, below-all limit ns (λ i. h (suc i)))
+
 pub below-append : (limit : ℕ) (ns ms : List ℕ) → AllBelow limit ns → AllBelow limit ms → AllBelow limit (ns ++ ms)
 below-append limit [] ms b c = c
 below-append limit (n ∷ ns) ms b c = (b .0, below-append limit ns ms (b .1) c)
@@ -60,6 +64,19 @@ shortest-some n = go (ltb n 128)
     go : (t : Bool) → 0 < length (cond t (n ∷ []) ((n % 128 + 128) ∷ (n / 128) ∷ []))
     go true = omega arith
     go false = omega arith
+
+pub shortest-most : (n : ℕ) → length (shortest n) ≤ 3
+unfolding shortest
+shortest-most n = go (ltb n 128)
+  where
+    go : (t : Bool) → length (cond t (n ∷ []) ((n % 128 + 128) ∷ (n / 128) ∷ [])) ≤ 3
+    go true = omega arith
+    go false = omega arith
+
+pub written-append : (ns ms : List ℕ) → written (ns ++ ms) ≡ written ns ++ written ms
+unfolding written
+written-append [] ms = refl
+written-append (n ∷ ns) ms = rw (written-append ns ms, append-assoc)
 
 apart : {e n next : ℕ} → Refused e ≢ Number n next
 apart h = let z : _≡_ {A = ℕ} 0 1 = cc in omega arith

@@ -1,7 +1,9 @@
 // Bytes to numbers: one number at a place of a file, and a number that must stay below a limit.
 ghost use mathlib.Core.Path.{_≡_};
 ghost use Prim.Native.Nat.{_≤_};
+ghost use lib.ListN.{length};
 ghost use Rattle.numbers.specs.believed.Number.{numberAt};
+ghost use Rattle.numbers.specs.Written.{shortest};
 ghost use Rattle.numbers.specs.Refusals.{refusalOfNumber, refusalOfField};
 ghost use Rattle.numbers.specs.believed.Field.{fieldAt, countAt};
 
@@ -15,6 +17,16 @@ pub enum NumberRead {
 pub enum FieldRead {
     Field(u16, usize),
     Refused(u8),
+}
+
+// How many bytes a number is written in.
+pub fn size_of(n: u32) -> usize
+    ensures { λ r. ⌜ r ≡ length (shortest n) ⌝ }
+{
+    if n < 128 {
+        return 1;
+    }
+    2
 }
 
 pub fn number_at(s: &[u8], at: usize) -> NumberRead

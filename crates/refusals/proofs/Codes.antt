@@ -1,4 +1,4 @@
--- Every refusal has a number from 1 to 16, so an answer can be read back from its code.
+-- Every refusal of a service with both files has a number from 1 to 16, so an answer can be read back from its code.
 use Prim.Native.Nat.{ℕ, suc, _+_, _*_}
 use native.Mathlib.Omega.{arith}
 use mathlib.Core.Path.{_≡_, refl}

@@ -1,2 +1,3 @@
 pub mod Codes
 pub mod Readers
+pub mod Steps

@@ -1,13 +1,17 @@
 -- An answer read back from its code, and the numbers that a refusal can have.
 -- Law: codes-read-back, outcomes-read-back (refusals/proofs/Codes.antt)
+-- Law: step-codes (refusals/proofs/Steps.antt)
 use Prim.Native.Nat.{ℕ, _≤_}
+use mathlib.Core.Path.{_≡_}
+use mathlib.Core.Logic.{_⊎_}
 use mathlib.Core.Bool.{cond}
+use mathlib.Core.Option.{Option, none, some}
 use lib.Dec.{eqb}
 use Rattle.listing_model.specs.believed.Listing.{Answer, written, no-reading, no-further, refused}
 use Rattle.service.specs.believed.Given.{Given}
 use Rattle.service.specs.believed.Given as service
 
--- the numbers of document 01's table
+-- the numbers of the services that take both files
 abbrev pub Numbered : ℕ → Type 0
 Numbered e = (1 ≤ e) × (e ≤ 16)
 
@@ -18,3 +22,11 @@ answerOf k = cond (eqb k 0) written (cond (eqb k 100) no-reading (cond (eqb k 10
 -- of a service that only writes
 abbrev pub outcomeOf : ℕ → Given Unit
 outcomeOf k = cond (eqb k 0) service.written (service.refused k)
+
+-- the numbers for the bytes of one step: those of a history file, and 17
+abbrev pub StepNumbered : ℕ → Type 0
+StepNumbered e = ((1 ≤ e) × (e ≤ 2)) ⊎ (((9 ≤ e) × (e ≤ 14)) ⊎ (e ≡ 17))
+
+-- 0 says that there is no number
+abbrev pub numberOf : ℕ → Option ℕ
+numberOf k = cond (eqb k 0) none (some k)

@@ -1,4 +1,5 @@
-//! One case: two files and the lent buffers of every service; and the comparison of both sides on it.
+//! One case: two files, the lent buffers of every service and a position; and the comparison of both sides on it.
+use frames::Token;
 use gaffmedlar::raw;
 use reference::Work;
 use std::fmt::Write;
@@ -19,6 +20,8 @@ pub struct Case {
     pub calls: Vec<u8>,
     pub answers: Vec<u8>,
     pub buffer: Vec<u8>,
+    /// Where a step is asked for.
+    pub position: usize,
 }
 
 #[derive(Clone, Copy, PartialEq, Eq, Debug)]
@@ -31,9 +34,11 @@ pub enum Service {
     Sets,
     DoubtfulCount,
     StopMarks,
+    /// Both functions: where the part is, and the number.
+    StepBytes,
 }
 
-pub const SERVICES: [Service; 8] = [
+pub const SERVICES: [Service; 9] = [
     Service::GrammarCheck,
     Service::HistoryCheck,
     Service::FirstReading,
@@ -42,6 +47,7 @@ pub const SERVICES: [Service; 8] = [
     Service::Sets,
     Service::DoubtfulCount,
     Service::StopMarks,
+    Service::StepBytes,
 ];
 
 /// A wrong library, planted to see that it is found.
@@ -61,9 +67,15 @@ pub enum Fault {
     FourteenAsThirteen,
     /// 15 only where the buffer is two elements short.
     FifteenLate,
+    /// A step ends at the first close behind its open.
+    FirstCloseEnds,
+    /// 17 for a history that is refused.
+    SeventeenEarly,
+    /// A position of which the low 32 bits count alone.
+    PositionCut,
 }
 
-pub const FAULTS: [Fault; 7] = [
+pub const FAULTS: [Fault; 10] = [
     Fault::StopsAfterTwo,
     Fault::NoneAsWritten,
     Fault::WritesOneMore,
@@ -71,19 +83,22 @@ pub const FAULTS: [Fault; 7] = [
     Fault::MarksTheEndOnly,
     Fault::FourteenAsThirteen,
     Fault::FifteenLate,
+    Fault::FirstCloseEnds,
+    Fault::SeventeenEarly,
+    Fault::PositionCut,
 ];
 
 /// What a service gave: its number, its counts, and its buffers afterwards.
 #[derive(Clone, PartialEq, Eq, Debug)]
 pub struct Outcome {
     pub answer: u8,
-    pub counts: Vec<u32>,
+    pub counts: Vec<u64>,
     pub lent: Vec<Vec<u8>>,
     pub words: Vec<u32>,
 }
 
 impl Outcome {
-    fn of(answer: u8, counts: &[u32], lent: &[&[u8]], words: &[u32]) -> Outcome {
+    fn of(answer: u8, counts: &[u64], lent: &[&[u8]], words: &[u32]) -> Outcome {
         Outcome {
             answer,
             counts: counts.to_vec(),
@@ -192,14 +207,21 @@ pub fn library(case: &Case, service: Service) -> Outcome {
         }
         Service::DoubtfulCount => {
             let reply = raw::doubtful_count(grammar, history);
-            Outcome::of(reply.answer, &[reply.count], &[], &[])
+            Outcome::of(reply.answer, &[reply.count.into()], &[], &[])
         }
         Service::StopMarks => {
             let mut lent = Lent::new(&case.marks, BYTE);
             let answer = raw::stop_marks(grammar, history, lent.part());
             Outcome::of(answer, &[], &[&lent.checked(BYTE)], &[])
         }
+        Service::StepBytes => library_step(history, case.position),
     }
+}
+
+fn library_step(history: &[u8], position: usize) -> Outcome {
+    let part = raw::step_bytes(history, position);
+    let number = raw::step_refusal(history, position);
+    Outcome::of(number, &[part.start as u64, part.length as u64], &[], &[])
 }
 
 /// What is due by the reference.
@@ -234,7 +256,7 @@ pub fn due(case: &Case, work: &Work, service: Service) -> Outcome {
             Outcome::of(answer, &[], &[], &words)
         }
         Service::DoubtfulCount => match work.doubtful_count() {
-            Ok(count) => Outcome::of(0, &[count], &[], &[]),
+            Ok(count) => Outcome::of(0, &[count.into()], &[], &[]),
             Err(number) => Outcome::of(number, &[0], &[], &[]),
         },
         Service::StopMarks => {
@@ -242,7 +264,22 @@ pub fn due(case: &Case, work: &Work, service: Service) -> Outcome {
             let answer = work.stop_marks(&mut lent);
             Outcome::of(answer, &[], &[&lent], &[])
         }
+        Service::StepBytes => match reference::step_bytes(&case.history, case.position) {
+            Ok(part) => Outcome::of(0, &[part.start as u64, part.len() as u64], &[], &[]),
+            Err(number) => Outcome::of(number, &[0, 0], &[], &[]),
+        },
     }
+}
+
+/// Where the first close behind the open at a position ends: it closes the last step that was opened before it.
+fn first_close_end(history: &[u8], position: usize) -> u64 {
+    let tokens = reference::parse_history(history).expect("the history passed");
+    let closes = |token: &Token| matches!(token, Token::Close(_));
+    let inside = tokens[position..].iter().take_while(|token| !closes(token));
+    let opens = |(_, token): &(usize, &Token)| matches!(token, Token::Open(_));
+    let (further, _) = inside.enumerate().filter(opens).last().expect("an open");
+    let step = reference::step_bytes(history, position + further);
+    step.expect("a step").end as u64
 }
 
 /// A true outcome turned into a wrong one, where the planted fault shows.
@@ -287,6 +324,13 @@ fn spoiled(fault: Fault, case: &Case, service: Service, outcome: Outcome) -> Out
             if positions == Some(case.first.len() + 1) {
                 wrong.answer = 0;
             }
+        }
+        (Fault::FirstCloseEnds, Service::StepBytes) if wrong.answer == 0 => {
+            wrong.counts[1] = first_close_end(&case.history, case.position) - wrong.counts[0];
+        }
+        (Fault::SeventeenEarly, Service::StepBytes) if wrong.answer != 0 => wrong.answer = 17,
+        (Fault::PositionCut, Service::StepBytes) => {
+            return library_step(&case.history, case.position as u32 as usize);
         }
         _ => {}
     }

@@ -4,7 +4,8 @@
 //!     difftest [--cases N] [--long] [--seed S] [--self-test]
 //!     difftest --help
 //!
-//! A case is a grammar file and a history file, with which every service is called once, and a list of calls made.
+//! A case is a grammar file and a history file, with which every service is called once, and a list of calls made; the
+//! bytes of a step are asked for at a position.
 //! `--long` runs ten million cases. `--self-test` plants a fault after the other in the library's answers and sees that
 //! each is found and made small. How far it is goes to stderr.
 
@@ -100,6 +101,7 @@ impl Seen {
             Service::NextReading => both.chain([15, 16, 101]).collect(),
             Service::Sets | Service::StopMarks | Service::RunCalls => both.chain([15]).collect(),
             Service::DoubtfulCount => both.collect(),
+            Service::StepBytes => [0].into_iter().chain(history).chain([17]).collect(),
         }
     }
 
@@ -145,6 +147,7 @@ fn show(case: &Case, difference: &Difference) {
         }
         Service::Sets => println!("  lent     {} words", case.words.len()),
         Service::StopMarks => println!("  lent     {}", hex(&case.marks)),
+        Service::StepBytes => println!("  position {}", case.position),
         _ => {}
     }
     println!("  library    {}", difference.library.in_words());
@@ -162,7 +165,7 @@ fn tell(case: &Case, difference: &Difference, fault: Option<Fault>) -> Case {
     small
 }
 
-/// Every file of at most two bytes, for both checks.
+/// Every file of at most two bytes, for both checks and a step.
 fn short_files() -> Option<(Case, Difference)> {
     let mut case = Case {
         grammar: vec![],
@@ -174,6 +177,7 @@ fn short_files() -> Option<(Case, Difference)> {
         calls: vec![],
         answers: vec![],
         buffer: vec![],
+        position: 0,
     };
     let work = Work::new(&[], &[]);
     for number in 0..1 + 256 + 65536usize {
@@ -184,7 +188,11 @@ fn short_files() -> Option<(Case, Difference)> {
         };
         case.grammar.clone_from(&bytes);
         case.history = bytes;
-        for service in [Service::GrammarCheck, Service::HistoryCheck] {
+        for service in [
+            Service::GrammarCheck,
+            Service::HistoryCheck,
+            Service::StepBytes,
+        ] {
             let library = case::library(&case, service);
             let reference = case::due(&case, &work, service);
             if library != reference {
@@ -200,7 +208,8 @@ fn short_files() -> Option<(Case, Difference)> {
     None
 }
 
-/// Every length of every buffer from nothing to a few elements more than needed, for some files.
+/// Every length of every buffer from nothing to a few elements more than needed, and every position from 0 to some behind
+/// the last one, for some files.
 fn all_lengths(seed: u64) -> Option<(Case, Difference)> {
     for number in 0..LENGTHS {
         let mut random = Random::new(seed.wrapping_mul(0x1000_0000_0000) ^ !number);
@@ -219,6 +228,7 @@ fn all_lengths(seed: u64) -> Option<(Case, Difference)> {
                 bytes.resize(length.min(positions + 5), length as u8);
             }
             case.words.resize(length, 0x1234_5678);
+            case.position = length;
             case.answers.resize(length.min(case.calls.len() + 5), 77);
             if let Some(difference) = compare(&case, None, |_, _| {}) {
                 return Some((case, difference));
@@ -268,7 +278,7 @@ fn compare_all(options: &Options) -> bool {
     progress.end();
     let whole = seen.report();
     println!(
-        "{} cases, {calls} calls, all files of two bytes at most, {LENGTHS} files at all lengths of buffers, seed {}: no difference, {:.1} s",
+        "{} cases, {calls} calls, all files of two bytes at most, {LENGTHS} files at all lengths of buffers and all positions, seed {}: no difference, {:.1} s",
         options.cases,
         options.seed,
         start.elapsed().as_secs_f64()

@@ -1,12 +1,12 @@
 //! Makes cases: files that pass and damaged ones, short ones and those at a limit, with buffers around the length that
-//! is needed.
+//! is needed, and positions of opens, beside them and behind the last token.
 use crate::case::Case;
 use crate::random::Random;
 use frames::{
     grammar_file, grammar_numbers, history_file, history_numbers, numbers_file, Rule, Token, G,
 };
 use reference::big::Big;
-use reference::Work;
+use reference::{parse_history, Work};
 
 /// How large a grammar and its history get.
 struct Size {
@@ -406,6 +406,30 @@ impl Maker<'_> {
         bytes
     }
 
+    /// A position: most often that of an open, or else one below n, n or behind it, or a large number, which is an open's
+    /// if its high bits are lost.
+    fn position(&mut self, history: &[u8]) -> usize {
+        let tokens = parse_history(history).unwrap_or_default();
+        let is_open = |place: &usize| matches!(tokens[*place], Token::Open(_));
+        let opens: Vec<usize> = (0..tokens.len()).filter(is_open).collect();
+        let open = if opens.is_empty() {
+            self.random.below(3)
+        } else {
+            self.random.one(&opens)
+        };
+        match self.random.below(10) {
+            0..=5 => open,
+            6 => self.random.below(tokens.len() + 1),
+            7 => tokens.len() + self.random.below(4),
+            8 => {
+                open + self
+                    .random
+                    .one(&[1 << 8, 1 << 10, 1 << 16, 1 << 32, 1 << 63])
+            }
+            _ => usize::MAX - self.random.below(tokens.len() + 4),
+        }
+    }
+
     fn case(&mut self, limit: bool) -> Case {
         let (grammar, history) = if limit {
             self.limit_files()
@@ -444,6 +468,7 @@ impl Maker<'_> {
             };
             self.random.bytes(length)
         };
+        let position = self.position(&history);
         Case {
             grammar,
             history,
@@ -454,6 +479,7 @@ impl Maker<'_> {
             calls,
             answers,
             buffer,
+            position,
         }
     }
 }

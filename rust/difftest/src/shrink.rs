@@ -10,7 +10,7 @@ use std::time::{Duration, Instant};
 /// At most this long.
 const PATIENCE: Duration = Duration::from_secs(20);
 
-fn weight(case: &Case) -> usize {
+fn weight(case: &Case) -> u128 {
     let sum = |bytes: &[u8]| bytes.iter().map(|&byte| usize::from(byte)).sum::<usize>();
     let parts = [
         &case.grammar,
@@ -22,12 +22,13 @@ fn weight(case: &Case) -> usize {
         &case.answers,
         &case.buffer,
     ];
-    parts
+    let elements = parts
         .iter()
         .map(|bytes| 1000 * bytes.len() + sum(bytes))
         .sum::<usize>()
         + 1000 * case.words.len()
-        + case.words.iter().filter(|&&word| word != 0).count()
+        + case.words.iter().filter(|&&word| word != 0).count();
+    elements as u128 + case.position as u128
 }
 
 pub fn shrink(case: &Case, fault: Option<Fault>) -> Case {
@@ -54,6 +55,7 @@ fn candidates(case: &Case) -> Vec<Case> {
     tokens_dropped(case, &mut all);
     bytes_dropped(case, &mut all);
     bytes_lowered(case, &mut all);
+    position_lowered(case, &mut all);
     all
 }
 
@@ -114,6 +116,10 @@ fn tokens_dropped(case: &Case, all: &mut Vec<Case>) {
         for gone in ways {
             let mut smaller = case.clone();
             smaller.history = history_file(&tokens_without(&tokens, &gone));
+            if case.position < tokens.len() {
+                let before = gone.iter().filter(|&&place| place < case.position);
+                smaller.position -= before.count();
+            }
             for &place in gone.iter().rev() {
                 for bytes in [
                     &mut smaller.first,
@@ -209,6 +215,17 @@ fn bytes_lowered(case: &Case, all: &mut Vec<Case>) {
         if case.words[place] != 0 {
             let mut smaller = case.clone();
             smaller.words[place] = 0;
+            all.push(smaller);
+        }
+    }
+}
+
+fn position_lowered(case: &Case, all: &mut Vec<Case>) {
+    let position = case.position;
+    for lower in [0, position / 2, position.saturating_sub(1)] {
+        if lower < position {
+            let mut smaller = case.clone();
+            smaller.position = lower;
             all.push(smaller);
         }
     }

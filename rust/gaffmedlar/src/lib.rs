@@ -2,13 +2,15 @@
 //!
 //! Every function here calls one proved service of the archive `libgaffmedlar.a` and turns its number into an enum. The files
 //! are byte strings of any content; a file or a buffer that does not pass is answered by a [`Refused`], and then no
-//! element of a buffer changes. README.md says what the two files hold.
+//! element of a buffer changes. The bytes of one step, which need a history alone, are refused by the [`Refusal`] itself.
+//! README.md says what the two files hold.
 //!
 //! A history of n tokens has positions 0 to n. A reading has one rule number for each of them, so it is n + 1 bytes.
 
 mod wire;
 
 use std::fmt;
+use std::ops::Range;
 
 /// Who can do something about a refusal.
 const BOTH: &str = "whoever wrote the file";
@@ -19,8 +21,8 @@ const CALL: &str = "the caller";
 /// [`Refusal`] from its table: variant, number, whose, words. The table is that of docs/refusals.tsv.
 macro_rules! refusals {
     ($($variant:ident = $number:literal, $whose:ident, $words:literal;)*) => {
-        /// Why a file or a buffer was turned down. [`Refusal::number`] is document 01's number, and the text of the
-        /// error says the same in words.
+        /// Why a file, a buffer or a position was turned down. [`Refusal::number`] is document 01's number, and the text
+        /// of the error says the same in words.
         #[derive(Clone, Copy, Debug, PartialEq, Eq, Hash, PartialOrd, Ord)]
         #[repr(u8)]
         #[non_exhaustive]
@@ -69,10 +71,11 @@ refusals! {
     TooDeep = 14, HISTORY, "an open while 128 steps are open";
     BufferShort = 15, CALL, "a lent buffer shorter than its service writes or reads";
     NotAReading = 16, CALL, "the first n + 1 bytes handed to \"next reading\" are no reading of this history";
+    NotAnOpen = 17, CALL, "the position is not that of an open";
 }
 
 impl Refusal {
-    /// Document 01's number, 1 to 16.
+    /// Document 01's number, 1 to 17.
     pub fn number(self) -> u8 {
         self as u8
     }
@@ -89,6 +92,8 @@ impl fmt::Display for Refusal {
     }
 }
 
+impl std::error::Error for Refusal {}
+
 /// One of the two files.
 #[derive(Clone, Copy, Debug, PartialEq, Eq, Hash)]
 pub enum File {
@@ -100,7 +105,7 @@ pub enum File {
 #[derive(Clone, Copy, Debug, PartialEq, Eq, Hash)]
 pub struct Refused {
     pub refusal: Refusal,
-    /// None where it is neither file but the call: 15 and 16.
+    /// None where it is neither file but the call: 15 to 17.
     pub file: Option<File>,
 }
 
@@ -179,7 +184,7 @@ fn refusal(number: u8) -> Refusal {
 fn refused(number: u8, grammar: &[u8]) -> Refused {
     let refusal = refusal(number);
     let file = match refusal {
-        Refusal::BufferShort | Refusal::NotAReading => None,
+        Refusal::BufferShort | Refusal::NotAReading | Refusal::NotAnOpen => None,
         _ if wire::grammar_check(grammar).answer == 0 => Some(File::History),
         _ => Some(File::Grammar),
     };
@@ -324,6 +329,29 @@ pub fn stop_marks(grammar: &[u8], history: &[u8], marks: &mut [u8]) -> Result<()
     done(wire::stop_marks(grammar, history, marks), grammar)
 }
 
+/// The bytes of the step whose open stands at the position: the part of `history` from the first byte of that open through
+/// the last byte of its close. Positions are counted in tokens, from 0, and may be any number.
+///
+/// The refusal is the history's own; where the history passes, it is [`Refusal::NotAnOpen`].
+///
+/// ```
+/// let history = [3, 1, 0, 2];
+/// assert_eq!(gaffmedlar::step_bytes(&history, 0), Ok(&history[1..4]));
+/// ```
+pub fn step_bytes(history: &[u8], position: usize) -> Result<&[u8], Refusal> {
+    step_range(history, position).map(|range| &history[range])
+}
+
+/// Where in the file these bytes stand.
+pub fn step_range(history: &[u8], position: usize) -> Result<Range<usize>, Refusal> {
+    let part = wire::step_bytes(history, position);
+    // a step has two bytes at least, so an empty part is a refused one
+    match part.length {
+        0 => Err(refusal(wire::step_refusal(history, position))),
+        length => Ok(part.start..part.start + length),
+    }
+}
+
 /// The readings of a history in their order, each by one call.
 ///
 /// ```no_run
@@ -382,12 +410,12 @@ mod tests {
 
     #[test]
     fn numbers_and_words() {
-        assert_eq!(REFUSALS.len(), 16);
+        assert_eq!(REFUSALS.len(), 17);
         for (place, &refusal) in REFUSALS.iter().enumerate() {
             assert_eq!(usize::from(refusal.number()), place + 1);
             assert_eq!(Refusal::of_number(refusal.number()), Some(refusal));
         }
-        for number in [0, 17, 100, 101, 255] {
+        for number in [0, 18, 100, 101, 255] {
             assert_eq!(Refusal::of_number(number), None);
         }
         assert_eq!(
@@ -493,6 +521,93 @@ mod tests {
             sets(&G, &[1, 1]).unwrap_err().to_string(),
             "the history: a step still open after the last token (13)"
         );
+    }
+
+    /// The examples of one step's bytes: a history, a position, and the part of the file or the refusal.
+    fn step_examples() -> Vec<(Vec<u8>, usize, Result<Range<usize>, Refusal>)> {
+        let one = vec![3, 1, 0, 2];
+        let inside = vec![6, 1, 1, 2, 1, 2, 2];
+        let full = [vec![128, 8], [161, 1, 134, 1].repeat(512)].concat();
+        let mut examples = vec![
+            (one.clone(), 0, Ok(1..4)),
+            (inside.clone(), 0, Ok(1..7)),
+            (inside.clone(), 1, Ok(2..4)),
+            (inside.clone(), 3, Ok(4..6)),
+            (inside, 2, Err(Refusal::NotAnOpen)),
+            (vec![5, 0, 161, 1, 252, 1, 134, 1, 0], 1, Ok(2..8)),
+            (vec![1, 1], 5, Err(Refusal::StillOpen)),
+            (vec![], 0, Err(Refusal::BytesEnd)),
+            (full.clone(), 1022, Ok(2046..2050)),
+            (full, 1024, Err(Refusal::NotAnOpen)),
+        ];
+        for position in [1, 2, 3, 4, 1 << 32, 1 << 63, usize::MAX] {
+            examples.push((one.clone(), position, Err(Refusal::NotAnOpen)));
+        }
+        examples
+    }
+
+    #[test]
+    fn bytes_of_one_step() {
+        for (history, position, due) in step_examples() {
+            // a file with bytes around it that are not its own
+            let around = [vec![1; 5], history.clone(), vec![2; 5]].concat();
+            let lent = &around[5..5 + history.len()];
+            let reply = raw::step_bytes(lent, position);
+            let number = raw::step_refusal(lent, position);
+            assert_eq!(step_range(lent, position), due);
+            match due {
+                Ok(range) => {
+                    let part = step_bytes(lent, position).unwrap();
+                    assert_eq!(part, &history[range.clone()]);
+                    // the caller's own bytes, not a copy
+                    assert_eq!(part.as_ptr(), around[5 + range.start..].as_ptr());
+                    assert_eq!((reply.start, reply.length), (range.start, range.len()));
+                    assert_eq!(number, 0);
+                }
+                Err(refusal) => {
+                    assert_eq!(step_bytes(lent, position), Err(refusal));
+                    assert_eq!((reply.start, reply.length), (0, 0));
+                    assert_eq!(number, refusal.number());
+                }
+            }
+            assert_eq!(around, [vec![1; 5], history, vec![2; 5]].concat());
+        }
+    }
+
+    /// A part lives as long as the file it is of, and steps can be looked at side by side.
+    #[test]
+    fn parts_of_one_file() {
+        fn first_step(history: &[u8]) -> Option<&[u8]> {
+            (0..history_check(history).ok()?).find_map(|p| step_bytes(history, p).ok())
+        }
+        let history = [7, 0, 1, 1, 2, 1, 2, 2];
+        let outer = first_step(&history).unwrap();
+        let inner = [2, 4].map(|position| step_bytes(&history, position).unwrap());
+        assert_eq!(outer, [1, 1, 2, 1, 2, 2]);
+        assert!(inner.iter().all(|part| *part == [1, 2]));
+        assert_eq!(outer[1..5], inner.concat());
+        assert_eq!(first_step(&[1, 0]), None);
+    }
+
+    /// The history is judged before the position: a file that ends early or goes on is refused by its own number.
+    #[test]
+    fn no_step_of_a_refused_history() {
+        for (history, _, _) in step_examples().iter().take(6) {
+            let mut more = history.clone();
+            more.push(0);
+            let ends = (0..history.len()).map(|end| history[..end].to_vec());
+            for file in ends.chain([more]) {
+                let due = history_check(&file).unwrap_err().refusal;
+                for position in [0, 1, 2, 5, usize::MAX] {
+                    assert_eq!(step_bytes(&file, position), Err(due));
+                }
+            }
+        }
+        assert_eq!(
+            step_bytes(&[1, 1], 0).unwrap_err().to_string(),
+            "a step still open after the last token (13)"
+        );
+        let _: &dyn std::error::Error = &Refusal::NotAnOpen;
     }
 
     #[test]

@@ -25,8 +25,16 @@ pub struct CountReply {
     pub count: u32,
 }
 
+/// Where a part of a file starts and how many bytes it has, or zeros where it is refused.
+#[repr(C)]
+#[derive(Clone, Copy, Debug, PartialEq, Eq)]
+pub struct PartReply {
+    pub start: usize,
+    pub length: usize,
+}
+
 mod linked {
-    use super::{CountReply, GrammarReply, HistoryReply};
+    use super::{CountReply, GrammarReply, HistoryReply, PartReply};
 
     extern "C" {
         pub fn gaffmedlar_grammar_check(grammar: *const u8, grammar_len: usize) -> GrammarReply;
@@ -80,6 +88,16 @@ mod linked {
             history_len: usize,
             marks: *mut u8,
             marks_len: usize,
+        ) -> u8;
+        pub fn gaffmedlar_step_bytes(
+            history: *const u8,
+            history_len: usize,
+            position: usize,
+        ) -> PartReply;
+        pub fn gaffmedlar_step_refusal(
+            history: *const u8,
+            history_len: usize,
+            position: usize,
         ) -> u8;
     }
 }
@@ -180,4 +198,12 @@ pub fn stop_marks(grammar: &[u8], history: &[u8], marks: &mut [u8]) -> u8 {
             marks.len(),
         )
     }
+}
+
+pub fn step_bytes(history: &[u8], position: usize) -> PartReply {
+    unsafe { linked::gaffmedlar_step_bytes(history.as_ptr(), history.len(), position) }
+}
+
+pub fn step_refusal(history: &[u8], position: usize) -> u8 {
+    unsafe { linked::gaffmedlar_step_refusal(history.as_ptr(), history.len(), position) }
 }

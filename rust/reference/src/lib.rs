@@ -1,9 +1,9 @@
-//! All services once more, written from document 01 alone: the reference that the proved library is compared with.
+//! All services once more, written from documents 01 and 02 alone: the reference that the proved library is compared with.
 //!
 //! The algorithms are other ones on purpose. A history with few readings is worked through by writing down every
 //! reading ([`listed`]); one with many by counting readings with exact numbers of any size ([`counted`]), where the
 //! successor of a reading is found by its place in the order. Stop marks recognise each beginning by itself
-//! ([`marks`]). Nothing here is fast.
+//! ([`marks`]). The bytes of one step are found by reading it whole ([`steps`]). Nothing here is fast.
 
 pub mod big;
 pub mod counted;
@@ -11,9 +11,11 @@ pub mod files;
 pub mod listed;
 pub mod marks;
 pub mod services;
+pub mod steps;
 
 pub use files::{parse_grammar, parse_history, Grammar};
 pub use services::{grammar_check, history_check, Work};
+pub use steps::step_bytes;
 
 /// "none".
 pub const NO_READING: u8 = 100;

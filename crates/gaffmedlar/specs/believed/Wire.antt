@@ -1,15 +1,19 @@
 -- The services' answers as C sees them: one number, or a struct with the number and the counts. 0 says that all went well; a refusal keeps
--- document 01's number, 1 to 16; 100 is "none" and 101 "no further" (`codeOf` of the crate calls).
--- Clauses: 7.9 (docs/SPECIFICATION.md)
+-- document 01's number, 1 to 17; 100 is "none" and 101 "no further" (`codeOf` of the crate calls). A part of a file is a struct with its place,
+-- and its number is a function by itself.
+-- Clauses: 7.9, 10.5 (docs/SPECIFICATION.md)
 use Prim.Native.Nat.{ℕ}
 use mathlib.Core.List.{List}
-use lib.ListN.{getD}
+use mathlib.Core.Option.{Option, none, some}
+use lib.ListN.{length, getD}
 use Rattle.files.specs.believed.Checks.{Verdict, accepted, refused}
 use Rattle.service.specs.believed.Given.{Given, given}
 use Rattle.service.specs.believed.Given as service
+use Rattle.step_bytes.specs.believed.StepBytes.{StepPart, bytesIn, startIn}
 use Rattle.gaffmedlar.specs.declared.GrammarReply.{GrammarReply}
 use Rattle.gaffmedlar.specs.declared.HistoryReply.{HistoryReply}
 use Rattle.gaffmedlar.specs.declared.CountReply.{CountReply}
+use Rattle.gaffmedlar.specs.declared.PartReply.{PartReply}
 
 -- 0 with the counts, or the number of the refusal with zeros
 abbrev pub grammarWire : Verdict → GrammarReply
@@ -36,3 +40,12 @@ outcomeWire p = (outcomeCode (p .0), p .1)
 -- an answer as a number, with the answers and the buffer that the calls leave
 abbrev pub callsWire : Given Unit × List ℕ × List ℕ → ℕ × List ℕ × List ℕ
 callsWire p = (outcomeCode (p .0), p .1, p .2)
+
+-- where a part starts and how many bytes it has; a refused one is empty, at the file's first byte
+abbrev pub partWire : StepPart → PartReply
+partWire p = record { start = startIn p; length = length (bytesIn p) }
+
+-- the number of a refusal, or 0 where there is none
+abbrev pub stepCode : Option ℕ → ℕ
+stepCode none = 0
+stepCode (some k) = k
