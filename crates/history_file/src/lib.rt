@@ -71,7 +71,7 @@ fn token_judged(t: u32, next: usize, depth: u32) -> TokenRead
     if kind == 3 {
         return TokenRead::Refused(11);
     }
-    // One number of both, for tests that nearly never hold: a branch by kind is foretold wrongly at every third token.
+    // One number of both, for tests that nearly never hold: a branch by kind cost more where histories vary (docs/SPEED.md).
     let state = 4 * depth + kind;
     if state == 2 {
         return TokenRead::Refused(12);
@@ -108,7 +108,7 @@ fn depth_after(t: u32, depth: u32) -> u32
     ensures { λ r. ⌜ r ≡ depthAfter t depth ⌝ }
 {
     let kind = t % 4;
-    // A sum, since a branch by kind is foretold wrongly at every third token.
+    // A sum, since a branch by kind cost more where histories vary (docs/SPEED.md).
     depth + kind % 2 - kind / 2
 }
 

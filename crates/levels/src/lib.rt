@@ -27,7 +27,7 @@ pub type Nonterminals = [u16; 1025];
 fn next_top(kind: u32, i: usize, top: usize, beyond: usize) -> usize
     ensures { λ r. ⌜ ((name : ℕ) → r ≡ nextTop (tokenWith kind name) i top beyond) ⌝ }
 {
-    // Two choices of a value, for fewer branches: one by kind is foretold wrongly at every third token.
+    // Two choices of a value, for fewer branches: those by kind cost more where histories vary (docs/SPEED.md).
     let inner = if kind == 1 { beyond } else { top };
     if kind < 2 { inner } else { i }
 }
