@@ -1,5 +1,5 @@
-/* Checks what gaffmedlar.h does by itself: NULL for what has length 0, the words of the answers, and the part of a file as
- * a struct, on the examples of one step's bytes.
+/* Checks what gaffmedlar.h does by itself: NULL for what has length 0, the words of the answers, the part of a file as a
+ * struct, on the examples of one step's bytes, and the reply of a writer, on the examples of written files.
  *
  * Build, in the repository's root:
  *     tools/build library
@@ -71,6 +71,99 @@ static void steps(void)
     due_step("full", full, full_len, 1024, 0, 0, GAFFMEDLAR_REFUSED_NOT_AN_OPEN);
 }
 
+typedef struct gaffmedlar_written writer(const uint32_t *, size_t, uint8_t *, size_t);
+
+#define FILLING 170 /* what every byte holds before a call */
+#define BESIDE 16   /* bytes on each side of a buffer that are not its own */
+
+/* What is due for the numbers of a file and a buffer of room bytes: the file, with number 0; or no byte, with the number. */
+static void due_written(const char *what, writer *write, const uint32_t *numbers, size_t numbers_len, size_t room,
+                        const uint8_t *file, size_t file_len, int number)
+{
+    static uint8_t memory[BESIDE + GAFFMEDLAR_HISTORY_BYTES_MAX + 2 * BESIDE];
+    memset(memory, FILLING, sizeof memory);
+    struct gaffmedlar_written written = write(numbers, numbers_len, room > 0 ? memory + BESIDE : NULL, room);
+    due(what, written.answer, number);
+    if (written.length != file_len) {
+        printf("%s: length %zu, and %zu is due\n", what, written.length, file_len);
+        faults++;
+    }
+    for (size_t i = 0; i < sizeof memory; i++) {
+        int due_byte = i >= BESIDE && i < BESIDE + file_len ? file[i - BESIDE] : FILLING;
+        if (memory[i] != due_byte) {
+            printf("%s: byte %td of the buffer is %d, and %d is due\n", what, (ptrdiff_t)i - BESIDE, memory[i], due_byte);
+            faults++;
+        }
+    }
+}
+
+/* A buffer of each length up to some bytes more than the file has: 15 until it has room. */
+static void due_at_all_lengths(const char *what, writer *write, const uint32_t *numbers, size_t numbers_len,
+                               const uint8_t *file, size_t file_len)
+{
+    for (size_t room = 0; room < file_len; room++)
+        due_written(what, write, numbers, numbers_len, room, NULL, 0, GAFFMEDLAR_REFUSED_BUFFER_SHORT);
+    for (size_t room = file_len; room <= file_len + BESIDE; room++)
+        due_written(what, write, numbers, numbers_len, room, file, file_len, GAFFMEDLAR_OK);
+}
+
+static void refused(const char *what, writer *write, const uint32_t *numbers, size_t numbers_len, int number)
+{
+    due_written(what, write, numbers, numbers_len, GAFFMEDLAR_HISTORY_BYTES_MAX, NULL, 0, number);
+    due_written(what, write, numbers, numbers_len, 0, NULL, 0, number);
+}
+
+/* Document 01's grammar G and a number behind it; each of its numbers is a byte. */
+static void written_grammars(void)
+{
+    static const uint32_t g[29] = {3, 7, 0, 0, 2, 0, 0, 1, 0, 0, 2, 0, 0, 2, 0, 0, 1, 1, 0, 1, 0, 1, 1, 2, 0, 2, 0, 2, 5};
+    static const uint8_t file[28] = {3, 7, 0, 0, 2, 0, 0, 1, 0, 0, 2, 0, 0, 2, 0, 0, 1, 1, 0, 1, 0, 1, 1, 2, 0, 2, 0, 2};
+    static const uint32_t large_name[] = {1, 1, 1, 0, 70000, 0}, twice[] = {1, 128, 0, 0, 0, 0},
+                          large_count[] = {4294967295u, 1, 0, 0};
+    static uint32_t full[GAFFMEDLAR_GRAMMAR_NUMBERS_MAX];
+    static uint8_t full_file[GAFFMEDLAR_GRAMMAR_BYTES_MAX] = {32, 128, 1};
+
+    due_at_all_lengths("G", gaffmedlar_write_grammar, g, 28, file, sizeof file);
+    refused("G without its last number", gaffmedlar_write_grammar, g, 27, GAFFMEDLAR_REFUSED_BYTES_END);
+    refused("G and a number behind it", gaffmedlar_write_grammar, g, 29, GAFFMEDLAR_REFUSED_BYTES_FOLLOW);
+    refused("a large name", gaffmedlar_write_grammar, large_name, 6, GAFFMEDLAR_REFUSED_NAME);
+    refused("a rule twice", gaffmedlar_write_grammar, twice, 6, GAFFMEDLAR_REFUSED_RULE_TWICE);
+    refused("a large stage count", gaffmedlar_write_grammar, large_count, 4, GAFFMEDLAR_REFUSED_STAGE_COUNT);
+    refused("no element", gaffmedlar_write_grammar, NULL, 0, GAFFMEDLAR_REFUSED_BYTES_END);
+
+    /* 128 rules of six numbers, which differ in their open's name and in their first stage */
+    full[0] = 32;
+    full[1] = 128;
+    for (uint8_t rule = 0; rule < 128; rule++) {
+        const uint8_t numbers[6] = {2, rule / 64, rule % 64, 31, 63, 0};
+        memcpy(full_file + 3 + 6 * rule, numbers, sizeof numbers);
+        for (size_t i = 0; i < 6; i++)
+            full[2 + 6 * rule + i] = numbers[i];
+    }
+    due_at_all_lengths("the longest grammar", gaffmedlar_write_grammar, full, GAFFMEDLAR_GRAMMAR_NUMBERS_MAX, full_file,
+                       sizeof full_file);
+}
+
+static void written_histories(void)
+{
+    static const uint32_t wide[] = {2, 161, 134}, still_open[] = {2, 1, 1, 0}, behind[] = {1, 0, 0}, large[] = {1, 16384},
+                          none[] = {0};
+    static const uint8_t wide_file[] = {2, 161, 1, 134, 1}, none_file[] = {0};
+    static uint32_t full[GAFFMEDLAR_HISTORY_NUMBERS_MAX] = {1024};
+    static uint8_t full_file[GAFFMEDLAR_HISTORY_BYTES_MAX];
+
+    due_at_all_lengths("two bytes each", gaffmedlar_write_history, wide, 3, wide_file, sizeof wide_file);
+    due_at_all_lengths("no token", gaffmedlar_write_history, none, 1, none_file, sizeof none_file);
+    refused("still open and a number behind", gaffmedlar_write_history, still_open, 4, GAFFMEDLAR_REFUSED_STILL_OPEN);
+    refused("a number behind", gaffmedlar_write_history, behind, 3, GAFFMEDLAR_REFUSED_BYTES_FOLLOW);
+    refused("a large token", gaffmedlar_write_history, large, 2, GAFFMEDLAR_REFUSED_TOKEN);
+    refused("no element", gaffmedlar_write_history, NULL, 0, GAFFMEDLAR_REFUSED_BYTES_END);
+    for (size_t i = 1; i < GAFFMEDLAR_HISTORY_NUMBERS_MAX; i++)
+        full[i] = i % 2 == 1 ? 161 : 134;
+    due_at_all_lengths("the longest history", gaffmedlar_write_history, full, GAFFMEDLAR_HISTORY_NUMBERS_MAX, full_file,
+                       two_byte_steps(full_file));
+}
+
 int main(void)
 {
     static const uint8_t grammar[] = {1, 1, 0, 0}, history[] = {0};
@@ -104,6 +197,8 @@ int main(void)
     due("the reading", reading[0], 0);
 
     steps();
+    written_grammars();
+    written_histories();
 
     int said = 0;
     for (int answer = 0; answer < 256; answer++)

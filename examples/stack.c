@@ -28,6 +28,9 @@ static uint8_t reading[GAFFMEDLAR_READING_MAX], marks[GAFFMEDLAR_READING_MAX];
 static uint32_t words[GAFFMEDLAR_WORDS_MAX];
 static const uint8_t calls[3] = {0, 1, 1};
 static uint8_t answers[3];
+static uint32_t grammar_numbers[GAFFMEDLAR_GRAMMAR_NUMBERS_MAX], history_numbers[GAFFMEDLAR_HISTORY_NUMBERS_MAX];
+static size_t grammar_numbers_len, history_numbers_len;
+static uint8_t file[GAFFMEDLAR_HISTORY_BYTES_MAX];
 
 static void nothing(void) {}
 static void grammar_check(void) { gaffmedlar_grammar_check(grammar, grammar_len); }
@@ -57,6 +60,15 @@ static void stop_marks(void)
 
 static void step_bytes(void) { gaffmedlar_step_bytes(history, history_len, 0); }
 static void step_refusal(void) { gaffmedlar_step_refusal(history, history_len, 1022); }
+
+static void write_grammar(void)
+{
+    gaffmedlar_write_grammar(grammar_numbers, grammar_numbers_len, file, sizeof file);
+}
+static void write_history(void)
+{
+    gaffmedlar_write_history(history_numbers, history_numbers_len, file, sizeof file);
+}
 
 static size_t used(void (*function)(void))
 {
@@ -125,6 +137,18 @@ static void full_history(int pattern)
     history_len = at;
 }
 
+/* The numbers of a file of one and two bytes each. */
+static size_t numbers_of(const uint8_t *bytes, size_t length, uint32_t *numbers)
+{
+    size_t count = 0;
+    for (size_t at = 0; at < length; count++) {
+        numbers[count] = bytes[at] % 128;
+        if (bytes[at++] >= 128)
+            numbers[count] += 128u * bytes[at++];
+    }
+    return count;
+}
+
 int main(void)
 {
     struct {
@@ -135,16 +159,19 @@ int main(void)
                {"gaffmedlar_first_reading", first, 32},        {"gaffmedlar_next_reading", next, 40},
                {"gaffmedlar_run_calls", run_calls, 48},        {"gaffmedlar_sets", sets, 32},
                {"gaffmedlar_doubtful_count", doubtful, 32},    {"gaffmedlar_stop_marks", stop_marks, 28},
-               {"gaffmedlar_step_bytes", step_bytes, 8},       {"gaffmedlar_step_refusal", step_refusal, 8}};
+               {"gaffmedlar_step_bytes", step_bytes, 8},       {"gaffmedlar_step_refusal", step_refusal, 8},
+               {"gaffmedlar_write_grammar", write_grammar, 8}, {"gaffmedlar_write_history", write_history, 8}};
     int faults = 0;
     stack = malloc(STACK);
     if (stack == NULL)
         return 2;
     full_grammar();
+    grammar_numbers_len = numbers_of(grammar, grammar_len, grammar_numbers);
     for (size_t i = 0; i < sizeof all / sizeof all[0]; i++) {
         size_t most = 0;
         for (int pattern = 0; pattern < 3; pattern++) {
             full_history(pattern);
+            history_numbers_len = numbers_of(history, history_len, history_numbers);
             first();
             size_t bytes = used(all[i].function);
             if (bytes > most)

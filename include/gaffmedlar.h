@@ -12,7 +12,8 @@
  *     1 to 17   the number of the refusal, of which the constants below say what is wrong
  *
  * The number of the first fault is given, the grammar's before the history's, both before 15, and 15 before 16; the
- * history's before 17. gaffmedlar_step_bytes gives no number: gaffmedlar_step_refusal gives it.
+ * history's before 17. gaffmedlar_step_bytes gives no number: gaffmedlar_step_refusal gives it. A writer gives the number
+ * that a check would give the file, before 15.
  *
  * Readings
  *
@@ -28,18 +29,19 @@
  *
  * Pointers
  *
- * - A file, a list or a buffer is a pointer and a number of ELEMENTS: bytes, or 32-bit words for gaffmedlar_sets. The
- *   pointer is good for that many elements and aligned for its type. It may be NULL where the number is 0 (that is so
- *   of the functions of this header; the symbols of the archive itself take no null pointer).
+ * - A file, a list or a buffer is a pointer and a number of ELEMENTS: bytes, or 32-bit words for the buffer of
+ *   gaffmedlar_sets and the numbers that are written as a file. The pointer is good for that many elements and aligned
+ *   for its type. It may be NULL where the number is 0 (that is so of the functions of this header; the symbols of the
+ *   archive itself take no null pointer).
  * - Nothing is asked of the content of files, lists and buffers.
  * - A buffer is memory of the caller's that the call may write; document 01 calls it lent. The comment of each function
  *   says which elements it writes. All others keep their content, and a call that answers a refusal, 100 or 101 writes
  *   nothing at all.
- * - The files and the list of calls are read only, and nothing may change them while the call runs. They may overlap
- *   each other.
- * - A buffer must not overlap anything else of the same call, neither a file nor the list of calls nor another buffer
- *   (so the answers to a list of calls can't be written over it), and nothing of a call that runs at the same time in
- *   another thread.
+ * - The files, the list of calls and the numbers are read only, and nothing may change them while the call runs. They
+ *   may overlap each other.
+ * - A buffer must not overlap anything else of the same call, neither a file nor a list nor another buffer (so the
+ *   answers to a list of calls can't be written over it, nor a file over its numbers), and nothing of a call that runs
+ *   at the same time in another thread.
  *
  * Otherwise calls from several threads don't disturb each other. No function allocates memory, keeps a pointer, has a
  * state of its own, makes a system call or runs for ever.
@@ -91,10 +93,12 @@ extern "C" {
 #define GAFFMEDLAR_STAGES_MAX 32
 #define GAFFMEDLAR_RULES_MAX 128
 #define GAFFMEDLAR_TOKENS_MAX 1024
-#define GAFFMEDLAR_READING_MAX 1025       /* bytes of a reading, and of the stop marks */
-#define GAFFMEDLAR_WORDS_MAX 4100         /* words of the sets */
-#define GAFFMEDLAR_GRAMMAR_BYTES_MAX 771  /* bytes of a grammar file */
-#define GAFFMEDLAR_HISTORY_BYTES_MAX 2050 /* bytes of a history file */
+#define GAFFMEDLAR_READING_MAX 1025         /* bytes of a reading, and of the stop marks */
+#define GAFFMEDLAR_WORDS_MAX 4100           /* words of the sets */
+#define GAFFMEDLAR_GRAMMAR_BYTES_MAX 771    /* bytes of a grammar file */
+#define GAFFMEDLAR_HISTORY_BYTES_MAX 2050   /* bytes of a history file */
+#define GAFFMEDLAR_GRAMMAR_NUMBERS_MAX 770  /* numbers of a grammar file */
+#define GAFFMEDLAR_HISTORY_NUMBERS_MAX 1025 /* numbers of a history file */
 
 struct gaffmedlar_grammar {
     uint8_t answer;  /* 0, or the number of the refusal */
@@ -116,6 +120,11 @@ struct gaffmedlar_count {
 struct gaffmedlar_part {
     size_t start;  /* 0 where refused */
     size_t length; /* 0 where refused */
+};
+
+struct gaffmedlar_written {
+    uint8_t answer; /* 0, or the number of the refusal */
+    size_t length;  /* bytes of the file; 0 where refused */
 };
 
 /* Checks a grammar file. Answers 0 with the counts, or 1 to 9. Writes nothing. Stack: 8 KiB. */
@@ -176,6 +185,25 @@ struct gaffmedlar_part gaffmedlar_step_bytes(const uint8_t *history, size_t hist
 /* Says why gaffmedlar_step_bytes gives an empty part. Answers 0 where it gives a step, else 1, 2, 9 to 14, or 17 (the
  * history passes, and no open stands at the position). Writes nothing. Stack: 8 KiB. */
 uint8_t gaffmedlar_step_refusal(const uint8_t *history, size_t history_len, size_t position);
+
+/* Writes a grammar file from its numbers in their order, one element each: the stage count, the rule count, and the
+ * numbers of each rule.
+ * Answers 0 with the length of the file. Otherwise it answers what gaffmedlar_grammar_check would, in the same order: 1 (too
+ * few elements), 3 to 8, or 9 (elements follow the last rule), never 2; and where nothing is wrong with the numbers, 15
+ * (file_len below the length of the file). An element may be any number: one that is too large for every file gets the
+ * number of its place, 70,000 as a name 7, 4,294,967,295 as the stage count 3.
+ * Writes file[0] to file[length - 1], with answer 0 alone. Stack: 8 KiB. */
+struct gaffmedlar_written gaffmedlar_write_grammar(const uint32_t *numbers, size_t numbers_len, uint8_t *file,
+                                                   size_t file_len);
+
+/* Writes a history file from its numbers in their order, one element each: the token count, and the number of each token.
+ * Answers 0 with the length of the file. Otherwise it answers what gaffmedlar_history_check would, in the same order: 1 (too
+ * few elements), 9 (elements follow the last token) or 10 to 14, never 2; and where nothing is wrong with the numbers, 15
+ * (file_len below the length of the file). An element may be any number: one that is too large for every file gets 10 as
+ * the token count, 11 as a token.
+ * Writes file[0] to file[length - 1], with answer 0 alone. Stack: 8 KiB. */
+struct gaffmedlar_written gaffmedlar_write_history(const uint32_t *numbers, size_t numbers_len, uint8_t *file,
+                                                   size_t file_len);
 
 /* What a number says in words, for messages. */
 static inline const char *gaffmedlar_words(uint8_t answer)
@@ -238,6 +266,12 @@ static inline uint8_t *gaffmedlar_buffer_(uint8_t *bytes, size_t length)
 {
     static uint8_t empty;
     return bytes == NULL && length == 0 ? &empty : bytes;
+}
+
+static inline const uint32_t *gaffmedlar_numbers_(const uint32_t *numbers, size_t length)
+{
+    static const uint32_t empty = 0;
+    return numbers == NULL && length == 0 ? &empty : numbers;
 }
 
 static inline uint32_t *gaffmedlar_word_buffer_(uint32_t *words, size_t length)
@@ -317,6 +351,20 @@ static inline uint8_t gaffmedlar_step_refusal_(const uint8_t *history, size_t hi
     return gaffmedlar_step_refusal(gaffmedlar_read_(history, history_len), history_len, position);
 }
 
+static inline struct gaffmedlar_written gaffmedlar_write_grammar_(const uint32_t *numbers, size_t numbers_len,
+                                                                  uint8_t *file, size_t file_len)
+{
+    return gaffmedlar_write_grammar(gaffmedlar_numbers_(numbers, numbers_len), numbers_len,
+                                    gaffmedlar_buffer_(file, file_len), file_len);
+}
+
+static inline struct gaffmedlar_written gaffmedlar_write_history_(const uint32_t *numbers, size_t numbers_len,
+                                                                  uint8_t *file, size_t file_len)
+{
+    return gaffmedlar_write_history(gaffmedlar_numbers_(numbers, numbers_len), numbers_len,
+                                    gaffmedlar_buffer_(file, file_len), file_len);
+}
+
 #define gaffmedlar_grammar_check gaffmedlar_grammar_check_
 #define gaffmedlar_history_check gaffmedlar_history_check_
 #define gaffmedlar_first_reading gaffmedlar_first_reading_
@@ -327,6 +375,8 @@ static inline uint8_t gaffmedlar_step_refusal_(const uint8_t *history, size_t hi
 #define gaffmedlar_stop_marks gaffmedlar_stop_marks_
 #define gaffmedlar_step_bytes gaffmedlar_step_bytes_
 #define gaffmedlar_step_refusal gaffmedlar_step_refusal_
+#define gaffmedlar_write_grammar gaffmedlar_write_grammar_
+#define gaffmedlar_write_history gaffmedlar_write_history_
 
 #ifdef __cplusplus
 }

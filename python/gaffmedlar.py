@@ -5,7 +5,7 @@
         print(*reading)
 
 Every function here calls one proved service of libgaffmedlar.so and turns its number into a value, or into the exception
-Refusal. The services are proved; this module is outside the proofs, and tested.
+Refusal; `numbers` alone is plain Python. The services are proved; this module is outside the proofs, and tested.
 
 Files are bytes of any content: a bytes object, a bytearray, a memoryview of bytes. What is not a bytes object is copied
 before the call, so nothing can change it meanwhile. A buffer is memory of the caller's that a service writes: a bytearray
@@ -31,15 +31,20 @@ from typing import Any, Iterable, Iterator, List, NamedTuple, Optional, Union
 __version__ = "0.1.0"
 
 __all__ = [
-    "Call", "CallAnswer", "First", "GrammarCounts", "Next", "READING_MAX", "REFUSALS", "Refusal", "RefusalRow", "Sets",
-    "WORDS_MAX", "doubtful_count", "first_reading", "grammar_check", "history_check", "next_reading", "readings",
-    "run_calls", "sets", "sets_into", "step_bytes", "step_range", "stop_marks",
+    "Call", "CallAnswer", "First", "GRAMMAR_BYTES_MAX", "GrammarCounts", "HISTORY_BYTES_MAX", "Next", "READING_MAX",
+    "REFUSALS", "Refusal", "RefusalRow", "Sets", "WORDS_MAX", "doubtful_count", "first_reading", "grammar_check",
+    "history_check", "next_reading", "numbers", "readings", "run_calls", "sets", "sets_into", "step_bytes", "step_range",
+    "stop_marks", "write_grammar", "write_grammar_into", "write_history", "write_history_into",
 ]
 
 READING_MAX = 1025
 """Bytes of the longest reading: of a history of 1,024 tokens."""
 WORDS_MAX = 4 * READING_MAX
 """Words of the sets of such a history."""
+GRAMMAR_BYTES_MAX = 771
+"""Bytes of the longest grammar file that passes."""
+HISTORY_BYTES_MAX = 2050
+"""Bytes of the longest history file that passes."""
 
 
 # ---- refusals
@@ -74,12 +79,12 @@ REFUSALS = tuple(RefusalRow(*row) for row in (
 
 
 class Refusal(Exception):
-    """A file, a buffer or a position was turned down.
+    """A file, its numbers, a buffer or a position was turned down.
 
     number   document 01's number, 1 to 17
     name     the number's name, as in the C header: "STILL_OPEN"
     words    what is wrong, in words
-    file     "grammar" or "history", whichever file is at fault; None where it is the call (15 to 17)
+    file     "grammar" or "history", whichever file is at fault, or was to be written; None where it is the call (15 to 17)
     """
 
     def __init__(self, number: int, file: Optional[str]):
@@ -144,8 +149,14 @@ class _PartReply(ctypes.Structure):
     _fields_ = [("start", ctypes.c_size_t), ("length", ctypes.c_size_t)]
 
 
+class _WriteReply(ctypes.Structure):
+    _fields_ = [("answer", ctypes.c_uint8), ("length", ctypes.c_size_t)]
+
+
 _READ = [ctypes.c_char_p, ctypes.c_size_t]
 _LENT = [ctypes.c_void_p, ctypes.c_size_t]
+_ELEMENTS = [ctypes.c_void_p, ctypes.c_size_t]
+_ELEMENT_MAX = ctypes.c_uint32(-1).value
 _POSITION = [ctypes.c_size_t]
 _POSITION_MAX = ctypes.c_size_t(-1).value
 # What include/gaffmedlar.h declares: the reply, and a pointer and a number of elements for each file, list and buffer.
@@ -160,6 +171,8 @@ _SERVICES = {
     "stop_marks": (ctypes.c_uint8, _READ + _READ + _LENT),
     "step_bytes": (_PartReply, _READ + _POSITION),
     "step_refusal": (ctypes.c_uint8, _READ + _POSITION),
+    "write_grammar": (_WriteReply, _ELEMENTS + _LENT),
+    "write_history": (_WriteReply, _ELEMENTS + _LENT),
 }
 # Where the library lies, seen from this module's folder: installed, and in the repository.
 _PLACES = ("../libgaffmedlar.so", "../../libgaffmedlar.so", "../../lib/libgaffmedlar.so", "../target/shared/libgaffmedlar.so")
@@ -224,6 +237,15 @@ def _lent_words(buffer: Any) -> Any:
     return _lent(buffer, ctypes.c_uint32, "IL", "32-bit words: array('I', ..), for instance")
 
 
+def _elements(values: Iterable[int]) -> Any:
+    """The numbers of a file as an array of 32-bit words."""
+    elements = [operator.index(value) for value in values]
+    for place, element in enumerate(elements):
+        if not 0 <= element <= _ELEMENT_MAX:
+            raise ValueError("element %d of the numbers is %d, and 0 to %d can be handed over" % (place, element, _ELEMENT_MAX))
+    return (ctypes.c_uint32 * len(elements))(*elements)
+
+
 def _call(service: str, *values: Any) -> Any:
     """Calls a service with the address and the number of elements of each value, and a position as it is.
 
@@ -235,11 +257,15 @@ def _call(service: str, *values: Any) -> Any:
 
 
 # ---- answers from numbers
-def _refusal(number: int, grammar: Optional[bytes], history: Optional[bytes]) -> Refusal:
-    """The refusal of a call with these files; None for a file that the service doesn't take."""
+def _whose(number: int) -> str:
     if not 1 <= number <= len(REFUSALS):
         raise RuntimeError("libgaffmedlar.so answered %d, which no promise allows: was another library loaded?" % number)
-    whose = REFUSALS[number - 1].whose
+    return REFUSALS[number - 1].whose
+
+
+def _refusal(number: int, grammar: Optional[bytes], history: Optional[bytes]) -> Refusal:
+    """The refusal of a call with these files; None for a file that the service doesn't take."""
+    whose = _whose(number)
     if whose == "both":
         of_grammar = grammar is not None and _call("grammar_check", grammar).answer != 0
         whose = "grammar" if of_grammar else "history"
@@ -406,6 +432,70 @@ def step_bytes(history: Any, position: int) -> memoryview:
     if view.ndim != 1:
         view = view.cast("B")
     return view[place.start:place.stop]
+
+
+def numbers(file: Any) -> List[int]:
+    """The numbers of a file in their order, as write_grammar and write_history take them.
+
+    It is for a file that has passed its check: such a file, written again from its numbers, is the same byte for byte. This
+    function is plain Python, outside what is proved. It takes any bytes and judges none: a number in a longer form than the
+    shortest is that number, and one above 4,294,967,295, or one inside which the bytes end, is given as 4,294,967,295. No
+    writer takes that, wherever it stands, so what was cut off is not written as if it were whole.
+    """
+    found, number, place = [], 0, 0
+    for byte in _file(file):
+        number += (byte & 127) << min(place, 35)  # a group behind the fifth is too large wherever it stands
+        place += 7
+        if byte < 128:
+            found.append(min(number, _ELEMENT_MAX))
+            number, place = 0, 0
+    return found + [_ELEMENT_MAX] * (place > 0)
+
+
+def _written(kind: str, values: Iterable[int], file: Any) -> int:
+    """The length of the grammar or the history that is written into the buffer `file`."""
+    reply = _call("write_" + kind, _elements(values), _lent(file))
+    if reply.answer != 0:
+        raise Refusal(reply.answer, None if _whose(reply.answer) == "call" else kind)
+    return reply.length
+
+
+def write_grammar_into(numbers: Iterable[int], file: Any) -> int:
+    """Writes a grammar file into the first bytes of the buffer `file` and gives its length. Raises Refusal (1, 3 to 9, 15).
+
+    `numbers` are those of the file in their order: the stage count, the rule count, and the numbers of each rule. 1 says that
+    there are too few, 9 that there are too many. Bytes behind the file stay; GRAMMAR_BYTES_MAX bytes are enough for every
+    grammar. A number below 0 or above 4,294,967,295 is a ValueError.
+    """
+    return _written("grammar", numbers, file)
+
+
+def write_history_into(numbers: Iterable[int], file: Any) -> int:
+    """Writes a history file into the first bytes of the buffer `file` and gives its length. Raises Refusal (1, 9 to 15).
+
+    `numbers` are those of the file in their order: the token count, and the number of each token. 1 says that there are too
+    few, 9 that there are too many. Bytes behind the file stay; HISTORY_BYTES_MAX bytes are enough for every history. A number
+    below 0 or above 4,294,967,295 is a ValueError.
+    """
+    return _written("history", numbers, file)
+
+
+def write_grammar(numbers: Iterable[int]) -> bytes:
+    """The grammar file of these numbers, as write_grammar_into writes it. Raises Refusal (1, 3 to 9)."""
+    file = bytearray(GRAMMAR_BYTES_MAX)
+    return bytes(file[:write_grammar_into(numbers, file)])
+
+
+def write_history(numbers: Iterable[int]) -> bytes:
+    """The history file of these numbers, as write_history_into writes it. Raises Refusal (1, 9 to 14).
+
+        numbers = gaffmedlar.numbers(history)
+        numbers[0] += 2
+        numbers += [4 * 40 + 1, 4 * 33 + 2]             # a step: open 40, close 33
+        history = gaffmedlar.write_history(numbers)
+    """
+    file = bytearray(HISTORY_BYTES_MAX)
+    return bytes(file[:write_history_into(numbers, file)])
 
 
 def readings(grammar: Any, history: Any) -> Iterator[bytes]:

@@ -7,6 +7,7 @@ SERVICES = [
     ("sets", []),
     ("stop_marks", []),
     ("step_bytes", ["step_bytes", "step_check"]),
+    ("writers", []),
     ("gaffmedlar", []),
     ("listing_output", []),
 ]

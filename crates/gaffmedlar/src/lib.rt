@@ -1,12 +1,13 @@
-// The services for C and for languages that call C. Each answers one number, or a struct with the number and the counts: 0 where all went
-// well, 100 for "none", 101 for "no further", else document 01's number of the refusal. A part of a file is a struct with its place alone, and
-// another function says the number.
+// The services for C and for languages that call C. Each answers one number, or a struct with the number and the counts or the length: 0
+// where all went well, 100 for "none", 101 for "no further", else document 01's number of the refusal. A part of a file is a struct with its
+// place alone, and another function says the number.
 use files::GrammarCheck;
 use files::HistoryCheck;
 use service::Outcome;
 use sets::CountAnswer;
 use step_bytes::StepCheck;
 use step_bytes::StepPlace;
+use writers::WriteAnswer;
 ghost use mathlib.Core.Path.{_≡_};
 ghost use lib.ListN.{length};
 ghost use Rattle.listing_model.specs.believed.Listing.{first, next};
@@ -20,7 +21,8 @@ ghost use Rattle.calls.specs.believed.CallList.{coded, callsDue};
 ghost use Rattle.sets.specs.believed.Sets.{setsDue, countDue};
 ghost use Rattle.stop_marks.specs.believed.StopMarks.{marksDue};
 ghost use Rattle.step_bytes.specs.believed.StepBytes.{stepOf, numberIn};
-ghost use Rattle.gaffmedlar.specs.believed.Wire.{grammarWire, historyWire, countWire, outcomeCode, outcomeWire, callsWire, partWire, stepCode};
+ghost use Rattle.writers.specs.believed.Writers.{writeSaid, grammarWritten, historyWritten};
+ghost use Rattle.gaffmedlar.specs.believed.Wire.{grammarWire, historyWire, countWire, outcomeCode, outcomeWire, callsWire, partWire, stepCode, lengthWire, writeWire};
 
 // 0 and the counts of an accepted grammar; or the number of the refusal, and zeros.
 #[repr(C)]
@@ -51,6 +53,13 @@ pub struct PartReply {
     pub length: usize,
 }
 
+// 0 and the length of the file that was written; or the number of the refusal, and 0.
+#[repr(C)]
+pub struct WriteReply {
+    pub answer: u8,
+    pub length: usize,
+}
+
 // 0, or the number of the refusal.
 fn outcome_code(outcome: Outcome) -> u8
     ensures { λ r. ⌜ r ≡ outcomeCode (outcomeSaid outcome) ⌝ }
@@ -58,6 +67,19 @@ fn outcome_code(outcome: Outcome) -> u8
     match outcome {
         Outcome::Done => 0,
         Outcome::Refused(k) => k,
+    }
+}
+
+// A writer's answer as C sees it.
+fn write_reply(answer: WriteAnswer) -> WriteReply
+    ensures { λ r. ⌜ r ≡ lengthWire (writeSaid answer) ⌝ }
+{
+    match answer {
+        WriteAnswer::Written(length) => WriteReply { answer: 0, length },
+        WriteAnswer::Refused(number) => WriteReply {
+            answer: number,
+            length: 0,
+        },
     }
 }
 
@@ -181,4 +203,20 @@ pub extern "C" fn gaffmedlar_step_refusal(history: &[u8], position: usize) -> u8
         StepCheck::Found => 0,
         StepCheck::Refused(e) => e,
     }
+}
+
+// Writes the grammar file of these numbers, one element each.
+#[no_mangle]
+pub extern "C" fn gaffmedlar_write_grammar(numbers: &[u32], file: &mut [u8]) -> WriteReply
+    ensures { λ r. ⌜ (r, now (file .exit)) ≡ writeWire (grammarWritten (now (numbers .entry)) (now (file .entry))) ⌝ }
+{
+    write_reply(writers::write_grammar(numbers, file))
+}
+
+// Writes the history file of these numbers, one element each.
+#[no_mangle]
+pub extern "C" fn gaffmedlar_write_history(numbers: &[u32], file: &mut [u8]) -> WriteReply
+    ensures { λ r. ⌜ (r, now (file .exit)) ≡ writeWire (historyWritten (now (numbers .entry)) (now (file .entry))) ⌝ }
+{
+    write_reply(writers::write_history(numbers, file))
 }

@@ -49,15 +49,15 @@ pub record Stands (s : List ℕ) (at n next : ℕ) : Type 0 where
   pub next-is : next ≡ at + length (shortest n)
   pub here : drop at s ≡ shortest n ++ drop next s
 
-one-byte : (n : ℕ) → n < 128 → shortest n ≡ n ∷ []
+pub one-byte : (n : ℕ) → n < 128 → shortest n ≡ n ∷ []
 unfolding shortest
 one-byte n h = rw (lt-ltb n 128 h)
 
-two-bytes : (n : ℕ) → 128 ≤ n → shortest n ≡ (n % 128 + 128) ∷ (n / 128) ∷ []
+pub two-bytes : (n : ℕ) → 128 ≤ n → shortest n ≡ (n % 128 + 128) ∷ (n / 128) ∷ []
 unfolding shortest
 two-bytes n h = rw (le-ltb n 128 h)
 
-shortest-some : (n : ℕ) → 0 < length (shortest n)
+pub shortest-some : (n : ℕ) → 0 < length (shortest n)
 unfolding shortest
 shortest-some n = go (ltb n 128)
   where
@@ -65,11 +65,11 @@ shortest-some n = go (ltb n 128)
     go true = omega arith
     go false = omega arith
 
-pub shortest-most : (n : ℕ) → length (shortest n) ≤ 3
+pub shortest-most : (n : ℕ) → length (shortest n) ≤ 2
 unfolding shortest
 shortest-most n = go (ltb n 128)
   where
-    go : (t : Bool) → length (cond t (n ∷ []) ((n % 128 + 128) ∷ (n / 128) ∷ [])) ≤ 3
+    go : (t : Bool) → length (cond t (n ∷ []) ((n % 128 + 128) ∷ (n / 128) ∷ [])) ≤ 2
     go true = omega arith
     go false = omega arith
 

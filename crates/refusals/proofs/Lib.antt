@@ -1,3 +1,4 @@
 pub mod Codes
 pub mod Readers
 pub mod Steps
+pub mod Writers

@@ -26,12 +26,12 @@ use Rattle.history_file.specs.believed.HistoryFile.{HistoryFile, kind, tokenJud
 use Rattle.history_file.specs.believed.HistoryFile as history
 
 -- what holds of both holds of the one chosen
-chosen : {A : Type 0} (Q : A → Type 0) (b : Bool) {x y : A} → Q x → Q y → Q (cond b x y)
+pub chosen : {A : Type 0} (Q : A → Type 0) (b : Bool) {x y : A} → Q x → Q y → Q (cond b x y)
 chosen Q true p q = p
 chosen Q false p q = q
 
 module _ (P : ℕ → Type 0) where
-  abbrev OfNumber : NumberRead → Type 0
+  abbrev pub OfNumber : NumberRead → Type 0
   OfNumber (Number n p) = Unit
   OfNumber (NumberRefused e) = P e
 
@@ -170,20 +170,26 @@ module _ (P : ℕ → Type 0) where
     after-tokens-of (Field n p) h rest k = k n p
     after-tokens-of (FieldRefused e) h rest k = h
 
-  -- a refused grammar is refused by 1 to 9
-  pub grammar-of : P 1 → P 2 → P 3 → P 4 → P 5 → P 6 → P 7 → P 8 → P 9 → (s : List ℕ) → OfGrammar (grammarOf s)
-  unfolding grammarFrom
-  grammar-of one two three four five six seven eight nine s =
-      let of = number-of one two s in
-      after-count-of (bytes s) of (countAt (numberAt s) 0 32 3) (count-of (numberAt s) of 0 32 3 three) _
-      (λ nonterminals at1.
-      after-count-of (bytes s) of (countAt (numberAt s) at1 128 4) (count-of (numberAt s) of at1 128 4 four) _
-      (λ due at2. rules-of (bytes s) of five six seven eight nine nonterminals 0 due at2 []))
+    -- beside the source's own numbers a grammar is refused by 3 to 9
+    pub grammar-from-of : P 3 → P 4 → P 5 → P 6 → P 7 → P 8 → P 9 → OfGrammar (grammarFrom x)
+    unfolding grammarFrom
+    grammar-from-of three four five six seven eight nine =
+        after-count-of (countAt (x .number) 0 32 3) (count-of (x .number) of 0 32 3 three) _
+        (λ nonterminals at1.
+        after-count-of (countAt (x .number) at1 128 4) (count-of (x .number) of at1 128 4 four) _
+        (λ due at2. rules-of five six seven eight nine nonterminals 0 due at2 []))
 
-  -- a refused history by 1, 2, or 9 to 14
+    -- and a history by 9 to 14
+    pub history-from-of : P 9 → P 10 → P 11 → P 12 → P 13 → P 14 → OfHistory (historyFrom x)
+    unfolding historyFrom
+    history-from-of nine ten eleven twelve thirteen fourteen =
+        after-tokens-of (fieldAt (x .number) 0 1025 10) (field-of (x .number) of 0 1025 10 ten) _
+        (λ due at. tokens-of nine eleven twelve thirteen fourteen due at 0 [])
+
+  -- a refused grammar file is refused by 1 to 9
+  pub grammar-of : P 1 → P 2 → P 3 → P 4 → P 5 → P 6 → P 7 → P 8 → P 9 → (s : List ℕ) → OfGrammar (grammarOf s)
+  grammar-of one two three four five six seven eight nine s = grammar-from-of (bytes s) (number-of one two s) three four five six seven eight nine
+
+  -- a refused history file by 1, 2, or 9 to 14
   pub history-of : P 1 → P 2 → P 9 → P 10 → P 11 → P 12 → P 13 → P 14 → (s : List ℕ) → OfHistory (historyOf s)
-  unfolding historyFrom
-  history-of one two nine ten eleven twelve thirteen fourteen s =
-      let of = number-of one two s in
-      after-tokens-of (bytes s) of (fieldAt (numberAt s) 0 1025 10) (field-of (numberAt s) of 0 1025 10 ten) _
-      (λ due at. tokens-of (bytes s) of nine eleven twelve thirteen fourteen due at 0 [])
+  history-of one two nine ten eleven twelve thirteen fourteen s = history-from-of (bytes s) (number-of one two s) nine ten eleven twelve thirteen fourteen

@@ -1,6 +1,6 @@
 -- The number for the bytes of one step is one of a history file's or 17, can be read back from its code, and is there exactly where the part is
 -- empty: so the length of a part tells by itself whether there is a step.
-use Prim.Native.Nat.{ℕ, suc, _+_, _<_, _/_, _%_}
+use Prim.Native.Nat.{ℕ, suc, _+_, _<_}
 use native.Mathlib.Omega.{arith}
 use mathlib.Core.Path.{_≡_, refl}
 use mathlib.Core.Logic.{_≢_, _↔_, _⊎_, inl, inr}
@@ -11,7 +11,8 @@ use borrow.Author.Tests.{ne-eqb}
 use lib.Dec.{eqb, ltb}
 use lib.ListN.{length, getD, take, drop, length-append}
 use lib.Seq.{drop-cons}
-use Rattle.numbers.specs.Written.{shortest, written}
+use Rattle.numbers.specs.Written.{written}
+use Rattle.numbers.proofs.Written.{shortest-some}
 use Rattle.history_file.specs.believed.HistoryFile.{HistoryFile, kind, depthAfter, historyOf}
 use Rattle.history_file.specs.believed.HistoryFile as history-file
 use Rattle.step_bytes.specs.believed.StepBytes.{StepPart, part, refused, later, stepLength, partFrom, stepIn, stepFrom, stepOf, numberIn}
@@ -53,14 +54,6 @@ above (inr (inl h)) q = omega arith
 above (inr (inr h)) q = omega arith
 
 -- ── the part ──
-
-shortest-some : (n : ℕ) → 0 < length (shortest n)
-unfolding shortest
-shortest-some n = go (ltb n 128)
-  where
-    go : (t : Bool) → 0 < length (cond t (n ∷ []) ((n % 128 + 128) ∷ (n / 128) ∷ []))
-    go true = omega arith
-    go false = omega arith
 
 written-some : (n : ℕ) (ns : List ℕ) → 0 < length (written (n ∷ ns))
 unfolding written

@@ -1,6 +1,7 @@
 -- An answer read back from its code, and the numbers that a refusal can have.
 -- Law: codes-read-back, outcomes-read-back (refusals/proofs/Codes.antt)
 -- Law: step-codes (refusals/proofs/Steps.antt)
+-- Law: grammar-write-codes, history-write-codes (refusals/proofs/Writers.antt)
 use Prim.Native.Nat.{ℕ, _≤_}
 use mathlib.Core.Path.{_≡_}
 use mathlib.Core.Logic.{_⊎_}
@@ -30,3 +31,14 @@ StepNumbered e = ((1 ≤ e) × (e ≤ 2)) ⊎ (((9 ≤ e) × (e ≤ 14)) ⊎ (e 
 -- 0 says that there is no number
 abbrev pub numberOf : ℕ → Option ℕ
 numberOf k = cond (eqb k 0) none (some k)
+
+-- the numbers of the writers: those of their file but 2, and 15
+abbrev pub GrammarWriteNumbered : ℕ → Type 0
+GrammarWriteNumbered e = (e ≡ 1) ⊎ (((3 ≤ e) × (e ≤ 9)) ⊎ (e ≡ 15))
+
+abbrev pub HistoryWriteNumbered : ℕ → Type 0
+HistoryWriteNumbered e = (e ≡ 1) ⊎ ((9 ≤ e) × (e ≤ 15))
+
+-- 0 says that the length is that of a file
+abbrev pub lengthOf : ℕ → ℕ → Given ℕ
+lengthOf k n = cond (eqb k 0) (service.given n) (service.refused k)

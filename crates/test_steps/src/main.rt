@@ -3,15 +3,11 @@
 // bytes each the first byte of the part that is due, how many there are, and the history's length; low bytes first), then label and history.
 use step_bytes::StepCheck;
 use step_bytes::StepPlace;
+use test_packed::four;
 use test_packed::part;
 use test_packed::two;
 
 const OUT: i32 = libc::STDOUT_FILENO;
-
-// A number of four bytes, from its halves.
-fn four(low: u16, high: u16) -> u32 {
-    low as u32 + high as u32 * 65536
-}
 
 // A number of eight bytes, from its halves.
 fn eight(low: u32, high: u32) -> usize {

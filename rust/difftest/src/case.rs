@@ -1,10 +1,12 @@
-//! One case: two files, the lent buffers of every service and a position; and the comparison of both sides on it.
+//! One case: two files, the lent buffers of every service, a position and what the writers are called with; and the
+//! comparison of both sides on it.
+use crate::writing::{self, Kind, Writing};
 use frames::Token;
 use gaffmedlar::raw;
 use reference::Work;
 use std::fmt::Write;
 
-#[derive(Clone, PartialEq, Eq)]
+#[derive(Clone, PartialEq, Eq, Default)]
 pub struct Case {
     pub grammar: Vec<u8>,
     pub history: Vec<u8>,
@@ -22,6 +24,17 @@ pub struct Case {
     pub buffer: Vec<u8>,
     /// Where a step is asked for.
     pub position: usize,
+    pub write_grammar: Writing,
+    pub write_history: Writing,
+}
+
+impl Case {
+    pub fn writing(&mut self, kind: Kind) -> &mut Writing {
+        match kind {
+            Kind::Grammar => &mut self.write_grammar,
+            Kind::History => &mut self.write_history,
+        }
+    }
 }
 
 #[derive(Clone, Copy, PartialEq, Eq, Debug)]
@@ -36,9 +49,15 @@ pub enum Service {
     StopMarks,
     /// Both functions: where the part is, and the number.
     StepBytes,
+    /// The writers, and what they write read back.
+    WriteGrammar,
+    WriteHistory,
+    /// A file of the case that passes, written from its own numbers.
+    GrammarAgain,
+    HistoryAgain,
 }
 
-pub const SERVICES: [Service; 9] = [
+pub const SERVICES: [Service; 13] = [
     Service::GrammarCheck,
     Service::HistoryCheck,
     Service::FirstReading,
@@ -48,6 +67,10 @@ pub const SERVICES: [Service; 9] = [
     Service::DoubtfulCount,
     Service::StopMarks,
     Service::StepBytes,
+    Service::WriteGrammar,
+    Service::WriteHistory,
+    Service::GrammarAgain,
+    Service::HistoryAgain,
 ];
 
 /// A wrong library, planted to see that it is found.
@@ -73,9 +96,21 @@ pub enum Fault {
     SeventeenEarly,
     /// A position of which the low 32 bits count alone.
     PositionCut,
+    /// A writer's 15 before the number of what it is to write.
+    FifteenFirst,
+    /// A writer that is refused has written a byte.
+    RefusalWrites,
+    /// A writer clears what is behind the file in the buffer.
+    BehindCleared,
+    /// A writer tells one byte more than the file has.
+    LengthOneMore,
+    /// Every number is written in one byte.
+    WideInOneByte,
+    /// Elements behind the last one don't count.
+    RestIgnored,
 }
 
-pub const FAULTS: [Fault; 10] = [
+pub const FAULTS: [Fault; 16] = [
     Fault::StopsAfterTwo,
     Fault::NoneAsWritten,
     Fault::WritesOneMore,
@@ -86,6 +121,12 @@ pub const FAULTS: [Fault; 10] = [
     Fault::FirstCloseEnds,
     Fault::SeventeenEarly,
     Fault::PositionCut,
+    Fault::FifteenFirst,
+    Fault::RefusalWrites,
+    Fault::BehindCleared,
+    Fault::LengthOneMore,
+    Fault::WideInOneByte,
+    Fault::RestIgnored,
 ];
 
 /// What a service gave: its number, its counts, and its buffers afterwards.
@@ -98,7 +139,7 @@ pub struct Outcome {
 }
 
 impl Outcome {
-    fn of(answer: u8, counts: &[u64], lent: &[&[u8]], words: &[u32]) -> Outcome {
+    pub fn of(answer: u8, counts: &[u64], lent: &[&[u8]], words: &[u32]) -> Outcome {
         Outcome {
             answer,
             counts: counts.to_vec(),
@@ -140,22 +181,22 @@ pub fn hex(bytes: &[u8]) -> String {
 const AROUND: usize = 8;
 
 /// A buffer with elements around it, to see that they stay.
-struct Lent<T>(Vec<T>);
+pub struct Lent<T>(Vec<T>);
 
 impl<T: Copy + PartialEq> Lent<T> {
-    fn new(content: &[T], guard: T) -> Lent<T> {
+    pub fn new(content: &[T], guard: T) -> Lent<T> {
         let mut all = vec![guard; AROUND];
         all.extend_from_slice(content);
         all.extend([guard; AROUND]);
         Lent(all)
     }
 
-    fn part(&mut self) -> &mut [T] {
+    pub fn part(&mut self) -> &mut [T] {
         let end = self.0.len() - AROUND;
         &mut self.0[AROUND..end]
     }
 
-    fn checked(&mut self, guard: T) -> Vec<T> {
+    pub fn checked(&mut self, guard: T) -> Vec<T> {
         let end = self.0.len() - AROUND;
         let around = self.0[..AROUND].iter().chain(&self.0[end..]);
         assert!(
@@ -166,7 +207,7 @@ impl<T: Copy + PartialEq> Lent<T> {
     }
 }
 
-const BYTE: u8 = 0xa5;
+pub const BYTE: u8 = 0xa5;
 const WORD: u32 = 0xa5a5_a5a5;
 
 /// What the library gives.
@@ -215,6 +256,10 @@ pub fn library(case: &Case, service: Service) -> Outcome {
             Outcome::of(answer, &[], &[&lent.checked(BYTE)], &[])
         }
         Service::StepBytes => library_step(history, case.position),
+        Service::WriteGrammar => writing::library(&case.write_grammar, Kind::Grammar),
+        Service::WriteHistory => writing::library(&case.write_history, Kind::History),
+        Service::GrammarAgain => writing::library_again(grammar, Kind::Grammar),
+        Service::HistoryAgain => writing::library_again(history, Kind::History),
     }
 }
 
@@ -268,6 +313,10 @@ pub fn due(case: &Case, work: &Work, service: Service) -> Outcome {
             Ok(part) => Outcome::of(0, &[part.start as u64, part.len() as u64], &[], &[]),
             Err(number) => Outcome::of(number, &[0, 0], &[], &[]),
         },
+        Service::WriteGrammar => writing::due(&case.write_grammar, Kind::Grammar),
+        Service::WriteHistory => writing::due(&case.write_history, Kind::History),
+        Service::GrammarAgain => writing::due_again(&case.grammar, Kind::Grammar),
+        Service::HistoryAgain => writing::due_again(&case.history, Kind::History),
     }
 }
 
@@ -331,6 +380,12 @@ fn spoiled(fault: Fault, case: &Case, service: Service, outcome: Outcome) -> Out
         (Fault::SeventeenEarly, Service::StepBytes) if wrong.answer != 0 => wrong.answer = 17,
         (Fault::PositionCut, Service::StepBytes) => {
             return library_step(&case.history, case.position as u32 as usize);
+        }
+        (_, Service::WriteGrammar) => {
+            return writing::spoiled(fault, &case.write_grammar, Kind::Grammar, wrong);
+        }
+        (_, Service::WriteHistory) => {
+            return writing::spoiled(fault, &case.write_history, Kind::History, wrong);
         }
         _ => {}
     }

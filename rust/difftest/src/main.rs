@@ -5,15 +5,18 @@
 //!     difftest --help
 //!
 //! A case is a grammar file and a history file, with which every service is called once, and a list of calls made; the
-//! bytes of a step are asked for at a position.
+//! bytes of a step are asked for at a position. The writers are called with elements, what they write is read back, and both
+//! files are written again from their numbers.
 //! `--long` runs ten million cases. `--self-test` plants a fault after the other in the library's answers and sees that
 //! each is found and made small. How far it is goes to stderr.
 
 mod case;
+mod elements;
 mod make;
 mod progress;
 mod random;
 mod shrink;
+mod writing;
 
 use case::{compare, hex, Case, Difference, Fault, Service, FAULTS};
 use progress::Progress;
@@ -21,6 +24,7 @@ use random::Random;
 use reference::Work;
 use std::process::ExitCode;
 use std::time::Instant;
+use writing::{Kind, Writing};
 
 const CASES: u64 = 200_000;
 const LONG: u64 = 10_000_000;
@@ -30,6 +34,9 @@ const LIMIT_EVERY: usize = 200;
 const LENGTHS: u64 = 60;
 /// The reference is held against itself in one case of so many.
 const SELF_EVERY: u64 = 8;
+/// A grammar with a rule of each form, and a history with a token of each kind, names of one and of two bytes.
+const GRAMMAR_NUMBERS: [u32; 14] = [3, 3, 0, 1, 1, 0, 5, 2, 2, 1, 3, 0, 7, 2];
+const HISTORY_NUMBERS: [u32; 7] = [6, 1, 0, 161, 252, 134, 2];
 
 const USAGE: &str = "usage: difftest [--cases N] [--long] [--seed S] [--self-test]
 
@@ -89,7 +96,7 @@ impl Seen {
         }
     }
 
-    /// What has to be met at least once: every refusal that a service can give, and its other answers.
+    /// What has to be met at least once, and nothing else: every refusal that a service can give, and its other answers.
     fn needed(service: Service) -> Vec<u8> {
         let grammar = 1..=9;
         let history = [1, 2, 9, 10, 11, 12, 13, 14];
@@ -102,6 +109,11 @@ impl Seen {
             Service::Sets | Service::StopMarks | Service::RunCalls => both.chain([15]).collect(),
             Service::DoubtfulCount => both.collect(),
             Service::StepBytes => [0].into_iter().chain(history).chain([17]).collect(),
+            // elements have no form, so 2 is never given
+            Service::WriteGrammar => [0, 1].into_iter().chain(3..=9).chain([15]).collect(),
+            Service::WriteHistory => [0, 1].into_iter().chain(9..=15).collect(),
+            Service::GrammarAgain => Seen::needed(Service::GrammarCheck),
+            Service::HistoryAgain => Seen::needed(Service::HistoryCheck),
         }
     }
 
@@ -114,9 +126,11 @@ impl Seen {
                 .map(|answer| format!("{answer}: {}", counts[usize::from(answer)]))
                 .collect();
             println!("  {name}  {}", shown.join("  "));
-            for answer in needed {
-                if counts[usize::from(answer)] == 0 {
-                    println!("  NOT MET: {name} {answer}");
+            for answer in 0..=255u8 {
+                let met = counts[usize::from(answer)] > 0;
+                if met != needed.contains(&answer) {
+                    let fault = if met { "NEVER DUE" } else { "NOT MET" };
+                    println!("  {fault}: {name} {answer}");
                     whole = false;
                 }
             }
@@ -134,6 +148,11 @@ impl Seen {
     }
 }
 
+fn show_writing(writing: &Writing) {
+    println!("  elements {:?}", writing.elements);
+    println!("  lent     {}", hex(&writing.buffer));
+}
+
 fn show(case: &Case, difference: &Difference) {
     println!("  grammar  {}", hex(&case.grammar));
     println!("  history  {}", hex(&case.history));
@@ -148,6 +167,8 @@ fn show(case: &Case, difference: &Difference) {
         Service::Sets => println!("  lent     {} words", case.words.len()),
         Service::StopMarks => println!("  lent     {}", hex(&case.marks)),
         Service::StepBytes => println!("  position {}", case.position),
+        Service::WriteGrammar => show_writing(&case.write_grammar),
+        Service::WriteHistory => show_writing(&case.write_history),
         _ => {}
     }
     println!("  library    {}", difference.library.in_words());
@@ -165,21 +186,23 @@ fn tell(case: &Case, difference: &Difference, fault: Option<Fault>) -> Case {
     small
 }
 
-/// Every file of at most two bytes, for both checks and a step.
-fn short_files() -> Option<(Case, Difference)> {
-    let mut case = Case {
-        grammar: vec![],
-        history: vec![],
-        first: vec![],
-        next: vec![],
-        words: vec![],
-        marks: vec![],
-        calls: vec![],
-        answers: vec![],
-        buffer: vec![],
-        position: 0,
-    };
+/// Some services alone, which take no second file.
+fn compare_some(case: &Case, services: &[Service]) -> Option<Difference> {
     let work = Work::new(&[], &[]);
+    services.iter().find_map(|&service| {
+        let library = case::library(case, service);
+        let reference = case::due(case, &work, service);
+        (library != reference).then_some(Difference {
+            service,
+            library,
+            reference,
+        })
+    })
+}
+
+/// Every file of at most two bytes, for both checks, a step and the writers.
+fn short_files() -> Option<(Case, Difference)> {
+    let mut case = Case::default();
     for number in 0..1 + 256 + 65536usize {
         let bytes = match number {
             0 => vec![],
@@ -188,24 +211,53 @@ fn short_files() -> Option<(Case, Difference)> {
         };
         case.grammar.clone_from(&bytes);
         case.history = bytes;
-        for service in [
+        let services = [
             Service::GrammarCheck,
             Service::HistoryCheck,
             Service::StepBytes,
-        ] {
-            let library = case::library(&case, service);
-            let reference = case::due(&case, &work, service);
-            if library != reference {
-                let difference = Difference {
-                    service,
-                    library,
-                    reference,
-                };
-                return Some((case, difference));
-            }
+            Service::GrammarAgain,
+            Service::HistoryAgain,
+        ];
+        if let Some(difference) = compare_some(&case, &services) {
+            return Some((case, difference));
         }
     }
     None
+}
+
+/// Every element up to some that are too large for two bytes, and those around each power of two.
+fn element_values() -> impl Iterator<Item = u32> {
+    let powers = (17..32).flat_map(|k| [(1 << k) - 1, 1 << k, (1 << k) + 1]);
+    (0..=66_000).chain(powers).chain([u32::MAX - 1, u32::MAX])
+}
+
+/// All these values at one place among the numbers of a file.
+fn values_at(kind: Kind, numbers: &[u32], place: usize) -> Option<(Case, Difference)> {
+    let service = match kind {
+        Kind::Grammar => Service::WriteGrammar,
+        Kind::History => Service::WriteHistory,
+    };
+    let mut case = Case::default();
+    *case.writing(kind) = Writing {
+        elements: numbers.to_vec(),
+        buffer: vec![170; 20],
+    };
+    for value in element_values() {
+        case.writing(kind).elements[place] = value;
+        if let Some(difference) = compare_some(&case, &[service]) {
+            return Some((case, difference));
+        }
+    }
+    None
+}
+
+/// And so at every place of both files.
+fn all_elements() -> Option<(Case, Difference)> {
+    let of_grammar = |place| values_at(Kind::Grammar, &GRAMMAR_NUMBERS, place);
+    let of_history = |place| values_at(Kind::History, &HISTORY_NUMBERS, place);
+    (0..GRAMMAR_NUMBERS.len())
+        .find_map(of_grammar)
+        .or_else(|| (0..HISTORY_NUMBERS.len()).find_map(of_history))
 }
 
 /// Every length of every buffer from nothing to a few elements more than needed, and every position from 0 to some behind
@@ -213,10 +265,13 @@ fn short_files() -> Option<(Case, Difference)> {
 fn all_lengths(seed: u64) -> Option<(Case, Difference)> {
     for number in 0..LENGTHS {
         let mut random = Random::new(seed.wrapping_mul(0x1000_0000_0000) ^ !number);
-        let whole = make::case(&mut random, usize::MAX);
+        let mut whole = make::case(&mut random, usize::MAX);
+        whole.write_grammar.elements = gaffmedlar::numbers(&whole.grammar);
+        whole.write_history.elements = gaffmedlar::numbers(&whole.history);
         let positions = Work::new(&whole.grammar, &whole.history).positions();
         let positions = positions.unwrap_or(4);
-        for length in 0..4 * positions + 7 {
+        let files = whole.grammar.len().max(whole.history.len());
+        for length in 0..(4 * positions + 7).max(files + 5) {
             let mut case = whole.clone();
             let bytes = [
                 &mut case.first,
@@ -227,7 +282,10 @@ fn all_lengths(seed: u64) -> Option<(Case, Difference)> {
             for bytes in bytes {
                 bytes.resize(length.min(positions + 5), length as u8);
             }
-            case.words.resize(length, 0x1234_5678);
+            case.words
+                .resize(length.min(4 * positions + 6), 0x1234_5678);
+            case.write_grammar.buffer.resize(length, 170);
+            case.write_history.buffer.resize(length, 170);
             case.position = length;
             case.answers.resize(length.min(case.calls.len() + 5), 77);
             if let Some(difference) = compare(&case, None, |_, _| {}) {
@@ -240,7 +298,9 @@ fn all_lengths(seed: u64) -> Option<(Case, Difference)> {
 
 fn compare_all(options: &Options) -> bool {
     let start = Instant::now();
-    let found = short_files().or_else(|| all_lengths(options.seed));
+    let found = short_files()
+        .or_else(all_elements)
+        .or_else(|| all_lengths(options.seed));
     if let Some((case, difference)) = found {
         tell(&case, &difference, None);
         return false;
@@ -278,8 +338,9 @@ fn compare_all(options: &Options) -> bool {
     progress.end();
     let whole = seen.report();
     println!(
-        "{} cases, {calls} calls, all files of two bytes at most, {LENGTHS} files at all lengths of buffers and all positions, seed {}: no difference, {:.1} s",
+        "{} cases, {calls} calls, all files of two bytes at most, {} elements at all places, {LENGTHS} files at all lengths of buffers and all positions, seed {}: no difference, {:.1} s",
         options.cases,
+        element_values().count(),
         options.seed,
         start.elapsed().as_secs_f64()
     );

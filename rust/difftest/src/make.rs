@@ -1,10 +1,13 @@
 //! Makes cases: files that pass and damaged ones, short ones and those at a limit, with buffers around the length that
-//! is needed, and positions of opens, beside them and behind the last token.
+//! is needed, positions of opens, beside them and behind the last token, and elements to be written.
 use crate::case::Case;
+use crate::elements::elements;
 use crate::random::Random;
+use crate::writing::{Kind, Writing};
 use frames::{
     grammar_file, grammar_numbers, history_file, history_numbers, numbers_file, Rule, Token, G,
 };
+use gaffmedlar::HISTORY_BYTES_MAX;
 use reference::big::Big;
 use reference::{parse_history, Work};
 
@@ -430,6 +433,18 @@ impl Maker<'_> {
         }
     }
 
+    /// Elements that are often the file's own numbers, and a buffer around the length that they take.
+    fn writing(&mut self, file: &[u8], kind: Kind) -> Writing {
+        let elements = elements(self.random, file, kind);
+        let mut room = [0; HISTORY_BYTES_MAX];
+        let written = kind.due(&elements, &mut room);
+        let length = self.length(Some(written.unwrap_or(elements.len())));
+        Writing {
+            elements,
+            buffer: self.random.bytes(length),
+        }
+    }
+
     fn case(&mut self, limit: bool) -> Case {
         let (grammar, history) = if limit {
             self.limit_files()
@@ -469,6 +484,8 @@ impl Maker<'_> {
             self.random.bytes(length)
         };
         let position = self.position(&history);
+        let write_grammar = self.writing(&grammar, Kind::Grammar);
+        let write_history = self.writing(&history, Kind::History);
         Case {
             grammar,
             history,
@@ -480,6 +497,8 @@ impl Maker<'_> {
             answers,
             buffer,
             position,
+            write_grammar,
+            write_history,
         }
     }
 }

@@ -1,6 +1,7 @@
 //! Makes a case smaller as long as both sides still differ on it.
 use crate::case::{compare, Case, Fault};
 use crate::make::tokens_without;
+use crate::writing::{Kind, Writing};
 use frames::{grammar_file, history_file, Token};
 use reference::big::Big;
 use reference::files::partners;
@@ -21,6 +22,8 @@ fn weight(case: &Case) -> u128 {
         &case.calls,
         &case.answers,
         &case.buffer,
+        &case.write_grammar.buffer,
+        &case.write_history.buffer,
     ];
     let elements = parts
         .iter()
@@ -28,7 +31,9 @@ fn weight(case: &Case) -> u128 {
         .sum::<usize>()
         + 1000 * case.words.len()
         + case.words.iter().filter(|&&word| word != 0).count();
-    elements as u128 + case.position as u128
+    let written = [&case.write_grammar.elements, &case.write_history.elements].into_iter();
+    let numbers = written.map(|all| all.iter().map(|&n| 1000 + u128::from(n)).sum::<u128>());
+    elements as u128 + case.position as u128 + numbers.sum::<u128>()
 }
 
 pub fn shrink(case: &Case, fault: Option<Fault>) -> Case {
@@ -56,12 +61,17 @@ fn candidates(case: &Case) -> Vec<Case> {
     bytes_dropped(case, &mut all);
     bytes_lowered(case, &mut all);
     position_lowered(case, &mut all);
+    for kind in [Kind::Grammar, Kind::History] {
+        elements_dropped(case, kind, &mut all);
+        elements_uncounted(case, kind, &mut all);
+        elements_lowered(case, kind, &mut all);
+    }
     all
 }
 
 /// Buffers that may not matter at all.
 fn parts_dropped(case: &Case, all: &mut Vec<Case>) {
-    for which in 0..7 {
+    for which in 0..9 {
         let mut smaller = case.clone();
         match which {
             0 => smaller.first.clear(),
@@ -70,7 +80,9 @@ fn parts_dropped(case: &Case, all: &mut Vec<Case>) {
             3 => smaller.marks.clear(),
             4 => smaller.calls.clear(),
             5 => smaller.answers.clear(),
-            _ => smaller.buffer.clear(),
+            6 => smaller.buffer.clear(),
+            7 => smaller.write_grammar = Writing::default(),
+            _ => smaller.write_history = Writing::default(),
         }
         all.push(smaller);
     }
@@ -168,13 +180,15 @@ fn field(case: &mut Case, which: usize) -> &mut Vec<u8> {
         4 => &mut case.marks,
         5 => &mut case.calls,
         6 => &mut case.answers,
-        _ => &mut case.buffer,
+        7 => &mut case.buffer,
+        8 => &mut case.write_grammar.buffer,
+        _ => &mut case.write_history.buffer,
     }
 }
 
 fn bytes_dropped(case: &Case, all: &mut Vec<Case>) {
     let mut work = case.clone();
-    for which in 0..8 {
+    for which in 0..10 {
         let length = field(&mut work, which).len();
         let mut piece = length;
         while piece > 0 {
@@ -199,7 +213,7 @@ fn bytes_dropped(case: &Case, all: &mut Vec<Case>) {
 
 fn bytes_lowered(case: &Case, all: &mut Vec<Case>) {
     let mut work = case.clone();
-    for which in 0..8 {
+    for which in 0..10 {
         for place in 0..field(&mut work, which).len() {
             let byte = field(&mut work, which)[place];
             for lower in [0, byte / 2, byte.saturating_sub(1)] {
@@ -227,6 +241,51 @@ fn position_lowered(case: &Case, all: &mut Vec<Case>) {
             let mut smaller = case.clone();
             smaller.position = lower;
             all.push(smaller);
+        }
+    }
+}
+
+/// A writer's elements without some, in pieces as the bytes.
+fn elements_dropped(case: &Case, kind: Kind, all: &mut Vec<Case>) {
+    let length = case.clone().writing(kind).elements.len();
+    let mut piece = length;
+    while piece > 0 {
+        for place in (0..=length - piece).step_by(piece) {
+            let mut smaller = case.clone();
+            smaller.writing(kind).elements.drain(place..place + piece);
+            all.push(smaller);
+        }
+        piece /= 2;
+    }
+}
+
+/// One rule less, or one token or two, and the count before them less by as many.
+fn elements_uncounted(case: &Case, kind: Kind, all: &mut Vec<Case>) {
+    let (count, pieces): (usize, &[(usize, u32)]) = match kind {
+        Kind::Grammar => (1, &[(2, 1), (4, 1), (6, 1)]),
+        Kind::History => (0, &[(1, 1), (2, 2)]),
+    };
+    let length = case.clone().writing(kind).elements.len();
+    for &(piece, less) in pieces {
+        for place in count + 1..(length + 1).saturating_sub(piece) {
+            let mut smaller = case.clone();
+            let elements = &mut smaller.writing(kind).elements;
+            elements.drain(place..place + piece);
+            elements[count] = elements[count].saturating_sub(less);
+            all.push(smaller);
+        }
+    }
+}
+
+fn elements_lowered(case: &Case, kind: Kind, all: &mut Vec<Case>) {
+    let elements = case.clone().writing(kind).elements.clone();
+    for (place, &element) in elements.iter().enumerate() {
+        for lower in [0, element / 2, element.saturating_sub(1)] {
+            if lower < element {
+                let mut smaller = case.clone();
+                smaller.writing(kind).elements[place] = lower;
+                all.push(smaller);
+            }
         }
     }
 }

@@ -1,13 +1,18 @@
 //! Reads edit histories by a visibly pushdown grammar.
 //!
-//! Every function here calls one proved service of the archive `libgaffmedlar.a` and turns its number into an enum. The files
-//! are byte strings of any content; a file or a buffer that does not pass is answered by a [`Refused`], and then no
-//! element of a buffer changes. The bytes of one step, which need a history alone, are refused by the [`Refusal`] itself.
-//! README.md says what the two files hold.
+//! Every function here calls one proved service of the archive `libgaffmedlar.a` and turns its number into an enum; [`numbers`]
+//! alone is plain Rust. The files are byte strings of any content; a file or a buffer that does not pass is answered by a
+//! [`Refused`], and then no element of a buffer changes. The bytes of one step, which need a history alone, and the writers,
+//! which make one file, are refused by the [`Refusal`] itself. README.md says what the two files hold.
 //!
 //! A history of n tokens has positions 0 to n. A reading has one rule number for each of them, so it is n + 1 bytes.
 
+mod numbers;
 mod wire;
+mod writers;
+
+pub use numbers::numbers;
+pub use writers::{write_grammar, write_grammar_into, write_history, write_history_into};
 
 use std::fmt;
 use std::ops::Range;
@@ -125,6 +130,10 @@ impl std::error::Error for Refused {}
 pub const READING_MAX: usize = 1025;
 /// Words of the sets of such a history.
 pub const WORDS_MAX: usize = 4 * READING_MAX;
+/// Bytes of the longest grammar file that passes.
+pub const GRAMMAR_BYTES_MAX: usize = 771;
+/// Bytes of the longest history file that passes.
+pub const HISTORY_BYTES_MAX: usize = 2050;
 
 /// The counts of a grammar that passes.
 #[derive(Clone, Copy, Debug, PartialEq, Eq)]

@@ -33,8 +33,16 @@ pub struct PartReply {
     pub length: usize,
 }
 
+/// 0 and the length of the file, or the number of the refusal and 0.
+#[repr(C)]
+#[derive(Clone, Copy, Debug, PartialEq, Eq)]
+pub struct WriteReply {
+    pub answer: u8,
+    pub length: usize,
+}
+
 mod linked {
-    use super::{CountReply, GrammarReply, HistoryReply, PartReply};
+    use super::{CountReply, GrammarReply, HistoryReply, PartReply, WriteReply};
 
     extern "C" {
         pub fn gaffmedlar_grammar_check(grammar: *const u8, grammar_len: usize) -> GrammarReply;
@@ -99,6 +107,18 @@ mod linked {
             history_len: usize,
             position: usize,
         ) -> u8;
+        pub fn gaffmedlar_write_grammar(
+            numbers: *const u32,
+            numbers_len: usize,
+            file: *mut u8,
+            file_len: usize,
+        ) -> WriteReply;
+        pub fn gaffmedlar_write_history(
+            numbers: *const u32,
+            numbers_len: usize,
+            file: *mut u8,
+            file_len: usize,
+        ) -> WriteReply;
     }
 }
 
@@ -206,4 +226,26 @@ pub fn step_bytes(history: &[u8], position: usize) -> PartReply {
 
 pub fn step_refusal(history: &[u8], position: usize) -> u8 {
     unsafe { linked::gaffmedlar_step_refusal(history.as_ptr(), history.len(), position) }
+}
+
+pub fn write_grammar(numbers: &[u32], file: &mut [u8]) -> WriteReply {
+    unsafe {
+        linked::gaffmedlar_write_grammar(
+            numbers.as_ptr(),
+            numbers.len(),
+            file.as_mut_ptr(),
+            file.len(),
+        )
+    }
+}
+
+pub fn write_history(numbers: &[u32], file: &mut [u8]) -> WriteReply {
+    unsafe {
+        linked::gaffmedlar_write_history(
+            numbers.as_ptr(),
+            numbers.len(),
+            file.as_mut_ptr(),
+            file.len(),
+        )
+    }
 }

@@ -3,7 +3,8 @@
 //! The algorithms are other ones on purpose. A history with few readings is worked through by writing down every
 //! reading ([`listed`]); one with many by counting readings with exact numbers of any size ([`counted`]), where the
 //! successor of a reading is found by its place in the order. Stop marks recognise each beginning by itself
-//! ([`marks`]). The bytes of one step are found by reading it whole ([`steps`]). Nothing here is fast.
+//! ([`marks`]). The bytes of one step are found by reading it whole ([`steps`]). Files are written from elements that are
+//! judged as they are, without the reader ([`writers`]). Nothing here is fast.
 
 pub mod big;
 pub mod counted;
@@ -12,10 +13,12 @@ pub mod listed;
 pub mod marks;
 pub mod services;
 pub mod steps;
+pub mod writers;
 
 pub use files::{parse_grammar, parse_history, Grammar};
 pub use services::{grammar_check, history_check, Work};
 pub use steps::step_bytes;
+pub use writers::{write_grammar, write_history};
 
 /// "none".
 pub const NO_READING: u8 = 100;

@@ -1,7 +1,7 @@
 -- The services' answers as C sees them: one number, or a struct with the number and the counts. 0 says that all went well; a refusal keeps
 -- document 01's number, 1 to 17; 100 is "none" and 101 "no further" (`codeOf` of the crate calls). A part of a file is a struct with its place,
--- and its number is a function by itself.
--- Clauses: 7.9, 10.5 (docs/SPECIFICATION.md)
+-- and its number is a function by itself. A writer's answer is a struct with the number and the length.
+-- Clauses: 7.9, 10.5, 11.5 (docs/SPECIFICATION.md)
 use Prim.Native.Nat.{ℕ}
 use mathlib.Core.List.{List}
 use mathlib.Core.Option.{Option, none, some}
@@ -14,6 +14,7 @@ use Rattle.gaffmedlar.specs.declared.GrammarReply.{GrammarReply}
 use Rattle.gaffmedlar.specs.declared.HistoryReply.{HistoryReply}
 use Rattle.gaffmedlar.specs.declared.CountReply.{CountReply}
 use Rattle.gaffmedlar.specs.declared.PartReply.{PartReply}
+use Rattle.gaffmedlar.specs.declared.WriteReply.{WriteReply}
 
 -- 0 with the counts, or the number of the refusal with zeros
 abbrev pub grammarWire : Verdict → GrammarReply
@@ -49,3 +50,12 @@ partWire p = record { start = startIn p; length = length (bytesIn p) }
 abbrev pub stepCode : Option ℕ → ℕ
 stepCode none = 0
 stepCode (some k) = k
+
+-- 0 with the length of the file, or the number of the refusal with 0
+abbrev pub lengthWire : Given ℕ → WriteReply
+lengthWire (given n) = record { answer = 0; length = n }
+lengthWire (service.refused k) = record { answer = k; length = 0 }
+
+-- a writer's answer, with what it leaves in its buffer
+abbrev pub writeWire : Given ℕ × List ℕ → WriteReply × List ℕ
+writeWire p = (lengthWire (p .0), p .1)

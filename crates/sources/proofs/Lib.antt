@@ -1,0 +1,5 @@
+pub mod Alike
+pub mod Encoded
+pub mod Grammars
+pub mod Histories
+pub mod Holding

@@ -1,0 +1,226 @@
+//! The writers of both files.
+use crate::{refusal, wire, Refusal, GRAMMAR_BYTES_MAX, HISTORY_BYTES_MAX};
+
+/// Writes a grammar file from its numbers in their order, one element each: the stage count, the rule count, and the numbers
+/// of each rule. [`numbers`](crate::numbers) gives those of a file.
+///
+/// It is refused as the file would be, by the first fault: [`Refusal::BytesEnd`] stands for too few elements,
+/// [`Refusal::BytesFollow`] for too many. An element that is too large for every file is refused by what stands in its
+/// place, as a name by [`Refusal::Name`].
+///
+/// ```
+/// // an integrator adds a rule: stage 0 becomes mark 5, stage 0
+/// let grammar = [1, 1, 0, 0];
+/// let mut numbers = gaffmedlar::numbers(&grammar);
+/// numbers[1] += 1;
+/// numbers.extend([1, 0, 5, 0]);
+/// assert_eq!(gaffmedlar::write_grammar(&numbers), Ok(vec![1, 2, 0, 0, 1, 0, 5, 0]));
+/// ```
+pub fn write_grammar(numbers: &[u32]) -> Result<Vec<u8>, Refusal> {
+    written(numbers, GRAMMAR_BYTES_MAX, write_grammar_into)
+}
+
+/// The same into the caller's buffer: gives the length of the file, which stands at the buffer's beginning. Bytes behind it
+/// stay. Where nothing is wrong with the numbers and the buffer is shorter than the file, it is refused by
+/// [`Refusal::BufferShort`]; [`GRAMMAR_BYTES_MAX`] bytes are enough for every grammar.
+pub fn write_grammar_into(numbers: &[u32], file: &mut [u8]) -> Result<usize, Refusal> {
+    length(wire::write_grammar(numbers, file))
+}
+
+/// Writes a history file from its numbers in their order, one element each: the token count, and the number of each token.
+/// [`numbers`](crate::numbers) gives those of a file. It is refused as [`write_grammar`] is.
+///
+/// ```
+/// // a camera appends a step: open 40, close 33
+/// let history = [3, 1, 0, 2];
+/// let mut numbers = gaffmedlar::numbers(&history);
+/// numbers[0] += 2;
+/// numbers.extend([4 * 40 + 1, 4 * 33 + 2]);
+/// assert_eq!(gaffmedlar::write_history(&numbers), Ok(vec![5, 1, 0, 2, 161, 1, 134, 1]));
+/// ```
+pub fn write_history(numbers: &[u32]) -> Result<Vec<u8>, Refusal> {
+    written(numbers, HISTORY_BYTES_MAX, write_history_into)
+}
+
+/// The same into the caller's buffer, as [`write_grammar_into`]; [`HISTORY_BYTES_MAX`] bytes are enough for every history.
+pub fn write_history_into(numbers: &[u32], file: &mut [u8]) -> Result<usize, Refusal> {
+    length(wire::write_history(numbers, file))
+}
+
+fn length(reply: wire::WriteReply) -> Result<usize, Refusal> {
+    match reply.answer {
+        0 => Ok(reply.length),
+        k => Err(refusal(k)),
+    }
+}
+
+/// The file that a writer makes, where `most` bytes are enough for every one.
+fn written(
+    numbers: &[u32],
+    most: usize,
+    write_into: fn(&[u32], &mut [u8]) -> Result<usize, Refusal>,
+) -> Result<Vec<u8>, Refusal> {
+    let mut file = vec![0; most];
+    let length = write_into(numbers, &mut file)?;
+    file.truncate(length);
+    Ok(file)
+}
+
+#[cfg(test)]
+mod tests {
+    use super::*;
+    use crate::{grammar_check, history_check};
+    use frames::G;
+
+    type Write = fn(&[u32]) -> Result<Vec<u8>, Refusal>;
+    type WriteInto = fn(&[u32], &mut [u8]) -> Result<usize, Refusal>;
+    const GRAMMAR_WRITER: (Write, WriteInto) = (write_grammar, write_grammar_into);
+    const HISTORY_WRITER: (Write, WriteInto) = (write_history, write_history_into);
+
+    /// A refused reply has no length.
+    #[test]
+    fn replies() {
+        let refused = |answer| wire::WriteReply { answer, length: 0 };
+        assert_eq!(wire::write_grammar(&[1], &mut [9; 3]), refused(1));
+        assert_eq!(wire::write_grammar(&[1, 1, 0, 0], &mut [9; 3]), refused(15));
+        assert_eq!(wire::write_history(&[1, 2], &mut [9; 3]), refused(12));
+        assert_eq!(wire::write_history(&[0], &mut []), refused(15));
+        let written = wire::write_history(&[1, 128], &mut [9; 3]);
+        assert_eq!((written.answer, written.length), (0, 3));
+    }
+
+    fn elements(bytes: &[u8]) -> Vec<u32> {
+        bytes.iter().map(|&byte| byte.into()).collect()
+    }
+
+    /// The longest files: 128 rules of six numbers, and 1,024 tokens of two bytes; their numbers and their bytes.
+    fn longest() -> [(Vec<u32>, Vec<u8>); 2] {
+        let rules = (0..128).flat_map(|rule| [2, rule / 64, rule % 64, 31, 63, 0]);
+        let rules: Vec<u8> = rules.collect();
+        let tokens = [161u32, 134].repeat(512);
+        [
+            (
+                [vec![32, 128], elements(&rules)].concat(),
+                [vec![32, 128, 1], rules].concat(),
+            ),
+            (
+                [vec![1024], tokens].concat(),
+                [vec![128, 8], [161, 1, 134, 1].repeat(512)].concat(),
+            ),
+        ]
+    }
+
+    /// A writer on a buffer of every length up to some bytes more than the file has, between bytes that are not its own.
+    fn writes((write, write_into): (Write, WriteInto), numbers: &[u32], file: &[u8]) {
+        assert_eq!(write(numbers), Ok(file.to_vec()));
+        for room in 0..file.len() + 6 {
+            let mut memory = vec![170; 5 + room + 5];
+            let reply = write_into(numbers, &mut memory[5..5 + room]);
+            let mut due = vec![170; 5 + room + 5];
+            if room < file.len() {
+                assert_eq!(reply, Err(Refusal::BufferShort));
+            } else {
+                assert_eq!(reply, Ok(file.len()));
+                due[5..5 + file.len()].copy_from_slice(file);
+            }
+            assert_eq!(memory, due);
+        }
+    }
+
+    #[test]
+    fn written_files() {
+        let [grammar, history] = longest();
+        assert_eq!(grammar.1.len(), GRAMMAR_BYTES_MAX);
+        assert_eq!(history.1.len(), HISTORY_BYTES_MAX);
+        for (numbers, file) in [(elements(&G), G.to_vec()), grammar] {
+            writes(GRAMMAR_WRITER, &numbers, &file);
+            assert!(grammar_check(&file).is_ok());
+            assert_eq!(crate::numbers(&file), numbers);
+        }
+        let wide = (vec![2, 161, 134], vec![2, 161, 1, 134, 1]);
+        for (numbers, file) in [(vec![0], vec![0]), wide, history] {
+            writes(HISTORY_WRITER, &numbers, &file);
+            assert_eq!(history_check(&file), Ok(numbers.len() - 1));
+            assert_eq!(crate::numbers(&file), numbers);
+        }
+    }
+
+    /// The numbers that a grammar's writer turns down, and by what.
+    fn refused_grammars() -> Vec<(Vec<u32>, Refusal)> {
+        let g = elements(&G);
+        vec![
+            (g[..27].to_vec(), Refusal::BytesEnd),
+            ([&g[..], &[5]].concat(), Refusal::BytesFollow),
+            (vec![1, 1, 1, 0, 70_000, 0], Refusal::Name),
+            (vec![0, 1, 0, 0], Refusal::StageCount),
+            (vec![33, 1, 0, 0], Refusal::StageCount),
+            (vec![257, 1, 0, 0], Refusal::StageCount),
+            (vec![u32::MAX, 1, 0, 0], Refusal::StageCount),
+            (vec![1, 0], Refusal::RuleCount),
+            (vec![1, 129, 0, 0], Refusal::RuleCount),
+            (vec![1, u32::MAX, 0, 0], Refusal::RuleCount),
+            (vec![1, 1, 1 << 16, 0], Refusal::Form),
+            (vec![1, 1, 0, 1 << 16], Refusal::Stage),
+            // 8 before a later 1, and 7 before a later 9
+            (vec![1, 128, 0, 0, 0, 0], Refusal::RuleTwice),
+            (vec![1, 1, 1, 0, 64, 0, 0], Refusal::Name),
+            (vec![1, 2, 0, 0], Refusal::BytesEnd),
+            (vec![], Refusal::BytesEnd),
+        ]
+    }
+
+    fn refused_histories() -> Vec<(Vec<u32>, Refusal)> {
+        vec![
+            (vec![], Refusal::BytesEnd),
+            (vec![1], Refusal::BytesEnd),
+            (vec![1, 0, 0], Refusal::BytesFollow),
+            (vec![u32::MAX], Refusal::TokenCount),
+            (vec![1 << 16], Refusal::TokenCount),
+            (vec![1025], Refusal::TokenCount),
+            (vec![1, 16384], Refusal::Token),
+            (vec![1, 1 << 16], Refusal::Token),
+            (vec![1, 3], Refusal::Token),
+            (vec![1, 2], Refusal::CloseWithoutOpen),
+            // 13 before 9
+            (vec![2, 1, 1, 0], Refusal::StillOpen),
+            ([vec![129], vec![1; 129]].concat(), Refusal::TooDeep),
+        ]
+    }
+
+    /// A refused writer writes nothing, and the numbers are judged before the buffer.
+    fn refuses((write, write_into): (Write, WriteInto), numbers: &[u32], refusal: Refusal) {
+        assert_eq!(write(numbers), Err(refusal));
+        for room in [0, 1, 5, 100, 3000] {
+            let mut file = vec![170; room];
+            assert_eq!(write_into(numbers, &mut file), Err(refusal));
+            assert_eq!(file, vec![170; room]);
+        }
+    }
+
+    #[test]
+    fn refused_writers() {
+        for (numbers, refusal) in refused_grammars() {
+            refuses(GRAMMAR_WRITER, &numbers, refusal);
+        }
+        for (numbers, refusal) in refused_histories() {
+            refuses(HISTORY_WRITER, &numbers, refusal);
+        }
+    }
+
+    /// Elements behind the last one are too many, however many they are.
+    #[test]
+    fn far_too_many_elements() {
+        let [grammar, history] = longest();
+        for ((write, _), numbers) in [
+            (GRAMMAR_WRITER, elements(&G)),
+            (GRAMMAR_WRITER, grammar.0),
+            (HISTORY_WRITER, vec![0]),
+            (HISTORY_WRITER, history.0),
+        ] {
+            for more in [1, 2, 255, 256, 257, 5000] {
+                let longer = [numbers.clone(), vec![0; more]].concat();
+                assert_eq!(write(&longer), Err(Refusal::BytesFollow));
+            }
+        }
+    }
+}

@@ -1,0 +1,173 @@
+//! The writers of both files, by document 02's words: the elements are judged one after the other by document 01's table,
+//! and then written. Nothing of the reader is used.
+use std::ops::RangeInclusive;
+use std::slice::Iter;
+
+/// Writes a grammar file into the buffer and gives its length, or the number of the refusal.
+pub fn write_grammar(elements: &[u32], buffer: &mut [u8]) -> Result<usize, u8> {
+    judge_grammar(elements)?;
+    fill(elements, buffer)
+}
+
+/// Writes a history file into the buffer and gives its length, or the number of the refusal.
+pub fn write_history(elements: &[u32], buffer: &mut [u8]) -> Result<usize, u8> {
+    judge_history(elements)?;
+    fill(elements, buffer)
+}
+
+/// The next element, where it is one of those allowed: 1 where there is none, else the number that is due for others.
+fn next(rest: &mut Iter<u32>, allowed: RangeInclusive<u32>, number: u8) -> Result<u32, u8> {
+    match rest.next() {
+        None => Err(1),
+        Some(element) if allowed.contains(element) => Ok(*element),
+        Some(_) => Err(number),
+    }
+}
+
+fn judge_grammar(elements: &[u32]) -> Result<(), u8> {
+    let mut rest = elements.iter();
+    let stages = next(&mut rest, 1..=32, 3)?;
+    let count = next(&mut rest, 1..=128, 4)?;
+    let mut earlier: Vec<&[u32]> = Vec::new();
+    for _ in 0..count {
+        let from = rest.as_slice();
+        judge_rule(&mut rest, stages)?;
+        let rule = &from[..from.len() - rest.len()];
+        if earlier.contains(&rule) {
+            return Err(8);
+        }
+        earlier.push(rule);
+    }
+    none_left(rest)
+}
+
+/// A form, a stage, and for each token that the form makes its name and a stage.
+fn judge_rule(rest: &mut Iter<u32>, stages: u32) -> Result<(), u8> {
+    let tokens = next(rest, 0..=2, 5)?;
+    next(rest, 0..=stages - 1, 6)?;
+    for _ in 0..tokens {
+        next(rest, 0..=63, 7)?;
+        next(rest, 0..=stages - 1, 6)?;
+    }
+    Ok(())
+}
+
+fn judge_history(elements: &[u32]) -> Result<(), u8> {
+    let mut rest = elements.iter();
+    let count = next(&mut rest, 0..=1024, 10)?;
+    let mut open = 0;
+    for _ in 0..count {
+        let kind = next(&mut rest, 0..=255, 11)? % 4;
+        open = match (kind, open) {
+            (0, _) => open,
+            (1, 128) => return Err(14),
+            (1, _) => open + 1,
+            (2, 0) => return Err(12),
+            (2, _) => open - 1,
+            _ => return Err(11),
+        };
+    }
+    if open > 0 {
+        return Err(13);
+    }
+    none_left(rest)
+}
+
+fn none_left(rest: Iter<u32>) -> Result<(), u8> {
+    match rest.len() {
+        0 => Ok(()),
+        _ => Err(9),
+    }
+}
+
+/// The elements that passed, into the buffer's first bytes; or 15.
+fn fill(elements: &[u32], buffer: &mut [u8]) -> Result<usize, u8> {
+    let file: Vec<u8> = elements.iter().flat_map(|&number| groups(number)).collect();
+    let room = buffer.get_mut(..file.len()).ok_or(15)?;
+    room.copy_from_slice(&file);
+    Ok(file.len())
+}
+
+/// A number in groups of seven bits, lowest group first, each byte but the last with its top bit set.
+fn groups(number: u32) -> Vec<u8> {
+    let low = (number & 0x7f) as u8;
+    match number >> 7 {
+        0 => vec![low],
+        higher => [vec![low | 0x80], groups(higher)].concat(),
+    }
+}
+
+#[cfg(test)]
+mod tests {
+    use super::*;
+    use frames::G;
+
+    type Writer = fn(&[u32], &mut [u8]) -> Result<usize, u8>;
+
+    /// The buffer is filled with 170 before.
+    fn due(write: Writer, elements: &[u32], room: usize, due: Result<&[u8], u8>) {
+        let mut buffer = vec![170; room];
+        let mut after = buffer.clone();
+        if let Ok(file) = due {
+            after[..file.len()].copy_from_slice(file);
+        }
+        assert_eq!(write(elements, &mut buffer), due.map(|file| file.len()));
+        assert_eq!(buffer, after);
+    }
+
+    #[test]
+    fn examples_of_grammars() {
+        let g = G.map(u32::from);
+        due(write_grammar, &g, 28, Ok(&G));
+        due(write_grammar, &g, 40, Ok(&G));
+        due(write_grammar, &g, 27, Err(15));
+        for room in [0, 28] {
+            due(write_grammar, &g[..27], room, Err(1));
+            due(write_grammar, &[&g[..], &[5]].concat(), room, Err(9));
+            due(write_grammar, &[1, 1, 1, 0, 70_000, 0], room, Err(7));
+            due(write_grammar, &[1, 128, 0, 0, 0, 0], room, Err(8));
+            due(write_grammar, &[], room, Err(1));
+            due(write_grammar, &[u32::MAX], room, Err(3));
+        }
+    }
+
+    #[test]
+    fn examples_of_histories() {
+        due(write_history, &[2, 161, 134], 5, Ok(&[2, 161, 1, 134, 1]));
+        due(write_history, &[2, 161, 134], 9, Ok(&[2, 161, 1, 134, 1]));
+        due(write_history, &[2, 161, 134], 4, Err(15));
+        due(write_history, &[0], 0, Err(15));
+        due(write_history, &[0], 1, Ok(&[0]));
+        for room in [0, 9] {
+            due(write_history, &[2, 1, 1, 0], room, Err(13));
+            due(write_history, &[1, 0, 0], room, Err(9));
+            due(write_history, &[1, 16384], room, Err(11));
+            due(write_history, &[1025], room, Err(10));
+            due(write_history, &[], room, Err(1));
+        }
+    }
+
+    /// Each kind of number in two bytes, and the limits on their both sides.
+    #[test]
+    fn limits() {
+        let marks = |count: u32| [vec![count], vec![0; count as usize]].concat();
+        let full = [vec![128, 8], vec![0; 1024]].concat();
+        due(write_history, &marks(1024), 1026, Ok(&full));
+        due(write_history, &marks(1025), 2000, Err(10));
+        let nested = |deep: usize| [vec![2 * deep as u32], vec![1; deep], vec![2; deep]].concat();
+        let file = [vec![128, 2], vec![1; 128], vec![2; 128]].concat();
+        due(write_history, &nested(128), 258, Ok(&file));
+        due(write_history, &nested(129), 300, Err(14));
+        let rules: Vec<u8> = (0..128).flat_map(|k| [1, k / 64, k % 64, 0]).collect();
+        let mut elements: Vec<u32> = rules.iter().map(|&number| number.into()).collect();
+        elements.splice(0..0, [2, 128]);
+        let file = [vec![2, 128, 1], rules].concat();
+        due(write_grammar, &elements, 515, Ok(&file));
+        due(write_grammar, &elements, 514, Err(15));
+        elements[1] = 129;
+        due(write_grammar, &elements, 515, Err(4));
+        assert_eq!(groups(127), [127]);
+        assert_eq!(groups(128), [128, 1]);
+        assert_eq!(groups(16383), [255, 127]);
+    }
+}

@@ -1,0 +1,604 @@
+#!/usr/bin/env python3
+"""Writes crates/test_writers/data/cases.bin and crates/test_writers/stdout: elements and a buffer for a writer, and what is due of it.
+
+Run from the repository's root, when the cases change. The answers to the examples, limits, orders and large elements are written out
+by hand; the others are found by the judges below, which go by documents 01 and 02 alone and are held to the former, and to frames.py
+where two bytes can hold every element. No part of the library is run. A case: which file, what it is, the elements, the buffer's bytes
+before the call, the number of the refusal or 0, the file's length or 0, the buffer's bytes after the call.
+"""
+import random
+import sys
+
+import frames
+from frames import CLOSE, G, MARK, MOST, OPEN
+
+GRAMMAR, HISTORY = 0, 1
+KINDS = ["grammar", "history"]
+WRITTEN = 0
+CASES = []
+
+# What each of the two writers can answer: a file is written, or the number of a refusal. 2 is never given.
+NUMBERS = [{WRITTEN, 1, 3, 4, 5, 6, 7, 8, 9, 15}, {WRITTEN, 1, 9, 10, 11, 12, 13, 14, 15}]
+
+# No number of a file is as large. The first is the largest of two bytes.
+LARGE = [16383, 16384, 65535, 65536, 1 << 31, (1 << 32) - 1]
+
+# Every token number that there is.
+TOKENS = {4 * name + kind for name in range(64) for kind in range(3)}
+
+
+# ---- the judges: the elements by document 01's limits, in file order
+class Refused(Exception):
+    """The one argument is document 01's number."""
+
+
+class Elements:
+    """The elements one behind the other."""
+
+    def __init__(self, elements):
+        self.left = iter(elements)
+
+    def number(self, allowed, otherwise):
+        """The next element, "1 for too few"; the other number where it isn't one of those allowed."""
+        n = next(self.left, None)
+        if n is None:
+            raise Refused(1)
+        if n not in allowed:
+            raise Refused(otherwise)
+        return n
+
+    def end(self):
+        """Nothing follows: "9 for too many"."""
+        if next(self.left, None) is not None:
+            raise Refused(9)
+
+
+def judge_grammar(elements):
+    source, rules = Elements(elements), []
+    stages = source.number(range(1, 33), 3)
+    for _ in range(source.number(range(1, 129), 4)):
+        form = source.number(range(3), 5)
+        rule = [form]
+        for field in ["L", "L c L1", "L a L1 b L2"][form].split():
+            rule.append(source.number(range(64), 7) if field in "abc" else source.number(range(stages), 6))
+        if rule in rules:
+            raise Refused(8)
+        rules.append(rule)
+    source.end()
+
+
+def judge_history(elements):
+    source, still_open = Elements(elements), 0
+    for _ in range(source.number(range(1025), 10)):
+        kind = source.number(TOKENS, 11) % 4
+        if kind == 1 and still_open == 128:
+            raise Refused(14)
+        if kind == 2 and still_open == 0:
+            raise Refused(12)
+        still_open += [0, 1, -1][kind]
+    if still_open:
+        raise Refused(13)
+    source.end()
+
+
+JUDGES = [judge_grammar, judge_history]
+
+
+def number_bytes(n):
+    """Groups of seven bits, lowest first; each byte but the last has its top bit set."""
+    groups = [n % 128]
+    while n >= 128:
+        n //= 128
+        groups.append(n % 128)
+    return bytes([group + 128 for group in groups[:-1]] + groups[-1:])
+
+
+def judged(which, elements, before):
+    """The number of the refusal, the length, the buffer afterwards."""
+    try:
+        JUDGES[which](elements)
+    except Refused as e:
+        return e.args[0], 0, before
+    file = b"".join(map(number_bytes, elements))
+    if len(before) < len(file):
+        return 15, 0, before
+    return WRITTEN, len(file), file + before[len(file):]
+
+
+# ---- the same by frames.py, which has a writer of its own and a reader of bytes
+def read(which, elements, before):
+    file = frames.numbers_bytes(elements)
+    try:
+        [frames.read_stages_and_rules, frames.read_history][which](file)
+    except frames.Refused as e:
+        return e.number, 0, before
+    return (WRITTEN, len(file), file + before[len(file):]) if len(file) <= len(before) else (15, 0, before)
+
+
+def hold_to_reader(which, label, elements, before, due):
+    """A writer turns down what the reader would. Two bytes have to hold every element, so that there is a file to read."""
+    if max(elements, default=0) <= MOST and read(which, elements, before) != due:
+        sys.exit("make_writer_cases: %s: %s, and by the reader %s" % (label, due, read(which, elements, before)))
+
+
+# ---- putting a case down
+def plain(size, byte=170):
+    return bytes([byte] * size)
+
+
+def mixed(size):
+    """No byte is like its neighbours."""
+    return bytes((37 * i + 11) % 256 for i in range(size))
+
+
+def room(elements):
+    """As many bytes as the elements take, were none of them too large; or some more than any file has."""
+    return min(sum(1 if n < 128 else 2 for n in elements), 2060)
+
+
+def case(which, label, elements, before):
+    label = KINDS[which] + ", " + label
+    due = judged(which, elements, before)
+    hold_to_reader(which, label, elements, before, due)
+    CASES.append((which, label, list(elements), before) + due)
+
+
+def by_hand(which, label, elements, before, answer):
+    """answer: the bytes that are written; or the number of the refusal."""
+    if isinstance(answer, int):
+        due = answer, 0, before
+    else:
+        due = WRITTEN, len(answer), bytes(answer) + before[len(answer):]
+    case(which, label, elements, before)
+    if CASES[-1][4:] != due:
+        sys.exit("make_writer_cases: %s: %s, not %s" % (label, CASES[-1][4:], due))
+
+
+def refused(which, label, elements, number):
+    """With room for all and some to spare, and with no buffer: the file's own number comes before 15."""
+    by_hand(which, label, elements, plain(room(elements) + 3), number)
+    by_hand(which, label, elements, b"", number)
+
+
+def written(which, label, elements, file):
+    """As many bytes as it takes, some more, and one too few."""
+    by_hand(which, label, elements, plain(len(file)), file)
+    by_hand(which, label, elements, mixed(len(file) + 5), file)
+    by_hand(which, label, elements, plain(len(file) - 1), 15)
+
+
+def lengths(which, label, elements, sizes):
+    """Buffers of several lengths, for elements that pass."""
+    for size in sizes:
+        case(which, label, elements, plain(size) if size % 2 else mixed(size))
+
+
+# ---- shorthands for long files
+def marks(n):
+    """n form 1 rules, no two equal: names 0 to 63 with L 0, then with L 1, then with L 2."""
+    return [number for k in range(n) for number in (1, k // 64, k % 64, 0)]
+
+
+def steps(n, stage=0):
+    """n form 2 rules that differ in the close name, then in the open name."""
+    return [number for k in range(n) for number in (2, stage, k // 64, stage, k % 64, stage)]
+
+
+# ---- the examples
+def examples():
+    g = list(G)
+    by_hand(GRAMMAR, "G", g, plain(28), g)
+    by_hand(GRAMMAR, "G", g, plain(27), 15)
+    by_hand(GRAMMAR, "G without its last number", g[:27], plain(28), 1)
+    by_hand(GRAMMAR, "G with a 5 behind", g + [5], plain(29), 9)
+    by_hand(GRAMMAR, "1 1 1 0 70000 0", [1, 1, 1, 0, 70000, 0], plain(12), 7)
+    by_hand(GRAMMAR, "4294967295", [4294967295], plain(12), 3)
+    by_hand(GRAMMAR, "1 128 0 0 0 0", [1, 128, 0, 0, 0, 0], plain(12), 8)
+    by_hand(GRAMMAR, "no element", [], plain(4), 1)
+    by_hand(GRAMMAR, "no element", [], b"", 1)
+    by_hand(HISTORY, "2 161 134", [2, 161, 134], plain(5), [2, 161, 1, 134, 1])
+    by_hand(HISTORY, "2 161 134", [2, 161, 134], plain(8), [2, 161, 1, 134, 1])
+    by_hand(HISTORY, "2 161 134", [2, 161, 134], plain(4), 15)
+    by_hand(HISTORY, "2 1 1 0", [2, 1, 1, 0], plain(8), 13)
+    by_hand(HISTORY, "1 0 0", [1, 0, 0], plain(6), 9)
+    by_hand(HISTORY, "1 16384", [1, 16384], plain(6), 11)
+    by_hand(HISTORY, "0", [0], b"", 15)
+    by_hand(HISTORY, "0", [0], plain(1), [0])
+    by_hand(HISTORY, "no element", [], plain(4), 1)
+    by_hand(HISTORY, "no element", [], b"", 1)
+
+
+# ---- a grammar's numbers
+def too_few_or_too_many_rules():
+    one_of_each = [3, 3, 0, 2, 1, 1, 5, 0, 2, 0, 6, 1, 7, 2]
+    for end in range(len(one_of_each)):
+        refused(GRAMMAR, "one rule of each form, %d of 14 elements" % end, one_of_each[:end], 1)
+    refused(GRAMMAR, "the last of 128 rules is not there", [2, 128] + marks(127), 1)
+    refused(GRAMMAR, "the last number of 128 rules is not there", [2, 128] + marks(128)[:-1], 1)
+    refused(GRAMMAR, "an element behind one rule", [1, 1, 0, 0, 0], 9)
+    refused(GRAMMAR, "a rule behind one rule", [1, 1, 0, 0, 1, 0, 0, 0], 9)
+    for n in LARGE:
+        refused(GRAMMAR, "%d behind the last rule" % n, one_of_each + [n], 9)
+
+
+def grammar_limits():
+    written(GRAMMAR, "1 stage", [1, 1, 0, 0], [1, 1, 0, 0])
+    written(GRAMMAR, "32 stages", [32, 1, 0, 31], [32, 1, 0, 31])
+    for stages in (0, 33, 127, 128, 129, 256, 257):
+        refused(GRAMMAR, "%d stages" % stages, [stages, 1, 0, 0], 3)
+    written(GRAMMAR, "127 rules", [2, 127] + marks(127), [2, 127] + marks(127))
+    written(GRAMMAR, "128 rules", [2, 128] + marks(128), [2, 128, 1] + marks(128))
+    refused(GRAMMAR, "129 rules, all there", [3, 129] + marks(129), 4)
+    for rules in (0, 129, 130, 255, 256, 257, 384):
+        refused(GRAMMAR, "%d rules" % rules, [3, rules] + marks(1), 4)
+    written(GRAMMAR, "form 0", [3, 1, 0, 2], [3, 1, 0, 2])
+    written(GRAMMAR, "form 1", [3, 1, 1, 2, 5, 1], [3, 1, 1, 2, 5, 1])
+    written(GRAMMAR, "form 2", [3, 1, 2, 2, 5, 1, 6, 0], [3, 1, 2, 2, 5, 1, 6, 0])
+    for form in (3, 4, 127, 128, 130, 256, 258):
+        refused(GRAMMAR, "form %d" % form, [1, 1, form, 0, 0, 0, 0, 0], 5)
+    written(GRAMMAR, "names 63", [1, 2, 1, 0, 63, 0, 2, 0, 63, 0, 63, 0], [1, 2, 1, 0, 63, 0, 2, 0, 63, 0, 63, 0])
+    for name in (64, 127, 128, 191, 192, 256, 319):
+        refused(GRAMMAR, "mark name %d" % name, [1, 1, 1, 0, name, 0], 7)
+        refused(GRAMMAR, "open name %d" % name, [1, 1, 2, 0, name, 0, 0, 0], 7)
+        refused(GRAMMAR, "close name %d" % name, [1, 1, 2, 0, 0, 0, name, 0], 7)
+
+
+def stages_of_rules():
+    """Each field that is a stage, with the largest one and the one above it."""
+    for stages in (1, 3, 32):
+        s = stages - 1
+        for rule, places in [([0, s], [1]), ([1, s, 0, s], [1, 3]), ([2, s, 0, s, 0, s], [1, 3, 5])]:
+            written(GRAMMAR, "form %d, stages %d of %d" % (rule[0], s, stages), [stages, 1] + rule, [stages, 1] + rule)
+            for i in places:
+                refused(GRAMMAR, "form %d, field %d is %d of %d" % (rule[0], i, stages, stages), [stages, 1] + rule[:i] + [stages] + rule[i + 1:], 6)
+
+
+def equal_rules():
+    refused(GRAMMAR, "form 0 twice", [1, 2, 0, 0, 0, 0], 8)
+    refused(GRAMMAR, "form 1 twice", [2, 2, 1, 1, 5, 0, 1, 1, 5, 0], 8)
+    refused(GRAMMAR, "form 2 twice", [2, 2, 2, 1, 5, 0, 6, 1, 2, 1, 5, 0, 6, 1], 8)
+    refused(GRAMMAR, "the first again behind another", [1, 3, 0, 0, 1, 0, 0, 0, 0, 0], 8)
+    refused(GRAMMAR, "the first again as the 128th", [2, 128] + marks(127) + [1, 0, 0, 0], 8)
+    refused(GRAMMAR, "the 127th again as the 128th", [2, 128] + marks(127) + [1, 1, 62, 0], 8)
+    for i in range(1, 6):
+        rules = [2, 0, 5, 0, 6, 0] * 2
+        rules[6 + i] = [0, 1, 7, 1, 7, 1][i]
+        written(GRAMMAR, "form 2, only field %d differs" % i, [2, 2] + rules, [2, 2] + rules)
+    for i in range(1, 4):
+        rules = [1, 0, 5, 0] * 2
+        rules[4 + i] = [0, 1, 7, 1][i]
+        written(GRAMMAR, "form 1, only field %d differs" % i, [2, 2] + rules, [2, 2] + rules)
+
+
+def order_in_a_grammar():
+    refused(GRAMMAR, "3 before a missing rule count", [33], 3)
+    refused(GRAMMAR, "3 before 4", [0, 0], 3)
+    refused(GRAMMAR, "3 before a later 9", [0, 1, 0, 0, 0], 3)
+    refused(GRAMMAR, "4 before a missing rule", [1, 129], 4)
+    refused(GRAMMAR, "4 before 5", [1, 0, 3], 4)
+    refused(GRAMMAR, "5 before a missing L", [1, 1, 3], 5)
+    refused(GRAMMAR, "5 before 6", [1, 1, 3, 1], 5)
+    refused(GRAMMAR, "form 1: 6 of L before 7", [1, 1, 1, 1, 64, 1], 6)
+    refused(GRAMMAR, "form 1: 7 before 6 of L1", [1, 1, 1, 0, 64, 1], 7)
+    refused(GRAMMAR, "form 1: 7 before a missing L1", [1, 1, 1, 0, 64], 7)
+    refused(GRAMMAR, "form 2: 6 of L before 7 of a", [1, 1, 2, 1, 64, 1, 64, 1], 6)
+    refused(GRAMMAR, "form 2: 7 of a before 6 of L1", [1, 1, 2, 0, 64, 1, 64, 1], 7)
+    refused(GRAMMAR, "form 2: 6 of L1 before 7 of b", [1, 1, 2, 0, 0, 1, 64, 1], 6)
+    refused(GRAMMAR, "form 2: 7 of b before 6 of L2", [1, 1, 2, 0, 0, 0, 64, 1], 7)
+    refused(GRAMMAR, "6 before a missing field", [1, 1, 2, 1], 6)
+    refused(GRAMMAR, "1 before 8: equal but for a missing L2", [1, 2, 2, 0, 0, 0, 0, 0, 2, 0, 0, 0, 0], 1)
+    refused(GRAMMAR, "6 before 8: equal but for L2", [1, 2, 2, 0, 0, 0, 0, 0, 2, 0, 0, 0, 0, 1], 6)
+    refused(GRAMMAR, "8 before a later 1", [1, 3, 0, 0, 0, 0], 8)
+    refused(GRAMMAR, "8 before a later 5", [1, 3, 0, 0, 0, 0, 3], 8)
+    refused(GRAMMAR, "8 before a later 7", [1, 3, 0, 0, 0, 0, 1, 0, 70000, 0], 8)
+    refused(GRAMMAR, "5 before a later 8", [1, 3, 0, 0, 3, 0, 0, 0], 5)
+    refused(GRAMMAR, "8 before a later 9", [1, 2, 0, 0, 0, 0, 7], 8)
+    refused(GRAMMAR, "7 before a later 9", [1, 1, 1, 0, 64, 0, 7], 7)
+    refused(GRAMMAR, "7 before a later 1", [1, 2, 1, 0, 64, 0], 7)
+    refused(GRAMMAR, "a large name before a later 9", [1, 1, 1, 0, 65536, 0, 7], 7)
+    refused(GRAMMAR, "a large stage before a large name", [1, 1, 1, 65536, 65536, 0], 6)
+
+
+# ---- a history's numbers
+def too_few_or_too_many_tokens():
+    refused(HISTORY, "one token, none there", [1], 1)
+    refused(HISTORY, "two tokens, one there", [2, 0], 1)
+    refused(HISTORY, "two tokens of two bytes, one there", [2, 128], 1)
+    for count in (127, 128, 129, 1023, 1024):
+        refused(HISTORY, "%d tokens, none there" % count, [count], 1)
+    refused(HISTORY, "the last of 1,024 tokens is not there", [1024] + MARK * 1023, 1)
+    refused(HISTORY, "an element behind no token", [0, 0], 9)
+    refused(HISTORY, "an element behind a step", [2, 1, 2, 0], 9)
+    refused(HISTORY, "a step behind a step", [2, 1, 2, 1, 2], 9)
+    for n in [3, 128, 255, 256] + LARGE:
+        refused(HISTORY, "%d behind no token" % n, [0, n], 9)
+        refused(HISTORY, "%d behind 128" % n, [1, 128, n], 9)
+
+
+def history_limits():
+    # the count takes two bytes from 128 on
+    counts = [[1], [126], [127], [128, 1], [129, 1], [255, 1], [128, 2], [129, 2], [255, 3], [128, 4]]
+    for count, first in zip([1, 126, 127, 128, 129, 255, 256, 257, 511, 512], counts):
+        written(HISTORY, "%d marks" % count, [count] + MARK * count, first + MARK * count)
+    for count in (1025, 1026, 1152, 2048):
+        refused(HISTORY, "%d tokens, none there" % count, [count], 10)
+    for token in (0, 4, 120, 124):
+        written(HISTORY, "mark %d" % token, [1, token], [1, token])
+    for token in (128, 132, 188, 192, 248, 252):
+        written(HISTORY, "mark %d" % token, [1, token], [1, token, 1])
+    written(HISTORY, "open 125, close 126", [2, 125, 126], [2, 125, 126])
+    written(HISTORY, "open 129, close 130", [2, 129, 130], [2, 129, 1, 130, 1])
+    written(HISTORY, "open 253, close 254", [2, 253, 254], [2, 253, 1, 254, 1])
+    written(HISTORY, "open 1, close 254", [2, 1, 254], [2, 1, 254, 1])
+    for token in (3, 7, 123, 127, 131, 191, 195, 255, 256, 257, 258, 259, 383, 384, 512):
+        refused(HISTORY, "token %d" % token, [1, token], 11)
+        refused(HISTORY, "token %d in a step" % token, [3, 1, token, 2], 11)
+
+
+def history_steps():
+    refused(HISTORY, "a close alone", [1, 2], 12)
+    refused(HISTORY, "close 254 alone", [1, 254], 12)
+    refused(HISTORY, "a close behind a mark", [2, 0, 2], 12)
+    refused(HISTORY, "a close behind a step", [3, 1, 2, 2], 12)
+    refused(HISTORY, "a close before a step", [3, 2, 1, 2], 12)
+    refused(HISTORY, "an open alone", [1, 1], 13)
+    refused(HISTORY, "open 253 alone", [1, 253], 13)
+    refused(HISTORY, "an open behind a step", [3, 1, 2, 1], 13)
+    refused(HISTORY, "one of two steps is open", [3, 1, 1, 2], 13)
+    refused(HISTORY, "128 opens", [128] + OPEN * 128, 13)
+    refused(HISTORY, "129 opens", [129] + OPEN * 129, 14)
+    refused(HISTORY, "129 opens of two bytes", [129] + [253] * 129, 14)
+    refused(HISTORY, "129 nested steps", [258] + OPEN * 129 + CLOSE * 129, 14)
+    refused(HISTORY, "a step, then 129 nested ones", [260] + OPEN + CLOSE + OPEN * 129 + CLOSE * 129, 14)
+    written(HISTORY, "127 nested steps", [254] + OPEN * 127 + CLOSE * 127, [254, 1] + OPEN * 127 + CLOSE * 127)
+    written(HISTORY, "128 nested steps", [256] + OPEN * 128 + CLOSE * 128, [128, 2] + OPEN * 128 + CLOSE * 128)
+    written(HISTORY, "a mark while 128 are open", [257] + OPEN * 128 + MARK + CLOSE * 128, [129, 2] + OPEN * 128 + MARK + CLOSE * 128)
+    one_closed = OPEN * 128 + CLOSE + OPEN + CLOSE * 128
+    written(HISTORY, "128 open, one closed, one opened", [258] + one_closed, [130, 2] + one_closed)
+
+
+def order_in_a_history():
+    refused(HISTORY, "10 before a missing token", [1025], 10)
+    refused(HISTORY, "10 before 11", [1025, 3], 10)
+    refused(HISTORY, "11 before 12 at one token", [1, 258], 11)
+    refused(HISTORY, "11 before 14 at one token", [129] + OPEN * 128 + [257], 11)
+    refused(HISTORY, "12 before a later 11", [2, 2, 3], 12)
+    refused(HISTORY, "11 before a later 12", [2, 3, 2], 11)
+    refused(HISTORY, "12 before a missing token", [2, 2], 12)
+    refused(HISTORY, "12 before a later open", [2, 2, 1], 12)
+    refused(HISTORY, "12 before a later 9", [1, 2, 0], 12)
+    refused(HISTORY, "14 before a missing token", [130] + OPEN * 129, 14)
+    refused(HISTORY, "14 before a later 11", [130] + OPEN * 129 + [3], 14)
+    refused(HISTORY, "14 before 13 and 9", [129] + OPEN * 129 + [0], 14)
+    refused(HISTORY, "1 before 13", [2, 1], 1)
+    refused(HISTORY, "11 before 13", [2, 1, 3], 11)
+    refused(HISTORY, "11 before a later 1", [3, 3], 11)
+    refused(HISTORY, "11 before a later 9", [1, 3, 0], 11)
+    refused(HISTORY, "a large token before a later 9", [1, 65536, 0], 11)
+    refused(HISTORY, "13 before 9", [1, 1, 0], 13)
+    refused(HISTORY, "13 before 9: the close is behind the last token", [1, 1, 2], 13)
+    refused(HISTORY, "13 before 9: a large element", [1, 1, 4294967295], 13)
+    refused(HISTORY, "13 before many", [1, 1] + MARK * 1200, 13)
+
+
+# ---- elements that no file holds, at each place of a file
+GRAMMAR_PLACES = [
+    ("stage count", 4, 3), ("rule count", 4, 4),
+    ("form 0", 0, 5), ("its L", 3, 6),
+    ("form 1", 1, 5), ("L before c", 2, 6), ("c", 5, 7), ("L1 behind c", 1, 6),
+    ("form 2", 2, 5), ("L before a", 1, 6), ("a", 6, 7), ("L1 inside", 2, 6), ("b", 7, 7), ("L2", 3, 6),
+    ("the last form", 0, 5), ("the last L", 0, 6),
+]
+HISTORY_PLACES = [("token count", 6, 10)] + [(label, token, 11) for label, token in [
+    ("a mark", 0), ("an open", 1), ("a mark of two bytes", 128), ("an open in a step", 5), ("a close in a step", 6), ("the last close", 2),
+]]
+
+
+def large_elements():
+    """Large ones, and those that are a right one to a writer who drops their high bits."""
+    written(GRAMMAR, "elements as they should be", [n for _, n, _ in GRAMMAR_PLACES], [4, 4, 0, 3, 1, 2, 5, 1, 2, 1, 6, 2, 7, 3, 0, 0])
+    written(HISTORY, "elements as they should be", [n for _, n, _ in HISTORY_PLACES], [6, 0, 1, 128, 1, 5, 6, 2])
+    for which, places in [(GRAMMAR, GRAMMAR_PLACES), (HISTORY, HISTORY_PLACES)]:
+        elements = [n for _, n, _ in places]
+        for i, (label, n, number) in enumerate(places):
+            for other in sorted(set(LARGE + [n + (1 << bits) for bits in (14, 16, 21, 28, 31)] + [(1 << 32) - 256 + n])):
+                by_hand(which, "%d as %s" % (other, label), elements[:i] + [other] + elements[i + 1:], plain(40), number)
+            for other in [n + 128, n + 256]:
+                case(which, "%d as %s" % (other, label), elements[:i] + [other] + elements[i + 1:], plain(40))
+
+
+# ---- files at every limit, and elements behind them
+def full_grammar():
+    longest, file = [1, 128] + steps(128), [1, 128, 1] + steps(128)
+    for size in (771, 772, 773, 1024):
+        by_hand(GRAMMAR, "128 rules of six numbers", longest, mixed(size), file)
+    for size in (770, 769, 768, 515, 3, 0):
+        by_hand(GRAMMAR, "128 rules of six numbers", longest, mixed(size), 15)
+    last = [32, 128] + steps(128, 31)
+    by_hand(GRAMMAR, "128 rules of six numbers, 32 stages", last, plain(774), [32, 128, 1] + steps(128, 31))
+    by_hand(GRAMMAR, "128 rules of six numbers, and large elements", longest + LARGE, plain(790), 9)
+    by_hand(GRAMMAR, "128 rules of six numbers, the last one twice, and more", longest[:-6] + longest[-12:-6] + [0], plain(774), 8)
+    by_hand(GRAMMAR, "128 rules of six numbers, a fault at the end", longest[:-1] + [1], plain(774), 6)
+    for count in (771, 772, 1026, 1027, 3000):
+        by_hand(GRAMMAR, "128 rules of six numbers, %d elements" % count, longest + [0] * (count - 770), plain(780), 9)
+    for count in (1025, 1026, 1027, 1028):
+        by_hand(GRAMMAR, "a rule, %d elements" % count, [1, 1, 0, 0] + [0] * (count - 4), plain(9), 9)
+
+
+def full_history():
+    longest, file = [1024] + [252] * 1024, [128, 8] + [252, 1] * 1024
+    for size in (2050, 2051, 2052, 2053, 2306):
+        by_hand(HISTORY, "1,024 tokens of two bytes", longest, mixed(size), file)
+    for size in (2049, 2048, 1026, 1025, 2, 0):
+        by_hand(HISTORY, "1,024 tokens of two bytes", longest, mixed(size), 15)
+    by_hand(HISTORY, "1,024 tokens of one byte", [1024] + MARK * 1024, plain(1026), [128, 8] + MARK * 1024)
+    by_hand(HISTORY, "1,024 tokens of one byte", [1024] + MARK * 1024, plain(1025), 15)
+    by_hand(HISTORY, "1,023 tokens of two bytes", [1023] + [128] * 1023, plain(2050), [255, 7] + [128, 1] * 1023)
+    by_hand(HISTORY, "512 steps", [1024] + [129, 2] * 512, plain(1540), [128, 8] + [129, 1, 2] * 512)
+    by_hand(HISTORY, "512 steps", [1024] + [129, 2] * 512, plain(1537), 15)
+
+
+def behind_a_full_history():
+    by_hand(HISTORY, "1,024 tokens of two bytes, 1026 elements", [1024] + [252] * 1025, mixed(2052), 9)
+    for count in (1026, 1027, 5000):
+        by_hand(HISTORY, "1,024 tokens of one byte, %d elements" % count, [1024] + MARK * (count - 1), plain(1030), 9)
+    for count in (1026, 1027):
+        by_hand(HISTORY, "1,024 tokens, then large elements, %d in all" % count, [1024] + MARK * 1024 + [4294967295] * (count - 1025), plain(1030), 9)
+    for count in (1025, 1026, 1027):
+        by_hand(HISTORY, "no token, %d elements" % count, [0] * count, plain(9), 9)
+    by_hand(HISTORY, "the 1,024th is an open, and a close follows", [1024] + MARK * 1023 + OPEN + CLOSE, plain(1030), 13)
+    by_hand(HISTORY, "the 1,024th is a close", [1024] + MARK * 1023 + CLOSE, plain(1030), 12)
+    by_hand(HISTORY, "the 1,024th is of kind 3, and more follows", [1024] + MARK * 1023 + [3, 0, 0], plain(1030), 11)
+    by_hand(HISTORY, "1,025 tokens, all there", [1025] + MARK * 1025, plain(1030), 10)
+    by_hand(HISTORY, "1,026 tokens, all there", [1026] + MARK * 1026, plain(1030), 10)
+
+
+# ---- every length of a buffer
+def buffers():
+    g = list(G)
+    lengths(GRAMMAR, "G, any buffer", g, range(40))
+    for byte in (0, 1, 127, 128, 255):
+        by_hand(GRAMMAR, "G, buffer filled with %d" % byte, g, plain(33, byte), g)
+        by_hand(GRAMMAR, "G and a 5, buffer filled with %d" % byte, g + [5], plain(33, byte), 9)
+        by_hand(HISTORY, "2 161 134, buffer filled with %d" % byte, [2, 161, 134], plain(9, byte), [2, 161, 1, 134, 1])
+        by_hand(HISTORY, "2 161, buffer filled with %d" % byte, [2, 161], plain(9, byte), 1)
+    lengths(HISTORY, "0, any buffer", [0], range(6))
+    lengths(HISTORY, "3 1 0 2, any buffer", [3, 1, 0, 2], range(10))
+    lengths(HISTORY, "5 0 161 252 134 0, any buffer", [5, 0, 161, 252, 134, 0], range(16))
+    lengths(HISTORY, "3 1 0 2, a long buffer", [3, 1, 0, 2], [255, 256, 257, 260, 2050, 2052, 4096])
+    lengths(GRAMMAR, "G, a long buffer", g, [255, 256, 257, 284, 771, 4096])
+    # a length whose low byte is that of the file's, or 0
+    for count in (253, 254, 255):
+        elements = [count] + MARK * count
+        lengths(HISTORY, "%d marks, any buffer" % count, elements, [0, 1, 2] + list(range(count, count + 5)) + [512, 513])
+
+
+def each_token():
+    """Every token number that there is, those of a kind together; each open is closed."""
+    plain_ones = list(range(0, 256, 4))
+    written(HISTORY, "all marks", [64] + plain_ones, [64] + [byte for n in plain_ones for byte in ([n] if n < 128 else [n, 1])])
+    nested = list(range(1, 256, 4)) + list(range(2, 256, 4))
+    written(HISTORY, "all opens and closes", [128] + nested, [128, 1] + [byte for n in nested for byte in ([n] if n < 128 else [n, 1])])
+    for token in [n for n in range(256) if n % 4 == 3]:
+        by_hand(HISTORY, "token %d behind a mark" % token, [2, 0, token], plain(6), 11)
+
+
+# ---- drawn ones, the same at every run
+class Draw:
+    def __init__(self, seed):
+        self.r = random.Random(seed)
+        self.names = self.r.choice([2, 32, 33, 64])
+        self.stages = self.r.choice([1, 2, 5, 32])
+
+    def name(self):
+        return self.r.randrange(self.names)
+
+    def rule(self):
+        fields = self.r.choice(["L", "L c L1", "L c L1", "L a L1 b L2", "L a L1 b L2"]).split()
+        return [len(fields) // 2] + [self.name() if field in "abc" else self.r.randrange(self.stages) for field in fields]
+
+    def rules(self):
+        rules = []
+        for _ in range(self.r.choice([1, 3, 8, 14])):
+            rule = self.rule()
+            if rule not in rules:
+                rules.append(rule)
+        return rules
+
+    def repeated(self, rules):
+        """One of the rules a second time, somewhere."""
+        i = self.r.randrange(len(rules) + 1)
+        return rules[:i] + [self.r.choice(rules)] + rules[i:]
+
+    def grammar(self, rules):
+        return [self.stages, len(rules)] + [n for rule in rules for n in rule]
+
+    def level(self, left):
+        """A level of at most so many tokens."""
+        tokens = []
+        while left - len(tokens) > 1 and self.r.random() < 0.85:
+            if self.r.random() < 0.4:
+                tokens.append(4 * self.name())
+            else:
+                tokens += [4 * self.name() + 1] + self.level(left - len(tokens) - 2) + [4 * self.name() + 2]
+        return tokens
+
+    def history(self):
+        tokens = self.level(self.r.choice([4, 12, 40, 140]))
+        return [len(tokens)] + tokens
+
+    def other(self, n):
+        """Another element in an element's place."""
+        return self.r.choice([n + 1, max(n - 1, 0), n + 4, n ^ 1, n + 128, n + 256, self.r.choice(LARGE), self.r.randrange(70), self.r.randrange(1 << 32)])
+
+    def damaged(self, elements):
+        """An element changed, left out, put in or moved; or an end cut off or put on."""
+        i, j = self.r.randrange(len(elements)), self.r.randrange(len(elements))
+        changed = elements[:i] + [self.other(elements[i])] + elements[i + 1:]
+        left_out = elements[:i] + elements[i + 1:]
+        put_in = elements[:i] + [self.r.choice(elements)] + elements[i:]
+        moved = left_out[:j] + [elements[i]] + left_out[j:]
+        put_on = elements + [self.other(elements[i]) for _ in range(self.r.randrange(1, 4))]
+        return self.r.choice([changed, changed, changed, changed, left_out, put_in, moved, elements[:i], put_on])
+
+    def buffer(self, elements):
+        """Mostly about as long as the file would be."""
+        size = sum(1 if n < 128 else 2 for n in elements) + self.r.choice([-2, -1, 0, 0, 1, 2, 7, -len(elements)])
+        return self.r.choice([plain(max(size, 0)), mixed(max(size, 0)), plain(max(size, 0), 0), self.r.randbytes(max(size, 0))])
+
+
+def drawn():
+    """A third of them as they should be, the others damaged."""
+    for seed in range(600):
+        draw = Draw(seed)
+        rules, history = draw.rules(), draw.history()
+        if seed >= 200:
+            grammar = draw.grammar(draw.repeated(rules)) if seed % 8 == 0 else draw.damaged(draw.grammar(rules))
+            history = draw.damaged(history)
+        else:
+            grammar = draw.grammar(rules)
+        case(GRAMMAR, "drawn %d" % seed, grammar, draw.buffer(grammar))
+        case(HISTORY, "drawn %d" % seed, history, draw.buffer(history))
+
+
+# ---- the files
+def hold_to_limits():
+    """What the program and the form of a case can take; and no number of a writer is without a case."""
+    asked = [(label, before) for _, label, _, before, _, _, _ in CASES]
+    assert len(asked) == len(set(asked)), "a label and buffer stand twice"
+    assert len(CASES) <= 10000, "more than the program compares"
+    for which, label, elements, before, number, length, after in CASES:
+        assert len(label) < 256 and len(elements) <= 5000 and len(before) == len(after) <= 4096, label
+        assert all(0 <= n < 1 << 32 for n in elements), label
+    for which in (GRAMMAR, HISTORY):
+        seen = {number for kind, _, _, _, number, _, _ in CASES if kind == which}
+        if seen != NUMBERS[which]:
+            sys.exit("make_writer_cases: %s: the cases have %s, and should have %s" % (KINDS[which], sorted(seen), sorted(NUMBERS[which])))
+
+
+def two(n):
+    return n.to_bytes(2, "little")
+
+
+def packed(which, label, elements, before, number, length, after):
+    head = bytes([which, number, len(label)]) + two(length) + two(4 * len(elements)) + two(len(before))
+    return head + label.encode("ascii") + b"".join(n.to_bytes(4, "little") for n in elements) + before + after
+
+
+def main():
+    examples()
+    for part in (too_few_or_too_many_rules, grammar_limits, stages_of_rules, equal_rules, order_in_a_grammar):
+        part()
+    for part in (too_few_or_too_many_tokens, history_limits, history_steps, order_in_a_history):
+        part()
+    for part in (large_elements, full_grammar, full_history, behind_a_full_history, buffers, each_token, drawn):
+        part()
+    hold_to_limits()
+    with open("crates/test_writers/data/cases.bin", "wb") as f:
+        f.write(b"".join(packed(*c) for c in CASES))
+    with open("crates/test_writers/stdout", "w", encoding="ascii") as f:
+        f.write("%d cases compared\n" % len(CASES))
+    print(len(CASES), "cases")
+
+
+main()
