@@ -1,13 +1,11 @@
 // The services for C and for languages that call C. Each answers one number, or a struct with the number and the counts or the length: 0
 // where all went well, 100 for "none", 101 for "no further", else document 01's number of the refusal. A part of a file is a struct with its
 // place alone, and another function says the number.
-use files::GrammarCheck;
-use files::HistoryCheck;
-use service::Outcome;
-use sets::CountAnswer;
-use step_bytes::StepCheck;
-use step_bytes::StepPlace;
-use writers::WriteAnswer;
+use replies::CountReply;
+use replies::GrammarReply;
+use replies::HistoryReply;
+use replies::PartReply;
+use replies::WriteReply;
 ghost use mathlib.Core.Path.{_≡_};
 ghost use lib.ListN.{length};
 ghost use Rattle.listing_model.specs.believed.Listing.{first, next};
@@ -15,105 +13,26 @@ ghost use Rattle.listing_model.specs.Calls.{callOn};
 ghost use Rattle.grammar_file.specs.believed.GrammarFile.{grammarOf};
 ghost use Rattle.history_file.specs.believed.HistoryFile.{historyOf};
 ghost use Rattle.files.specs.believed.Checks.{grammarDue, historyDue};
-ghost use Rattle.service.specs.believed.Given.{outcomeSaid};
 ghost use Rattle.readings.specs.believed.Answers.{subject};
 ghost use Rattle.calls.specs.believed.CallList.{coded, callsDue};
 ghost use Rattle.sets.specs.believed.Sets.{setsDue, countDue};
 ghost use Rattle.stop_marks.specs.believed.StopMarks.{marksDue};
 ghost use Rattle.step_bytes.specs.believed.StepBytes.{stepOf, numberIn};
-ghost use Rattle.writers.specs.believed.Writers.{writeSaid, grammarWritten, historyWritten};
-ghost use Rattle.gaffmedlar.specs.believed.Wire.{grammarWire, historyWire, countWire, outcomeCode, outcomeWire, callsWire, partWire, stepCode, lengthWire, writeWire};
-
-// 0 and the counts of an accepted grammar; or the number of the refusal, and zeros.
-#[repr(C)]
-pub struct GrammarReply {
-    pub answer: u8,
-    pub stages: u16,
-    pub rules: u16,
-}
-
-// 0 and the number of tokens; or the number of the refusal, and 0.
-#[repr(C)]
-pub struct HistoryReply {
-    pub answer: u8,
-    pub tokens: u16,
-}
-
-// 0 and the number of doubtful positions; or the number of the refusal, and 0.
-#[repr(C)]
-pub struct CountReply {
-    pub answer: u8,
-    pub count: u32,
-}
-
-// Where a part of a file starts, and how many bytes it has; zeros where it is refused.
-#[repr(C)]
-pub struct PartReply {
-    pub start: usize,
-    pub length: usize,
-}
-
-// 0 and the length of the file that was written; or the number of the refusal, and 0.
-#[repr(C)]
-pub struct WriteReply {
-    pub answer: u8,
-    pub length: usize,
-}
-
-// 0, or the number of the refusal.
-fn outcome_code(outcome: Outcome) -> u8
-    ensures { λ r. ⌜ r ≡ outcomeCode (outcomeSaid outcome) ⌝ }
-{
-    match outcome {
-        Outcome::Done => 0,
-        Outcome::Refused(k) => k,
-    }
-}
-
-// A writer's answer as C sees it.
-fn write_reply(answer: WriteAnswer) -> WriteReply
-    ensures { λ r. ⌜ r ≡ lengthWire (writeSaid answer) ⌝ }
-{
-    match answer {
-        WriteAnswer::Written(length) => WriteReply { answer: 0, length },
-        WriteAnswer::Refused(number) => WriteReply {
-            answer: number,
-            length: 0,
-        },
-    }
-}
+ghost use Rattle.writers.specs.believed.Writers.{grammarWritten, historyWritten};
+ghost use Rattle.replies.specs.believed.Wire.{grammarWire, historyWire, countWire, outcomeWire, callsWire, partWire, stepCode, writeWire};
 
 #[no_mangle]
 pub extern "C" fn gaffmedlar_grammar_check(grammar: &[u8]) -> GrammarReply
     ensures { λ r. ⌜ r ≡ grammarWire (grammarDue (grammarOf (now (grammar .entry)))) ⌝ }
 {
-    let check = files::grammar_check(grammar);
-    match check {
-        GrammarCheck::Accepted(stages, rules) => GrammarReply {
-            answer: 0,
-            stages,
-            rules,
-        },
-        GrammarCheck::Refused(e) => GrammarReply {
-            answer: e,
-            stages: 0,
-            rules: 0,
-        },
-    }
+    replies::grammar_reply(files::grammar_check(grammar))
 }
 
 #[no_mangle]
 pub extern "C" fn gaffmedlar_history_check(history: &[u8]) -> HistoryReply
     ensures { λ r. ⌜ r ≡ historyWire (historyDue (historyOf (now (history .entry)))) ⌝ }
 {
-    let check = files::history_check(history);
-    match check {
-        HistoryCheck::Accepted(tokens) => HistoryReply { answer: 0, tokens },
-        HistoryCheck::Refused(e) => HistoryReply {
-            answer: e,
-            tokens: 0,
-        },
-    }
+    replies::history_reply(files::history_check(history))
 }
 
 // Writes the first reading.
@@ -144,7 +63,7 @@ pub extern "C" fn gaffmedlar_run_calls(
 ) -> u8
     ensures { λ r. ⌜ (r, now (answers .exit), now (buffer .exit)) ≡ callsWire (callsDue (now (grammar .entry)) (now (history .entry)) (now (calls .entry)) (now (answers .entry)) (now (buffer .entry))) ⌝ }
 {
-    outcome_code(calls::run_calls(grammar, history, calls, answers, buffer))
+    replies::outcome_code(calls::run_calls(grammar, history, calls, answers, buffer))
 }
 
 // Writes four words for each position: the set of rules that stand there in some reading.
@@ -152,7 +71,7 @@ pub extern "C" fn gaffmedlar_run_calls(
 pub extern "C" fn gaffmedlar_sets(grammar: &[u8], history: &[u8], words: &mut [u32]) -> u8
     ensures { λ r. ⌜ (r, now (words .exit)) ≡ outcomeWire (setsDue (now (grammar .entry)) (now (history .entry)) (now (words .entry))) ⌝ }
 {
-    outcome_code(sets::sets(grammar, history, words))
+    replies::outcome_code(sets::sets(grammar, history, words))
 }
 
 // How many positions have more than one rule in their set.
@@ -160,14 +79,7 @@ pub extern "C" fn gaffmedlar_sets(grammar: &[u8], history: &[u8], words: &mut [u
 pub extern "C" fn gaffmedlar_doubtful_count(grammar: &[u8], history: &[u8]) -> CountReply
     ensures { λ r. ⌜ r ≡ countWire (countDue (now (grammar .entry)) (now (history .entry))) ⌝ }
 {
-    let given = sets::doubtful_count(grammar, history);
-    match given {
-        CountAnswer::Count(count) => CountReply { answer: 0, count },
-        CountAnswer::Refused(k) => CountReply {
-            answer: k,
-            count: 0,
-        },
-    }
+    replies::count_reply(sets::doubtful_count(grammar, history))
 }
 
 // Writes n + 1 bytes: byte i is 1 where the first i tokens alone have a reading, else 0.
@@ -175,7 +87,7 @@ pub extern "C" fn gaffmedlar_doubtful_count(grammar: &[u8], history: &[u8]) -> C
 pub extern "C" fn gaffmedlar_stop_marks(grammar: &[u8], history: &[u8], marks: &mut [u8]) -> u8
     ensures { λ r. ⌜ (r, now (marks .exit)) ≡ outcomeWire (marksDue (now (grammar .entry)) (now (history .entry)) (now (marks .entry))) ⌝ }
 {
-    outcome_code(stop_marks::stop_marks(grammar, history, marks))
+    replies::outcome_code(stop_marks::stop_marks(grammar, history, marks))
 }
 
 // The bytes of the step whose open stands at the position: where in the history they start, and how many there are.
@@ -183,14 +95,7 @@ pub extern "C" fn gaffmedlar_stop_marks(grammar: &[u8], history: &[u8], marks: &
 pub extern "C" fn gaffmedlar_step_bytes(history: &[u8], position: usize) -> PartReply
     ensures { λ r. ⌜ r ≡ partWire (stepOf (now (history .entry)) position) ⌝ }
 {
-    let place = step_bytes::locate(history, position);
-    match place {
-        StepPlace::Part(start, length) => PartReply { start, length },
-        StepPlace::Refused(_) => PartReply {
-            start: 0,
-            length: 0,
-        },
-    }
+    replies::part_reply(step_bytes::locate(history, position))
 }
 
 // Why there is no step at the position; 0 where there is one.
@@ -198,11 +103,7 @@ pub extern "C" fn gaffmedlar_step_bytes(history: &[u8], position: usize) -> Part
 pub extern "C" fn gaffmedlar_step_refusal(history: &[u8], position: usize) -> u8
     ensures { λ r. ⌜ r ≡ stepCode (numberIn (stepOf (now (history .entry)) position)) ⌝ }
 {
-    let check = step_bytes::step_check(history, position);
-    match check {
-        StepCheck::Found => 0,
-        StepCheck::Refused(e) => e,
-    }
+    replies::step_code(step_bytes::step_check(history, position))
 }
 
 // Writes the grammar file of these numbers, one element each.
@@ -210,7 +111,7 @@ pub extern "C" fn gaffmedlar_step_refusal(history: &[u8], position: usize) -> u8
 pub extern "C" fn gaffmedlar_write_grammar(numbers: &[u32], file: &mut [u8]) -> WriteReply
     ensures { λ r. ⌜ (r, now (file .exit)) ≡ writeWire (grammarWritten (now (numbers .entry)) (now (file .entry))) ⌝ }
 {
-    write_reply(writers::write_grammar(numbers, file))
+    replies::write_reply(writers::write_grammar(numbers, file))
 }
 
 // Writes the history file of these numbers, one element each.
@@ -218,5 +119,5 @@ pub extern "C" fn gaffmedlar_write_grammar(numbers: &[u32], file: &mut [u8]) -> 
 pub extern "C" fn gaffmedlar_write_history(numbers: &[u32], file: &mut [u8]) -> WriteReply
     ensures { λ r. ⌜ (r, now (file .exit)) ≡ writeWire (historyWritten (now (numbers .entry)) (now (file .entry))) ⌝ }
 {
-    write_reply(writers::write_history(numbers, file))
+    replies::write_reply(writers::write_history(numbers, file))
 }

@@ -27,7 +27,7 @@ use Rattle.readings.specs.believed.Answers.{subject}
 use Rattle.calls.specs.believed.CallList.{codeOf, noRoom, callsDue}
 use Rattle.sets.specs.believed.Sets.{setsDue}
 use Rattle.stop_marks.specs.believed.StopMarks.{marksDue}
-use Rattle.gaffmedlar.specs.believed.Wire.{outcomeCode}
+use Rattle.replies.specs.believed.Wire.{outcomeCode}
 use Rattle.refusals.specs.Codes.{Numbered, answerOf, outcomeOf}
 use Rattle.refusals.proofs.Readers.{OfGrammar, OfHistory, grammar-of, history-of}
 

@@ -18,7 +18,7 @@ use Rattle.history_file.specs.believed.HistoryFile as history-file
 use Rattle.step_bytes.specs.believed.StepBytes.{StepPart, part, refused, later, stepLength, partFrom, stepIn, stepFrom, stepOf, numberIn}
 use Rattle.step_bytes.proofs.Parts.{step-in}
 use Rattle.step_bytes.proofs.Steps.{open-inside}
-use Rattle.gaffmedlar.specs.believed.Wire.{partWire, stepCode}
+use Rattle.replies.specs.believed.Wire.{partWire, stepCode}
 use Rattle.refusals.specs.Codes.{StepNumbered, numberOf}
 use Rattle.refusals.proofs.Readers.{OfHistory, history-of}
 

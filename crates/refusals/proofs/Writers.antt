@@ -17,7 +17,7 @@ use Rattle.history_file.specs.believed.HistoryFile.{HistoryFile, historyFrom}
 use Rattle.history_file.specs.believed.HistoryFile
 use Rattle.service.specs.believed.Given.{Given, given, refused, untouched}
 use Rattle.writers.specs.believed.Writers.{filled, grammarFilled, historyFilled, grammarWritten, historyWritten}
-use Rattle.gaffmedlar.specs.believed.Wire.{lengthWire}
+use Rattle.replies.specs.believed.Wire.{lengthWire}
 use Rattle.refusals.specs.Codes.{GrammarWriteNumbered, HistoryWriteNumbered, lengthOf}
 use Rattle.refusals.proofs.Readers.{chosen, OfNumber, OfGrammar, OfHistory, grammar-from-of, history-from-of}
 

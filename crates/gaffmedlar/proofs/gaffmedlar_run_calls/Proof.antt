@@ -1,6 +1,6 @@
 -- `gaffmedlar::gaffmedlar_run_calls` meets its contract.
 use mathlib.Core.Path.{ap}
-use Rattle.gaffmedlar.specs.believed.Wire.{callsWire}
+use Rattle.replies.specs.believed.Wire.{callsWire}
 use borrow.Author.Needs.{needs}
 use Rattle.gaffmedlar.proofs.gaffmedlar_run_calls.Statement.{statement}
 use Rattle.gaffmedlar.proofs.gaffmedlar_run_calls.Tie as tie

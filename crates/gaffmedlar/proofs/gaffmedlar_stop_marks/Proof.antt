@@ -1,6 +1,6 @@
 -- `gaffmedlar::gaffmedlar_stop_marks` meets its contract.
 use mathlib.Core.Path.{ap}
-use Rattle.gaffmedlar.specs.believed.Wire.{outcomeWire}
+use Rattle.replies.specs.believed.Wire.{outcomeWire}
 use borrow.Author.Needs.{needs}
 use Rattle.gaffmedlar.proofs.gaffmedlar_stop_marks.Statement.{statement}
 use Rattle.gaffmedlar.proofs.gaffmedlar_stop_marks.Tie as tie

@@ -1,6 +1,6 @@
 -- `gaffmedlar::gaffmedlar_write_history` meets its contract.
 use mathlib.Core.Path.{ap}
-use Rattle.gaffmedlar.specs.believed.Wire.{writeWire}
+use Rattle.replies.specs.believed.Wire.{writeWire}
 use borrow.Author.Needs.{needs}
 use Rattle.gaffmedlar.proofs.gaffmedlar_write_history.Statement.{statement}
 use Rattle.gaffmedlar.proofs.gaffmedlar_write_history.Tie as tie

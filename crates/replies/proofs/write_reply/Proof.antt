@@ -1,10 +1,10 @@
--- `gaffmedlar::write_reply` meets its contract.
+-- `replies::write_reply` meets its contract.
 use mathlib.Core.Path.{sym, ap}
 use Rattle.writers.specs.believed.Writers.{writeSaid}
-use Rattle.gaffmedlar.specs.believed.Wire.{lengthWire}
+use Rattle.replies.specs.believed.Wire.{lengthWire}
 use borrow.Author.Needs.{needs}
-use Rattle.gaffmedlar.proofs.write_reply.Statement.{statement}
-use Rattle.gaffmedlar.proofs.write_reply.Tie as tie
+use Rattle.replies.proofs.write_reply.Statement.{statement}
+use Rattle.replies.proofs.write_reply.Tie as tie
 
 enum-known-answer : tie.Need-enum-known-answer
 enum-known-answer c = search needs

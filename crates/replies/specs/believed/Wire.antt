@@ -10,11 +10,11 @@ use Rattle.files.specs.believed.Checks.{Verdict, accepted, refused}
 use Rattle.service.specs.believed.Given.{Given, given}
 use Rattle.service.specs.believed.Given as service
 use Rattle.step_bytes.specs.believed.StepBytes.{StepPart, bytesIn, startIn}
-use Rattle.gaffmedlar.specs.declared.GrammarReply.{GrammarReply}
-use Rattle.gaffmedlar.specs.declared.HistoryReply.{HistoryReply}
-use Rattle.gaffmedlar.specs.declared.CountReply.{CountReply}
-use Rattle.gaffmedlar.specs.declared.PartReply.{PartReply}
-use Rattle.gaffmedlar.specs.declared.WriteReply.{WriteReply}
+use Rattle.replies.specs.declared.GrammarReply.{GrammarReply}
+use Rattle.replies.specs.declared.HistoryReply.{HistoryReply}
+use Rattle.replies.specs.declared.CountReply.{CountReply}
+use Rattle.replies.specs.declared.PartReply.{PartReply}
+use Rattle.replies.specs.declared.WriteReply.{WriteReply}
 
 -- 0 with the counts, or the number of the refusal with zeros
 abbrev pub grammarWire : Verdict → GrammarReply
