@@ -9,6 +9,7 @@ the first byte of the part, how many there are.
 import random
 import sys
 
+from case_files import write_cases
 from frames import CLOSE, MARK, OPEN, Refused, history_bytes, read_history
 
 HALF, LAST = 1 << 63, (1 << 64) - 1
@@ -250,11 +251,7 @@ def main():
     assert len(asked) == len(set(asked)), "a label and position stand twice"
     assert len(CASES) <= 10000, "more than the program compares"
     assert all(len(label) < 256 and len(file) <= 4096 for label, file, _, _ in CASES)
-    with open("crates/test_steps/data/cases.bin", "wb") as f:
-        f.write(b"".join(packed(*c) for c in CASES))
-    with open("crates/test_steps/stdout", "w", encoding="ascii") as f:
-        f.write("%d cases compared\n" % len(CASES))
-    print(len(CASES), "cases")
+    write_cases("test_steps", [packed(*c) for c in CASES])
 
 
 main()

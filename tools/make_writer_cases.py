@@ -10,6 +10,7 @@ import random
 import sys
 
 import frames
+from case_files import write_cases
 from frames import CLOSE, G, MARK, MOST, OPEN
 
 GRAMMAR, HISTORY = 0, 1
@@ -594,11 +595,7 @@ def main():
     for part in (large_elements, full_grammar, full_history, behind_a_full_history, buffers, each_token, drawn):
         part()
     hold_to_limits()
-    with open("crates/test_writers/data/cases.bin", "wb") as f:
-        f.write(b"".join(packed(*c) for c in CASES))
-    with open("crates/test_writers/stdout", "w", encoding="ascii") as f:
-        f.write("%d cases compared\n" % len(CASES))
-    print(len(CASES), "cases")
+    write_cases("test_writers", [packed(*c) for c in CASES])
 
 
 main()

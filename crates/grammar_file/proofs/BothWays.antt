@@ -14,19 +14,21 @@ use Rattle.grammar_file.specs.believed.GrammarFile.{accepted, grammarOf}
 use Rattle.grammar_file.specs.Wellformed.{Wellformed, rulesNumbers, numbersOf}
 use Rattle.grammar_file.proofs.Accepted.{grammar-is}
 
+-- the numbers of rules are below every limit that is above their names and nonterminals
+rule-small : (limit n : ℕ) (r : Rule) → 64 ≤ limit → n ≤ limit → Fits n r → AllBelow limit (ruleNumbers r)
+rule-small limit n (Rule.Empty l) k h f = omega arith
+rule-small limit n (Rule.Mark l c l1) k h f = omega arith
+rule-small limit n (Rule.Step l a l1 b l2) k h f = omega arith
+
+pub rules-small : (limit n : ℕ) (rs : List Rule) → 64 ≤ limit → n ≤ limit → ((r : Rule) → List·Memᴰ r rs → Fits n r) → AllBelow limit (rulesNumbers rs)
+rules-small limit n [] k h f = tt
+rules-small limit n (r ∷ rs) k h f =
+    below-append limit (ruleNumbers r) (rulesNumbers rs) (rule-small limit n r k h (f r (List·Memᴰ·head refl)))
+    (rules-small limit n rs k h (λ x m. f x (List·Memᴰ·tail m)))
+
 -- every number of a well-formed grammar has two bytes at most
-rule-small : (n : ℕ) (r : Rule) → n ≤ 32 → Fits n r → AllBelow 16384 (ruleNumbers r)
-rule-small n (Rule.Empty l) h f = omega arith
-rule-small n (Rule.Mark l c l1) h f = omega arith
-rule-small n (Rule.Step l a l1 b l2) h f = omega arith
-
-rules-small : (n : ℕ) (rs : List Rule) → n ≤ 32 → ((r : Rule) → List·Memᴰ r rs → Fits n r) → AllBelow 16384 (rulesNumbers rs)
-rules-small n [] h f = tt
-rules-small n (r ∷ rs) h f =
-    below-append 16384 (ruleNumbers r) (rulesNumbers rs) (rule-small n r h (f r (List·Memᴰ·head refl))) (rules-small n rs h (λ x m. f x (List·Memᴰ·tail m)))
-
 numbers-small : (g : Grammar) → Wellformed g → AllBelow 16384 (numbersOf g)
-numbers-small g w = (omega arith, (omega arith, rules-small (g .nonterminals) (g .rules) (w .nonterminals-most) (w .fits)))
+numbers-small g w = (omega arith, (omega arith, rules-small 16384 (g .nonterminals) (g .rules) (omega arith) (omega (arith, w .nonterminals-most)) (w .fits)))
 
 pub grammar-both-ways : (s : List ℕ) → AllBelow 256 s → (g : Grammar)
     → (grammarOf s ≡ accepted g) ↔ ((s ≡ written (numbersOf g)) × (g .start ≡ 0) × Wellformed g)

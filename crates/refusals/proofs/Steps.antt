@@ -1,6 +1,6 @@
 -- The number for the bytes of one step is one of a history file's or 17, can be read back from its code, and is there exactly where the part is
 -- empty: so the length of a part tells by itself whether there is a step.
-use Prim.Native.Nat.{ℕ, suc, _+_, _<_}
+use Prim.Native.Nat.{ℕ, suc, _<_}
 use native.Mathlib.Omega.{arith}
 use mathlib.Core.Path.{_≡_, refl}
 use mathlib.Core.Logic.{_≢_, _↔_, _⊎_, inl, inr}

@@ -31,34 +31,34 @@ element-of : (P : ℕ → Type 0) → P 1 → (es : List ℕ) (at : ℕ) → OfN
 unfolding elementAt
 element-of P one es at = chosen (OfNumber P) (ltb at (length es)) tt one
 
-filled-of : (P : ℕ → Type 0) → P 15 → (file lent : List ℕ) → OfWriter P (filled file lent .0)
-filled-of P fifteen file lent = go (ltb (length lent) (length file))
+filled-of : (P : ℕ → Type 0) → P 15 → (file buffer : List ℕ) → OfWriter P (filled file buffer .0)
+filled-of P fifteen file buffer = go (ltb (length buffer) (length file))
   where
-    go : (b : Bool) → OfWriter P (cond b (untouched lent 15) (given (length file), file ++ drop (length file) lent) .0)
+    go : (b : Bool) → OfWriter P (cond b (untouched buffer 15) (given (length file), file ++ drop (length file) buffer) .0)
     go true = fifteen
     go false = tt
 
-grammar-write-numbers : (es lent : List ℕ) → OfWriter GrammarWriteNumbered (grammarWritten es lent .0)
-grammar-write-numbers es lent =
+grammar-write-numbers : (es buffer : List ℕ) → OfWriter GrammarWriteNumbered (grammarWritten es buffer .0)
+grammar-write-numbers es buffer =
     go (grammarFrom (elements es))
     (grammar-from-of GrammarWriteNumbered (elements es) (element-of GrammarWriteNumbered (inl refl) es) (inr (inl (omega arith, omega arith)))
     (inr (inl (omega arith, omega arith))) (inr (inl (omega arith, omega arith))) (inr (inl (omega arith, omega arith)))
     (inr (inl (omega arith, omega arith))) (inr (inl (omega arith, omega arith))) (inr (inl (omega arith, omega arith))))
   where
-    go : (f : GrammarFile) → OfGrammar GrammarWriteNumbered f → OfWriter GrammarWriteNumbered (grammarFilled f lent .0)
+    go : (f : GrammarFile) → OfGrammar GrammarWriteNumbered f → OfWriter GrammarWriteNumbered (grammarFilled f buffer .0)
     go (GrammarFile.refused e) h = h
-    go (GrammarFile.accepted g) h = filled-of GrammarWriteNumbered (inr (inr refl)) (written (numbersOf g)) lent
+    go (GrammarFile.accepted g) h = filled-of GrammarWriteNumbered (inr (inr refl)) (written (numbersOf g)) buffer
 
-history-write-numbers : (es lent : List ℕ) → OfWriter HistoryWriteNumbered (historyWritten es lent .0)
-history-write-numbers es lent =
+history-write-numbers : (es buffer : List ℕ) → OfWriter HistoryWriteNumbered (historyWritten es buffer .0)
+history-write-numbers es buffer =
     go (historyFrom (elements es))
     (history-from-of HistoryWriteNumbered (elements es) (element-of HistoryWriteNumbered (inl refl) es) (inr (omega arith, omega arith))
     (inr (omega arith, omega arith)) (inr (omega arith, omega arith)) (inr (omega arith, omega arith)) (inr (omega arith, omega arith))
     (inr (omega arith, omega arith)))
   where
-    go : (f : HistoryFile) → OfHistory HistoryWriteNumbered f → OfWriter HistoryWriteNumbered (historyFilled f lent .0)
+    go : (f : HistoryFile) → OfHistory HistoryWriteNumbered f → OfWriter HistoryWriteNumbered (historyFilled f buffer .0)
     go (HistoryFile.refused e) h = h
-    go (HistoryFile.accepted ts) h = filled-of HistoryWriteNumbered (inr (omega arith, omega arith)) (written (length ts ∷ ts)) lent
+    go (HistoryFile.accepted ts) h = filled-of HistoryWriteNumbered (inr (omega arith, omega arith)) (written (length ts ∷ ts)) buffer
 
 -- ── the codes ──
 
@@ -80,8 +80,8 @@ write-codes : (P : ℕ → Type 0) → ((k : ℕ) → P k → k ≢ 0) → (x : 
 write-codes P above (given n) h = record { one-of = inl refl; back = refl }
 write-codes P above (refused k) h = record { one-of = inr h; back = rw (ne-eqb k 0 (above k h)) }
 
-pub grammar-write-codes : (es lent : List ℕ) → WriteCode GrammarWriteNumbered (grammarWritten es lent .0)
-grammar-write-codes es lent = write-codes GrammarWriteNumbered grammar-above (grammarWritten es lent .0) (grammar-write-numbers es lent)
+pub grammar-write-codes : (es buffer : List ℕ) → WriteCode GrammarWriteNumbered (grammarWritten es buffer .0)
+grammar-write-codes es buffer = write-codes GrammarWriteNumbered grammar-above (grammarWritten es buffer .0) (grammar-write-numbers es buffer)
 
-pub history-write-codes : (es lent : List ℕ) → WriteCode HistoryWriteNumbered (historyWritten es lent .0)
-history-write-codes es lent = write-codes HistoryWriteNumbered history-above (historyWritten es lent .0) (history-write-numbers es lent)
+pub history-write-codes : (es buffer : List ℕ) → WriteCode HistoryWriteNumbered (historyWritten es buffer .0)
+history-write-codes es buffer = write-codes HistoryWriteNumbered history-above (historyWritten es buffer .0) (history-write-numbers es buffer)

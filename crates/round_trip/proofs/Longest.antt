@@ -1,18 +1,18 @@
 -- How long the files can be that pass, and so what a writer writes: 771 bytes for a grammar, 2,050 for a history.
-use Prim.Native.Nat.{ℕ, _+_, _*_, _<_, _≤_}
-use mathlib.Core.Path.{_≡_, refl, ap, _∙_}
-use mathlib.Core.List.{List, [], _∷_, _++_, List·Memᴰ, List·Memᴰ·head, List·Memᴰ·tail}
+use Prim.Native.Nat.{ℕ, _+_, _*_, _≤_}
+use mathlib.Core.Path.{_≡_, refl, ap}
+use mathlib.Core.List.{List, [], _∷_}
 use native.Mathlib.Omega.{arith}
 use lib.ListN.{length, length-append}
 use Rattle.numbers.specs.Written.{AllBelow, shortest, written}
-use Rattle.numbers.proofs.Written.{one-byte, shortest-most, below-append}
-use Rattle.rules.specs.RuleNumbers.{ruleNumbers, Fits}
+use Rattle.numbers.proofs.Written.{one-byte, shortest-most}
+use Rattle.rules.specs.RuleNumbers.{ruleNumbers}
 use Rattle.vpg.specs.declared.Rule.{Rule}
 use Rattle.vpg.specs.believed.Grammar.{Grammar}
 use Rattle.grammar_file.specs.believed.GrammarFile
 use Rattle.grammar_file.specs.believed.GrammarFile.{GrammarFile, grammarOf}
-use Rattle.grammar_file.specs.Wellformed.{rulesNumbers, numbersOf}
-use Rattle.grammar_file.proofs.BothWays.{grammar-both-ways}
+use Rattle.grammar_file.specs.Wellformed.{rulesNumbers}
+use Rattle.grammar_file.proofs.BothWays.{rules-small, grammar-both-ways}
 use Rattle.history_file.specs.believed.HistoryFile
 use Rattle.history_file.specs.believed.HistoryFile.{HistoryFile, historyOf}
 use Rattle.history_file.proofs.BothWays.{history-both-ways}
@@ -34,26 +34,22 @@ unfolding written
 written-most [] = omega arith
 written-most (n ∷ ns) = omega (arith, written-next n ns, shortest-most n, written-most ns)
 
-rule-small : (n : ℕ) (r : Rule) → n ≤ 32 → Fits n r → AllBelow 128 (ruleNumbers r) × (length (ruleNumbers r) ≤ 6)
-rule-small n (Rule.Empty l) h f = (omega arith, omega arith)
-rule-small n (Rule.Mark l c l1) h f = (omega arith, omega arith)
-rule-small n (Rule.Step l a l1 b l2) h f = (omega arith, omega arith)
+rule-length : (r : Rule) → length (ruleNumbers r) ≤ 6
+rule-length (Rule.Empty l) = omega arith
+rule-length (Rule.Mark l c l1) = omega arith
+rule-length (Rule.Step l a l1 b l2) = omega arith
 
-rules-small : (n : ℕ) (rs : List Rule) → n ≤ 32 → ((r : Rule) → List·Memᴰ r rs → Fits n r)
-    → AllBelow 128 (rulesNumbers rs) × (length (rulesNumbers rs) ≤ 6 * length rs)
-rules-small n [] h f = (tt, omega arith)
-rules-small n (r ∷ rs) h f =
-    let one = rule-small n r h (f r (List·Memᴰ·head refl)) in
-    let rest = rules-small n rs h (λ x m. f x (List·Memᴰ·tail m)) in
-    (below-append 128 (ruleNumbers r) (rulesNumbers rs) (one .0) (rest .0), omega (arith, length-append (ruleNumbers r) (rulesNumbers rs), one .1, rest .1))
+rules-length : (rs : List Rule) → length (rulesNumbers rs) ≤ 6 * length rs
+rules-length [] = omega arith
+rules-length (r ∷ rs) = omega (arith, length-append (ruleNumbers r) (rulesNumbers rs), rule-length r, rules-length rs)
 
 pub grammar-longest : (s : List ℕ) → AllBelow 256 s → (g : Grammar) → grammarOf s ≡ GrammarFile.accepted g → length s ≤ 771
 grammar-longest s b g h =
     let p = grammar-both-ways s b g .0 h in
     let w = p .2 in
     let rs = g .rules in
-    let small = rules-small (g .nonterminals) rs (w .nonterminals-most) (w .fits) in
-    let rules = written-small (rulesNumbers rs) (small .0) in
+    let small = rules-small 128 (g .nonterminals) rs (omega arith) (omega (arith, w .nonterminals-most)) (w .fits) in
+    let rules = written-small (rulesNumbers rs) small in
     let stages = ap length (one-byte (g .nonterminals) (omega (arith, w .nonterminals-most))) in
     omega (
       arith,
@@ -63,7 +59,7 @@ grammar-longest s b g h =
       stages,
       shortest-most (length rs),
       rules,
-      small .1,
+      rules-length rs,
       w .rules-most,
     )
 

@@ -4,13 +4,12 @@ use Prim.Native.Nat.{ℕ, suc, _+_, _/_, _%_, _<_, _≤_}
 use mathlib.Core.Path.{_≡_, refl, sym, ap, _∙_}
 use mathlib.Core.Logic.{inl, inr}
 use mathlib.Core.Bool.{Bool, true, false, cond}
-use mathlib.Core.List.{List, [], _∷_, _++_, append-assoc, map, map-append}
+use mathlib.Core.List.{List, [], _∷_, _++_, map, map-append}
 use native.Mathlib.Omega.{arith}
-use native.Mathlib.Numerals.{add-one}
 use borrow.Author.Tests.{ltb-true, ltb-false, lt-ltb, le-ltb}
 use lib.Dec.{ltb}
 use lib.ListN.{length, getD, take, drop, length-append, length-take}
-use lib.Seq.{take-all, take-take, getD-take, split-at, length-take-le}
+use lib.Seq.{take-all, take-take, getD-take, split-at}
 use Rattle.numbers.specs.declared.NumberRead.the-variants.{Number, Refused}
 use Rattle.numbers.specs.believed.Number.{numberAt, bytes}
 use Rattle.numbers.specs.Written.{AllBelow, shortest, written}

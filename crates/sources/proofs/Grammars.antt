@@ -6,9 +6,7 @@ use mathlib.Core.List.{List, [], _∷_, _++_}
 use native.Mathlib.Omega.{arith}
 use lib.Dec.{eqb}
 use Rattle.numbers.specs.declared.FieldRead.{FieldRead}
-use Rattle.numbers.specs.declared.FieldRead.the-variants.{Field, Refused as FieldRefused}
 use Rattle.numbers.specs.believed.Number.{Source}
-use Rattle.numbers.specs.believed.Field.{fieldAt, countAt}
 use Rattle.rules.specs.declared.PairRead.{PairRead}
 use Rattle.rules.specs.declared.PairRead.the-variants.{Pair, Refused as PairRefused}
 use Rattle.rules.specs.declared.RuleRead.{RuleRead}
@@ -16,7 +14,7 @@ use Rattle.rules.specs.declared.RuleRead.the-variants.{Read, Refused as RuleRef
 use Rattle.rules.specs.believed.Rule.{names, forms, first, second, pairAt, after, stepAt, bodyAt, ruleAt}
 use Rattle.tables.specs.Table.{earlier}
 use Rattle.vpg.specs.declared.Rule.{Rule}
-use Rattle.grammar_file.specs.believed.GrammarFile.{GrammarFile, accepted, refused, afterRule, afterCount, rulesFrom, grammarFrom}
+use Rattle.grammar_file.specs.believed.GrammarFile.{GrammarFile, refused, afterRule, afterCount, rulesFrom, grammarFrom}
 use Rattle.sources.proofs.Alike.{Alike, SameField, both-fields, no-field, field-alike, count-alike}
 
 data SamePair (At : ℕ → ℕ → Type 0) : PairRead → PairRead → Type 0 where
@@ -26,6 +24,16 @@ data SamePair (At : ℕ → ℕ → Type 0) : PairRead → PairRead → Type 0 w
 data SameRule (At : ℕ → ℕ → Type 0) : RuleRead → RuleRead → Type 0 where
   both-rules : {r : Rule} {p q : ℕ} → At p q → SameRule At (Read r p) (Read r q)
   no-rule : {e : ℕ} → SameRule At (RuleRefused e) (RuleRefused e)
+
+-- so many numbers more to be read
+abbrev two : ℕ → ℕ
+two k = suc (suc k)
+
+abbrev four : ℕ → ℕ
+four k = two (two k)
+
+abbrev six : ℕ → ℕ
+six k = two (four k)
 
 -- ── what follows a read ──
 
@@ -57,39 +65,39 @@ module _ {x y : Source} {limit : ℕ} {At : ℕ → ℕ → ℕ → Type 0} (ali
   -- ── one rule ──
 
   module _ (nonterminals : ℕ) (few : nonterminals ≤ limit) where
-    pair-alike : (k p q below e : ℕ) → below ≤ limit → At (suc (suc k)) p q
+    pair-alike : (k p q below e : ℕ) → below ≤ limit → At (two k) p q
         → SamePair (At k) (pairAt (x .number) p below e nonterminals) (pairAt (y .number) q below e nonterminals)
     unfolding pairAt
     pair-alike k p q below e h a =
         first-alike _ _ (field-alike alike (suc k) p q below e h a)
         (λ n p1 q1 b. second-alike n (field-alike alike k p1 q1 nonterminals 6 few b))
 
-    step-alike : (k p q from name to : ℕ) → At (suc (suc k)) p q
+    step-alike : (k p q from name to : ℕ) → At (two k) p q
         → SameRule (At k) (stepAt (x .number) p nonterminals from name to) (stepAt (y .number) q nonterminals from name to)
     unfolding stepAt
     step-alike k p q from name to a = after-alike _ _ (pair-alike k p q names 7 names-few a) (λ close last p1 q1 b. both-rules b)
 
-    body-alike : (k p q form from : ℕ) → At (suc (suc (suc (suc k)))) p q
+    body-alike : (k p q form from : ℕ) → At (four k) p q
         → SameRule (At k) (bodyAt (x .number) p nonterminals form from) (bodyAt (y .number) q nonterminals form from)
     unfolding bodyAt
     body-alike k p q form from a =
-        after-alike _ _ (pair-alike (suc (suc k)) p q names 7 names-few a) (λ name to p1 q1 b. go name to p1 q1 b (eqb form 1))
+        after-alike _ _ (pair-alike (two k) p q names 7 names-few a) (λ name to p1 q1 b. go name to p1 q1 b (eqb form 1))
       where
-        go : (name to p1 q1 : ℕ) → At (suc (suc k)) p1 q1 → (t : Bool)
+        go : (name to p1 q1 : ℕ) → At (two k) p1 q1 → (t : Bool)
             → SameRule (At k) (cond t (Read (Rule.Mark from (record { 0 = name }) to) p1) (stepAt (x .number) p1 nonterminals from name to))
             (cond t (Read (Rule.Mark from (record { 0 = name }) to) q1) (stepAt (y .number) q1 nonterminals from name to))
-        go name to p1 q1 b true = both-rules (alike .fewer k (suc (suc k)) p1 q1 (omega arith) b)
+        go name to p1 q1 b true = both-rules (alike .fewer k (two k) p1 q1 (omega arith) b)
         go name to p1 q1 b false = step-alike k p1 q1 from name to b
 
-    rule-alike : (k p q : ℕ) → At (suc (suc (suc (suc (suc (suc k)))))) p q → SameRule (At k) (ruleAt (x .number) p nonterminals) (ruleAt (y .number) q nonterminals)
+    rule-alike : (k p q : ℕ) → At (six k) p q → SameRule (At k) (ruleAt (x .number) p nonterminals) (ruleAt (y .number) q nonterminals)
     unfolding ruleAt
     rule-alike k p q a =
-        after-alike _ _ (pair-alike (suc (suc (suc (suc k)))) p q forms 5 (omega (arith, names-few)) a) (λ form from p1 q1 b. go form from p1 q1 b (eqb form 0))
+        after-alike _ _ (pair-alike (four k) p q forms 5 (omega (arith, names-few)) a) (λ form from p1 q1 b. go form from p1 q1 b (eqb form 0))
       where
-        go : (form from p1 q1 : ℕ) → At (suc (suc (suc (suc k)))) p1 q1 → (t : Bool)
+        go : (form from p1 q1 : ℕ) → At (four k) p1 q1 → (t : Bool)
             → SameRule (At k) (cond t (Read (Rule.Empty from) p1) (bodyAt (x .number) p1 nonterminals form from))
             (cond t (Read (Rule.Empty from) q1) (bodyAt (y .number) q1 nonterminals form from))
-        go form from p1 q1 b true = both-rules (alike .fewer k (suc (suc (suc (suc k)))) p1 q1 (omega arith) b)
+        go form from p1 q1 b true = both-rules (alike .fewer k (four k) p1 q1 (omega arith) b)
         go form from p1 q1 b false = body-alike k p1 q1 form from b
 
     -- ── the rules ──
@@ -99,7 +107,7 @@ module _ {x y : Source} {limit : ℕ} {At : ℕ → ℕ → ℕ → Type 0} (ali
     unfolding rulesFrom
     rules-alike start zero p q rules a = rw (alike .more 0 p q (alike .fewer 0 (6 * 0) p q (omega arith) a))
     rules-alike start (suc due) p q rules a =
-        after-rule-alike _ _ (rule-alike (6 * due) p q (alike .fewer (suc (suc (suc (suc (suc (suc (6 * due))))))) (6 * suc due) p q (omega arith) a))
+        after-rule-alike _ _ (rule-alike (6 * due) p q (alike .fewer (six (6 * due)) (6 * suc due) p q (omega arith) a))
         (λ R p1 q1 b. ap (cond (earlier R rules) (refused 8)) (rules-alike start due p1 q1 (rules ++ (R ∷ [])) b))
 
   -- ── the file: two counts and at most 128 rules of six numbers ──

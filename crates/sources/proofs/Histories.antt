@@ -1,19 +1,18 @@
 -- Two sources that say the same say the same tokens, or are refused by the same number: token by token, then the file.
 use Prim.Native.Nat.{ℕ, zero, suc, _+_, _<_, _≤_}
-use mathlib.Core.Path.{_≡_, refl, ap}
+use mathlib.Core.Path.{_≡_, refl}
 use mathlib.Core.Logic.{inl, inr}
 use mathlib.Core.Bool.{Bool, true, false, cond, _&&_, _||_}
 use mathlib.Core.List.{List, [], _∷_, _++_}
 use native.Mathlib.Omega.{arith}
 use borrow.Author.Tests.{le-leb}
-use lib.Dec.{eqb, leb, ltb}
+use lib.Dec.{eqb, leb}
 use Rattle.numbers.specs.declared.NumberRead.{NumberRead}
 use Rattle.numbers.specs.declared.FieldRead.{FieldRead}
 use Rattle.numbers.specs.believed.Number.{Source}
-use Rattle.numbers.specs.believed.Field.{fieldAt}
 use Rattle.history_file.specs.declared.TokenRead.{TokenRead}
 use Rattle.history_file.specs.declared.TokenRead.the-variants.{Token as TokenIs, Refused as TokenRefused}
-use Rattle.history_file.specs.believed.HistoryFile.{HistoryFile, accepted, refused, kind, tokenJudged, judged, tokenAt, depthAfter, afterToken, afterCount, tokensFrom, historyFrom}
+use Rattle.history_file.specs.believed.HistoryFile.{HistoryFile, kind, tokenJudged, judged, tokenAt, depthAfter, afterToken, afterCount, tokensFrom, historyFrom}
 use Rattle.sources.proofs.Alike.{Alike, SameNumber, both, neither, SameField, both-fields, no-field, field-alike}
 
 data SameToken (At : ℕ → ℕ → Type 0) : TokenRead → TokenRead → Type 0 where

@@ -15,31 +15,31 @@ use Rattle.service.specs.believed.Given.{untouched}
 use Rattle.writers.specs.Passing.{passed, numberOf}
 use Rattle.writers.specs.believed.Writers.{filled, grammarFilled, historyFilled}
 
-module _ (s lent : List ℕ) where
-  pub grammar-passes : AllBelow 256 s → passed (grammarDue (grammarOf s)) ≡ true → grammarFilled (grammarOf s) lent ≡ filled s lent
+module _ (s buffer : List ℕ) where
+  pub grammar-passes : AllBelow 256 s → passed (grammarDue (grammarOf s)) ≡ true → grammarFilled (grammarOf s) buffer ≡ filled s buffer
   grammar-passes b h = go (grammarOf s) refl h
     where
-      go : (f : GrammarFile) → grammarOf s ≡ f → passed (grammarDue f) ≡ true → grammarFilled f lent ≡ filled s lent
-      go (GrammarFile.accepted g) e q = ap (λ l. filled l lent) (sym (grammar-both-ways s b g .0 e .0))
+      go : (f : GrammarFile) → grammarOf s ≡ f → passed (grammarDue f) ≡ true → grammarFilled f buffer ≡ filled s buffer
+      go (GrammarFile.accepted g) e q = ap (λ l. filled l buffer) (sym (grammar-both-ways s b g .0 e .0))
       go (GrammarFile.refused d) e q = absurd (false≢true q)
 
-  pub grammar-fails : passed (grammarDue (grammarOf s)) ≡ false → grammarFilled (grammarOf s) lent ≡ untouched lent (numberOf (grammarDue (grammarOf s)))
+  pub grammar-fails : passed (grammarDue (grammarOf s)) ≡ false → grammarFilled (grammarOf s) buffer ≡ untouched buffer (numberOf (grammarDue (grammarOf s)))
   grammar-fails h = go (grammarOf s) h
     where
-      go : (f : GrammarFile) → passed (grammarDue f) ≡ false → grammarFilled f lent ≡ untouched lent (numberOf (grammarDue f))
+      go : (f : GrammarFile) → passed (grammarDue f) ≡ false → grammarFilled f buffer ≡ untouched buffer (numberOf (grammarDue f))
       go (GrammarFile.accepted g) q = absurd (false≢true (sym q))
       go (GrammarFile.refused d) q = refl
 
-  pub history-passes : AllBelow 256 s → passed (historyDue (historyOf s)) ≡ true → historyFilled (historyOf s) lent ≡ filled s lent
+  pub history-passes : AllBelow 256 s → passed (historyDue (historyOf s)) ≡ true → historyFilled (historyOf s) buffer ≡ filled s buffer
   history-passes b h = go (historyOf s) refl h
     where
-      go : (f : HistoryFile) → historyOf s ≡ f → passed (historyDue f) ≡ true → historyFilled f lent ≡ filled s lent
-      go (HistoryFile.accepted ts) e q = ap (λ l. filled l lent) (sym (history-both-ways s b ts .0 e .0))
+      go : (f : HistoryFile) → historyOf s ≡ f → passed (historyDue f) ≡ true → historyFilled f buffer ≡ filled s buffer
+      go (HistoryFile.accepted ts) e q = ap (λ l. filled l buffer) (sym (history-both-ways s b ts .0 e .0))
       go (HistoryFile.refused d) e q = absurd (false≢true q)
 
-  pub history-fails : passed (historyDue (historyOf s)) ≡ false → historyFilled (historyOf s) lent ≡ untouched lent (numberOf (historyDue (historyOf s)))
+  pub history-fails : passed (historyDue (historyOf s)) ≡ false → historyFilled (historyOf s) buffer ≡ untouched buffer (numberOf (historyDue (historyOf s)))
   history-fails h = go (historyOf s) h
     where
-      go : (f : HistoryFile) → passed (historyDue f) ≡ false → historyFilled f lent ≡ untouched lent (numberOf (historyDue f))
+      go : (f : HistoryFile) → passed (historyDue f) ≡ false → historyFilled f buffer ≡ untouched buffer (numberOf (historyDue f))
       go (HistoryFile.accepted ts) q = absurd (false≢true (sym q))
       go (HistoryFile.refused d) q = refl

@@ -3,7 +3,6 @@ use Prim.Native.Nat.{_+_, _-_, _≤_}
 use mathlib.Core.Path.{_∙_}
 use native.Mathlib.Omega.{arith}
 use borrow.Author.Needs.{needs}
-use lib.ListN.{length}
 use Rattle.elements.proofs.Encoding.{EncodedTo, count-is, encoding-size, encoding-starts, encoding-goes, encoding-ends}
 use Rattle.elements.proofs.encode.Statement.{statement}
 use Rattle.elements.proofs.encode.Tie as tie

@@ -1,11 +1,10 @@
 -- `writers::write_grammar` meets its contract.
-use mathlib.Core.Path.{sym, _∙_, ap}
+use mathlib.Core.Path.{sym, _∙_}
 use borrow.Author.Needs.{needs}
 use lib.ListN.{replicate}
 use lib.Seq.{length-take-le}
 use Rattle.elements.proofs.Encoding.{encoded-part, encoded-room}
 use Rattle.sources.proofs.Encoded.{grammar-encoded}
-use Rattle.writers.specs.believed.Writers.{grammarFilled}
 use Rattle.writers.proofs.write_grammar.Statement.{statement}
 use Rattle.writers.proofs.write_grammar.Tie as tie
 

@@ -1,11 +1,10 @@
 -- `writers::write_history` meets its contract.
-use mathlib.Core.Path.{sym, _∙_, ap}
+use mathlib.Core.Path.{sym, _∙_}
 use borrow.Author.Needs.{needs}
 use lib.ListN.{replicate}
 use lib.Seq.{length-take-le}
 use Rattle.elements.proofs.Encoding.{encoded-part, encoded-room}
 use Rattle.sources.proofs.Encoded.{history-encoded}
-use Rattle.writers.specs.believed.Writers.{historyFilled}
 use Rattle.writers.proofs.write_history.Statement.{statement}
 use Rattle.writers.proofs.write_history.Tie as tie
 

@@ -22,21 +22,21 @@ writeSaid (WriteAnswer.Refused e) = refused e
 
 -- "the writer fills a lent buffer and tells its length .. and then gives 15 for a short buffer. Bytes past the written length stay"
 abbrev pub filled : List ℕ → List ℕ → Given ℕ × List ℕ
-filled file lent = cond (ltb (length lent) (length file)) (untouched lent 15) (given (length file), file ++ drop (length file) lent)
+filled file buffer = cond (ltb (length buffer) (length file)) (untouched buffer 15) (given (length file), file ++ drop (length file) buffer)
 
 -- the file of a grammar; "it turns down what the reader would, by the same numbers"
 abbrev pub grammarFilled : GrammarFile → List ℕ → Given ℕ × List ℕ
-grammarFilled (GrammarFile.accepted g) lent = filled (written (numbersOf g)) lent
-grammarFilled (GrammarFile.refused e) lent = untouched lent e
+grammarFilled (GrammarFile.accepted g) buffer = filled (written (numbersOf g)) buffer
+grammarFilled (GrammarFile.refused e) buffer = untouched buffer e
 
 -- the file of token numbers
 abbrev pub historyFilled : HistoryFile → List ℕ → Given ℕ × List ℕ
-historyFilled (HistoryFile.accepted ts) lent = filled (written (length ts ∷ ts)) lent
-historyFilled (HistoryFile.refused e) lent = untouched lent e
+historyFilled (HistoryFile.accepted ts) buffer = filled (written (length ts ∷ ts)) buffer
+historyFilled (HistoryFile.refused e) buffer = untouched buffer e
 
 -- "from the numbers of a file in their order, one element each"
 abbrev pub grammarWritten : List ℕ → List ℕ → Given ℕ × List ℕ
-grammarWritten numbers lent = grammarFilled (grammarFrom (elements numbers)) lent
+grammarWritten numbers buffer = grammarFilled (grammarFrom (elements numbers)) buffer
 
 abbrev pub historyWritten : List ℕ → List ℕ → Given ℕ × List ℕ
-historyWritten numbers lent = historyFilled (historyFrom (elements numbers)) lent
+historyWritten numbers buffer = historyFilled (historyFrom (elements numbers)) buffer
