@@ -1,5 +1,6 @@
 /* Checks what gaffmedlar.h does by itself: NULL for what has length 0, the words of the answers, the part of a file as a
- * struct, on the examples of one step's bytes, and the reply of a writer, on the examples of written files.
+ * struct, on the examples of one step's bytes, and the reply of a writer, on the examples of written files. Then the services
+ * on grammars that say their start.
  *
  * Build, in the repository's root:
  *     tools/build library
@@ -113,15 +114,17 @@ static void refused(const char *what, writer *write, const uint32_t *numbers, si
     due_written(what, write, numbers, numbers_len, 0, NULL, 0, number);
 }
 
-/* Document 01's grammar G and a number behind it; each of its numbers is a byte. */
-static void written_grammars(void)
+/* The rules of document 01's grammar G, each number a byte; and G with its stages 0 and 1 exchanged, which starts at stage 1. */
+#define RULES_OF_G 0, 0, 2, 0, 0, 1, 0, 0, 2, 0, 0, 2, 0, 0, 1, 1, 0, 1, 0, 1, 1, 2, 0, 2, 0, 2
+#define G_EXCHANGED 0, 3, 1, 7, 0, 1, 2, 1, 0, 0, 0, 1, 2, 1, 0, 2, 0, 1, 1, 0, 0, 0, 0, 0, 1, 2, 0, 2, 0, 2
+
+/* Numbers that don't say the start, and a number behind them: the file says it. */
+static void written_with_the_start(void)
 {
-    static const uint32_t g[29] = {3, 7, 0, 0, 2, 0, 0, 1, 0, 0, 2, 0, 0, 2, 0, 0, 1, 1, 0, 1, 0, 1, 1, 2, 0, 2, 0, 2, 5};
-    static const uint8_t file[28] = {3, 7, 0, 0, 2, 0, 0, 1, 0, 0, 2, 0, 0, 2, 0, 0, 1, 1, 0, 1, 0, 1, 1, 2, 0, 2, 0, 2};
+    static const uint32_t g[29] = {3, 7, RULES_OF_G, 5};
+    static const uint8_t file[30] = {0, 3, 0, 7, RULES_OF_G};
     static const uint32_t large_name[] = {1, 1, 1, 0, 70000, 0}, twice[] = {1, 128, 0, 0, 0, 0},
                           large_count[] = {4294967295u, 1, 0, 0};
-    static uint32_t full[GAFFMEDLAR_GRAMMAR_NUMBERS_MAX];
-    static uint8_t full_file[GAFFMEDLAR_GRAMMAR_BYTES_MAX] = {32, 128, 1};
 
     due_at_all_lengths("G", gaffmedlar_write_grammar, g, 28, file, sizeof file);
     refused("G without its last number", gaffmedlar_write_grammar, g, 27, GAFFMEDLAR_REFUSED_BYTES_END);
@@ -130,18 +133,45 @@ static void written_grammars(void)
     refused("a rule twice", gaffmedlar_write_grammar, twice, 6, GAFFMEDLAR_REFUSED_RULE_TWICE);
     refused("a large stage count", gaffmedlar_write_grammar, large_count, 4, GAFFMEDLAR_REFUSED_STAGE_COUNT);
     refused("no element", gaffmedlar_write_grammar, NULL, 0, GAFFMEDLAR_REFUSED_BYTES_END);
+}
 
-    /* 128 rules of six numbers, which differ in their open's name and in their first stage */
-    full[0] = 32;
-    full[1] = 128;
+/* Numbers that say the start, and a number behind them: they are the file. */
+static void written_as_they_are(void)
+{
+    static const uint32_t numbers[31] = {G_EXCHANGED, 5};
+    static const uint8_t file[30] = {G_EXCHANGED};
+    static const uint32_t no_stage[] = {0, 0, 0, 1}, above[] = {0, 1, 1, 0}, large_start[] = {0, 1, 4294967295u, 1, 0, 0},
+                          no_rule[] = {0, 1, 0, 0};
+
+    due_at_all_lengths("G exchanged", gaffmedlar_write_grammar, numbers, 30, file, sizeof file);
+    refused("G exchanged, too few", gaffmedlar_write_grammar, numbers, 29, GAFFMEDLAR_REFUSED_BYTES_END);
+    refused("G exchanged, too many", gaffmedlar_write_grammar, numbers, 31, GAFFMEDLAR_REFUSED_BYTES_FOLLOW);
+    refused("a 0 alone", gaffmedlar_write_grammar, no_stage, 1, GAFFMEDLAR_REFUSED_BYTES_END);
+    refused("no stage", gaffmedlar_write_grammar, no_stage, 4, GAFFMEDLAR_REFUSED_STAGE_COUNT);
+    refused("a start above", gaffmedlar_write_grammar, above, 4, GAFFMEDLAR_REFUSED_STAGE);
+    refused("a large start", gaffmedlar_write_grammar, large_start, 6, GAFFMEDLAR_REFUSED_STAGE);
+    refused("no rule", gaffmedlar_write_grammar, no_rule, 4, GAFFMEDLAR_REFUSED_RULE_COUNT);
+}
+
+/* 128 rules of six numbers, which differ in their open's name and in their first stage: with the start, and without it. */
+static void longest_grammars(void)
+{
+    static uint32_t numbers[GAFFMEDLAR_GRAMMAR_NUMBERS_MAX] = {0, 32, 31, 128};
+    static uint8_t file[GAFFMEDLAR_GRAMMAR_BYTES_MAX] = {0, 32, 31, 128, 1};
+
     for (uint8_t rule = 0; rule < 128; rule++) {
-        const uint8_t numbers[6] = {2, rule / 64, rule % 64, 31, 63, 0};
-        memcpy(full_file + 3 + 6 * rule, numbers, sizeof numbers);
+        const uint8_t six[6] = {2, rule / 64, rule % 64, 31, 63, 0};
+        memcpy(file + 5 + 6 * rule, six, sizeof six);
         for (size_t i = 0; i < 6; i++)
-            full[2 + 6 * rule + i] = numbers[i];
+            numbers[4 + 6 * rule + i] = six[i];
     }
-    due_at_all_lengths("the longest grammar", gaffmedlar_write_grammar, full, GAFFMEDLAR_GRAMMAR_NUMBERS_MAX, full_file,
-                       sizeof full_file);
+    due_at_all_lengths("the longest grammar", gaffmedlar_write_grammar, numbers, GAFFMEDLAR_GRAMMAR_NUMBERS_MAX, file,
+                       sizeof file);
+    /* from its third element on: stage count and rule count */
+    numbers[2] = 32;
+    file[2] = 0;
+    due_at_all_lengths("the longest without a start", gaffmedlar_write_grammar, numbers + 2,
+                       GAFFMEDLAR_GRAMMAR_NUMBERS_MAX - 2, file, sizeof file);
 }
 
 static void written_histories(void)
@@ -162,6 +192,81 @@ static void written_histories(void)
         full[i] = i % 2 == 1 ? 161 : 134;
     due_at_all_lengths("the longest history", gaffmedlar_write_history, full, GAFFMEDLAR_HISTORY_NUMBERS_MAX, full_file,
                        two_byte_steps(full_file));
+}
+
+static void due_count(const char *what, uint32_t count, uint32_t is_due)
+{
+    if (count != is_due) {
+        printf("%s: %u, and %u is due\n", what, (unsigned)count, (unsigned)is_due);
+        faults++;
+    }
+}
+
+/* What is due for a grammar of three stages and seven rules and the history 3 1 0 2. For each of the four positions it has the
+ * first reading and the next one, with 9 where none is written, the stop mark, and the first word of the set. */
+struct start_due {
+    const char *what;
+    const uint8_t *grammar;
+    size_t grammar_len;
+    int first_answer, next_answer;
+    uint8_t first[4], next[4], marks[4];
+    uint32_t words[4], doubtful;
+};
+
+static void due_start(const struct start_due *is)
+{
+    static const uint8_t history[] = {3, 1, 0, 2}, calls[] = {0, 1};
+    uint8_t first[4] = {9, 9, 9, 9}, next[4], listed[4] = {9, 9, 9, 9}, marks[4] = {9, 9, 9, 9}, answers[2] = {9, 9};
+    uint32_t words[16] = {9};
+    struct gaffmedlar_grammar counts = gaffmedlar_grammar_check(is->grammar, is->grammar_len);
+    struct gaffmedlar_count doubtful = gaffmedlar_doubtful_count(is->grammar, is->grammar_len, history, sizeof history);
+
+    due(is->what, counts.answer, GAFFMEDLAR_OK);
+    due_count(is->what, counts.stages, 3);
+    due_count(is->what, counts.rules, 7);
+    due(is->what, doubtful.answer, GAFFMEDLAR_OK);
+    due_count(is->what, doubtful.count, is->doubtful);
+    due(is->what, gaffmedlar_first_reading(is->grammar, is->grammar_len, history, sizeof history, first, 4), is->first_answer);
+    memcpy(next, first, sizeof next);
+    due(is->what, gaffmedlar_next_reading(is->grammar, is->grammar_len, history, sizeof history, next, 4), is->next_answer);
+    due(is->what,
+        gaffmedlar_run_calls(is->grammar, is->grammar_len, history, sizeof history, calls, 2, answers, 2, listed, 4),
+        GAFFMEDLAR_OK);
+    due(is->what, answers[0], is->first_answer);
+    due(is->what, answers[1], is->next_answer);
+    due(is->what, gaffmedlar_stop_marks(is->grammar, is->grammar_len, history, sizeof history, marks, 4), GAFFMEDLAR_OK);
+    due(is->what, gaffmedlar_sets(is->grammar, is->grammar_len, history, sizeof history, words, 16), GAFFMEDLAR_OK);
+    for (size_t p = 0; p < 4; p++) {
+        due_count(is->what, first[p], is->first[p]);
+        due_count(is->what, next[p], is->next[p]);
+        due_count(is->what, listed[p], is->next[p]);
+        due_count(is->what, marks[p], is->marks[p]);
+        due_count(is->what, words[4 * p], is->words[p]);
+    }
+}
+
+/* What G gives, and what a grammar without a reading gives. */
+#define AS_G GAFFMEDLAR_OK, GAFFMEDLAR_OK, {1, 3, 4, 0}, {2, 5, 6, 0}, {1, 0, 0, 1}, {6, 40, 80, 1}, 3
+#define NONE                                                                                                           \
+    GAFFMEDLAR_NO_READING, GAFFMEDLAR_REFUSED_NOT_A_READING, {9, 9, 9, 9}, {9, 9, 9, 9}, {1, 0, 0, 0}, {0, 0, 0, 0}, 0
+
+static void starts(void)
+{
+    static const uint8_t short_form[] = {3, 7, RULES_OF_G}, from_0[] = {0, 3, 0, 7, RULES_OF_G},
+                         from_1[] = {0, 3, 1, 7, RULES_OF_G}, exchanged[] = {G_EXCHANGED};
+    static const struct start_due all[] = {{"G", short_form, sizeof short_form, AS_G},
+                                           {"G from stage 0", from_0, sizeof from_0, AS_G},
+                                           {"G exchanged", exchanged, sizeof exchanged, AS_G},
+                                           {"G from stage 1", from_1, sizeof from_1, NONE}};
+    static const uint8_t heads[][4] = {{0, 0, 0, 0}, {0, 3, 3, 0}, {0, 3, 2, 0}, {128, 0, 3, 2}};
+    static const int numbers[] = {GAFFMEDLAR_REFUSED_STAGE_COUNT, GAFFMEDLAR_REFUSED_STAGE, GAFFMEDLAR_REFUSED_RULE_COUNT,
+                                  GAFFMEDLAR_REFUSED_NUMBER_FORM};
+
+    for (size_t i = 0; i < sizeof all / sizeof all[0]; i++)
+        due_start(&all[i]);
+    for (size_t i = 0; i < sizeof heads / sizeof heads[0]; i++)
+        due("a head", gaffmedlar_grammar_check(heads[i], 4).answer, numbers[i]);
+    due("a 0 alone", gaffmedlar_grammar_check(heads[0], 1).answer, GAFFMEDLAR_REFUSED_BYTES_END);
 }
 
 int main(void)
@@ -197,8 +302,11 @@ int main(void)
     due("the reading", reading[0], 0);
 
     steps();
-    written_grammars();
+    written_with_the_start();
+    written_as_they_are();
+    longest_grammars();
     written_histories();
+    starts();
 
     int said = 0;
     for (int answer = 0; answer < 256; answer++)

@@ -15,6 +15,16 @@
  * history's before 17. gaffmedlar_step_bytes gives no number: gaffmedlar_step_refusal gives it. A writer gives the number
  * that a check would give the file, before 15.
  *
+ * Grammars
+ *
+ * A grammar file begins in one of two ways. Behind either stand the rules.
+ *
+ *     stage count, rule count                    stage 0 is the start
+ *     0, stage count, start stage, rule count    the start is the stage that the file says
+ *
+ * Every function reads both and goes by the start. gaffmedlar_write_grammar takes the numbers of both and always writes the
+ * longer form.
+ *
  * Readings
  *
  * n is the number of tokens of the history. It has positions 0 to n: those of its tokens, and n behind the last one. A
@@ -25,7 +35,8 @@
  *     at a close      the form 0 rule that ends the inside of its step
  *     at position n   the form 0 rule that ends the top level
  *
- * Readings are ordered by the first position where they differ, smaller rule number first.
+ * A reading derives the whole history from the start stage. Readings are ordered by the first position where they differ,
+ * smaller rule number first.
  *
  * Pointers
  *
@@ -95,9 +106,9 @@ extern "C" {
 #define GAFFMEDLAR_TOKENS_MAX 1024
 #define GAFFMEDLAR_READING_MAX 1025         /* bytes of a reading, and of the stop marks */
 #define GAFFMEDLAR_WORDS_MAX 4100           /* words of the sets */
-#define GAFFMEDLAR_GRAMMAR_BYTES_MAX 771    /* bytes of a grammar file */
+#define GAFFMEDLAR_GRAMMAR_BYTES_MAX 773    /* bytes of a grammar file */
 #define GAFFMEDLAR_HISTORY_BYTES_MAX 2050   /* bytes of a history file */
-#define GAFFMEDLAR_GRAMMAR_NUMBERS_MAX 770  /* numbers of a grammar file */
+#define GAFFMEDLAR_GRAMMAR_NUMBERS_MAX 772  /* numbers of a grammar file */
 #define GAFFMEDLAR_HISTORY_NUMBERS_MAX 1025 /* numbers of a history file */
 
 struct gaffmedlar_grammar {
@@ -186,12 +197,15 @@ struct gaffmedlar_part gaffmedlar_step_bytes(const uint8_t *history, size_t hist
  * history passes, and no open stands at the position). Writes nothing. Stack: 8 KiB. */
 uint8_t gaffmedlar_step_refusal(const uint8_t *history, size_t history_len, size_t position);
 
-/* Writes a grammar file from its numbers in their order, one element each: the stage count, the rule count, and the
- * numbers of each rule.
+/* Writes a grammar file from its numbers in their order, one element each, with either beginning: the stage count, the rule
+ * count, and the numbers of each rule; or a 0, the stage count, the start stage, the rule count, and the numbers of each
+ * rule. The file has the second beginning always: numbers with the first are written with a 0 before the stage count and
+ * the start 0 behind it, which reads as before and is two bytes longer. The numbers of a file that has the second are
+ * written as that file, byte for byte.
  * Answers 0 with the length of the file. Otherwise it answers what gaffmedlar_grammar_check would, in the same order: 1 (too
  * few elements), 3 to 8, or 9 (elements follow the last rule), never 2; and where nothing is wrong with the numbers, 15
- * (file_len below the length of the file). An element may be any number: one that is too large for every file gets the
- * number of its place, 70,000 as a name 7, 4,294,967,295 as the stage count 3.
+ * (file_len below the length of the file as it is written, with its start). An element may be any number: one that is too
+ * large for every file gets the number of its place, 70,000 as a name 7, 4,294,967,295 as the stage count 3.
  * Writes file[0] to file[length - 1], with answer 0 alone. Stack: 8 KiB. */
 struct gaffmedlar_written gaffmedlar_write_grammar(const uint32_t *numbers, size_t numbers_len, uint8_t *file,
                                                    size_t file_len);

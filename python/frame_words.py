@@ -45,7 +45,7 @@ class FrameWords:
     """The words for a frame whose files both pass."""
 
     def __init__(self, grammar_path, grammar, history_path, history):
-        self.rules, self.tokens = read_grammar(grammar), read_history(history)
+        self.grammar, self.tokens = read_grammar(grammar), read_history(history)
         self.partner, self.around, self.depth = structure(self.tokens)
         self.grammar_text = notes_beside(grammar_path, "grammar", grammar)
         self.history_text = notes_beside(history_path, "history", history)
@@ -53,6 +53,12 @@ class FrameWords:
     def faults(self):
         """Why a text beside a file is not used."""
         return [text.fault for text in (self.grammar_text, self.history_text) if text.fault]
+
+    def start_sentence(self):
+        """At which stage readings start, and whether the grammar's file says so."""
+        if self.grammar.recorded is None:
+            return "The grammar's file records no start, so readings start at stage 0."
+        return "Readings start at stage %d, as the grammar's file records." % self.grammar.start
 
     # ---- tokens
     def kind(self, position):
@@ -107,11 +113,11 @@ class FrameWords:
 
     def rule_label(self, rule):
         """The rule in words: those of grammar.txt, else by its fields."""
-        return self.rule_comment(rule) or rule_sentence(self.rules[rule])
+        return self.rule_comment(rule) or rule_sentence(self.grammar.rules[rule])
 
     def rule_lines(self, rule):
         """The rule in words, and where it stands."""
-        comment, sentence = self.rule_comment(rule), rule_sentence(self.rules[rule])
+        comment, sentence = self.rule_comment(rule), rule_sentence(self.grammar.rules[rule])
         notes = self.grammar_text.notes
         if not notes:
             return [sentence]

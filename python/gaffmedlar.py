@@ -41,8 +41,8 @@ READING_MAX = 1025
 """Bytes of the longest reading: of a history of 1,024 tokens."""
 WORDS_MAX = 4 * READING_MAX
 """Words of the sets of such a history."""
-GRAMMAR_BYTES_MAX = 771
-"""Bytes of the longest grammar file that passes."""
+GRAMMAR_BYTES_MAX = 773
+"""Bytes of the longest grammar file that passes, which is one with its start written out."""
 HISTORY_BYTES_MAX = 2050
 """Bytes of the longest history file that passes."""
 
@@ -437,10 +437,11 @@ def step_bytes(history: Any, position: int) -> memoryview:
 def numbers(file: Any) -> List[int]:
     """The numbers of a file in their order, as write_grammar and write_history take them.
 
-    It is for a file that has passed its check: such a file, written again from its numbers, is the same byte for byte. This
-    function is plain Python, outside what is proved. It takes any bytes and judges none: a number in a longer form than the
-    shortest is that number, and one above 4,294,967,295, or one inside which the bytes end, is given as 4,294,967,295. No
-    writer takes that, wherever it stands, so what was cut off is not written as if it were whole.
+    It is for a file that has passed its check: such a file, written again from its numbers, is the same byte for byte, but
+    that a grammar without its start gets it written out. This function is plain Python, outside what is proved. It takes any
+    bytes and judges none: a number in a longer form than the shortest is that number, and one above 4,294,967,295, or one
+    inside which the bytes end, is given as 4,294,967,295. No writer takes that, wherever it stands, so what was cut off is not
+    written as if it were whole.
     """
     found, number, place = [], 0, 0
     for byte in _file(file):
@@ -463,9 +464,11 @@ def _written(kind: str, values: Iterable[int], file: Any) -> int:
 def write_grammar_into(numbers: Iterable[int], file: Any) -> int:
     """Writes a grammar file into the first bytes of the buffer `file` and gives its length. Raises Refusal (1, 3 to 9, 15).
 
-    `numbers` are those of the file in their order: the stage count, the rule count, and the numbers of each rule. 1 says that
-    there are too few, 9 that there are too many. Bytes behind the file stay; GRAMMAR_BYTES_MAX bytes are enough for every
-    grammar. A number below 0 or above 4,294,967,295 is a ValueError.
+    `numbers` are those of a file in their order, with either beginning: 0, the stage count, the start stage, the rule count;
+    or the stage count and the rule count alone, where stage 0 is the start. Behind it stand the numbers of each rule. What is
+    written always has its start: from numbers without one the file is two bytes longer than in the short form, and the buffer
+    has to hold that. 1 says that there are too few numbers, 9 that there are too many. Bytes behind the file stay;
+    GRAMMAR_BYTES_MAX bytes are enough for every grammar. A number below 0 or above 4,294,967,295 is a ValueError.
     """
     return _written("grammar", numbers, file)
 
@@ -481,7 +484,12 @@ def write_history_into(numbers: Iterable[int], file: Any) -> int:
 
 
 def write_grammar(numbers: Iterable[int]) -> bytes:
-    """The grammar file of these numbers, as write_grammar_into writes it. Raises Refusal (1, 3 to 9)."""
+    """The grammar file of these numbers, as write_grammar_into writes it. Raises Refusal (1, 3 to 9).
+
+        numbers = gaffmedlar.numbers(gaffmedlar.write_grammar(gaffmedlar.numbers(grammar)))
+        numbers[2] = 1                                  # 0, stage count, start: the same rules, from stage 1 on
+        grammar = gaffmedlar.write_grammar(numbers)
+    """
     file = bytearray(GRAMMAR_BYTES_MAX)
     return bytes(file[:write_grammar_into(numbers, file)])
 

@@ -12,7 +12,13 @@ sys.path[:0] = [os.path.join(ROOT, "python"), os.path.join(ROOT, "tools")]
 subprocess.run([os.path.join(ROOT, "tools", "build"), "library"], check=True, stdin=subprocess.DEVNULL)
 
 from commands import command, started  # noqa: E402
-from frames import CLOSE, G, MARK, OPEN, grammar_bytes, history_bytes  # noqa: E402
+from frames import CLOSE, EXCHANGED, G, MARK, OPEN, grammar_bytes, history_bytes, read_grammar  # noqa: E402
+
+# G with its start written out, G's rules from stage 1 on, and the grammar with two stages exchanged as if it started at stage 0.
+LONG_G, G_FROM_1, NOT_EXCHANGED = bytes([0, 3, 0]) + G[1:], bytes([0, 3, 1]) + G[1:], EXCHANGED[1:2] + EXCHANGED[3:]
+# Beginnings of a grammar file at fault, and the number of each.
+FAULTY_BEGINNINGS = [([0], 1), ([0, 0], 3), ([0, 0, 0, 0], 3), ([128, 0], 2), ([0, 1], 1), ([0, 1, 1], 6), ([0, 33], 3), ([0, 128, 0], 2),
+                     ([0, 1, 0, 0], 4), ([0, 1, 0], 1), ([0, 1, 1, 0], 6), ([0, 3, 3] + list(G[1:]), 6)]
 
 LIBRARY = os.path.join(ROOT, "target", "shared", "libgaffmedlar.so")
 # The library that has just been made; so nothing has to look whether it is new.
@@ -40,7 +46,7 @@ def random_tokens(draw, length):
 
 
 def random_frame(draw):
-    """A grammar and a history that both pass; most of these have readings."""
+    """A grammar of either beginning, with any start, and a history; both pass, and most of these have readings."""
     stages = draw.randint(1, 3)
     def stage():
         return draw.randrange(stages)
@@ -53,7 +59,14 @@ def random_frame(draw):
     rules.update((rule(), None) for _ in range(draw.randint(4, 24)))
     rules = list(rules)
     draw.shuffle(rules)
-    return grammar_bytes(stages, rules), history_bytes(random_tokens(draw, draw.randint(0, 12)))
+    start = draw.choice((None, 0, stage(), stage()))
+    return grammar_bytes(stages, rules, start), history_bytes(random_tokens(draw, draw.randint(0, 12)))
+
+
+def long_form(grammar):
+    """A grammar file that passes, as a writer gives it: with its start written out."""
+    read = read_grammar(grammar)
+    return grammar_bytes(read.stages, read.rules, read.start)
 
 
 def damaged(draw, data):

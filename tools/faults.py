@@ -5,7 +5,7 @@ The fault is the one that the reader of frames.py finds; the refusal's words and
 import os
 
 from frame_text import PARSE, TextFault, decoded, rule_text
-from frames import FIELDS, Reader, Refused, numbers_bytes, read_history, read_stages_and_rules, token_words
+from frames import FIELDS, Reader, Refused, read_grammar, read_history, token_words
 from refusal_table import table
 from streams import CouldNotRun, printable, read_text, why
 
@@ -28,7 +28,8 @@ class Text:
     def __init__(self, kind, data, name=None):
         self.name = name
         self.parsed = PARSE[kind](data)
-        self.data = numbers_bytes(self.parsed.numbers)
+        self.files = self.parsed.files()
+        self.data = self.files[0]
         self.lines = decoded(data).split("\n")
         self.items = self.parsed.rules if kind == "grammar" else self.parsed.tokens
 
@@ -36,6 +37,8 @@ class Text:
         """The number of the line at fault. A count that is too large is at fault where the first one too many stands."""
         if refused.item is not None:
             return self.items[refused.item].line
+        if refused.field == "start":
+            return self.parsed.start_line
         if refused.field != "stage count" and len(self.items) > refused.allowed[1]:
             return self.items[refused.allowed[1]].line
         return self.parsed.stages_line
@@ -58,7 +61,7 @@ def text_beside(path, kind, data, name_of=str):
         text = Text(kind, read_text(beside), name)
     except (CouldNotRun, TextFault):
         return None, "%s lies beside it and can't be read as a %s" % (name, kind)
-    if text.data != data:
+    if data not in text.files:
         return None, "%s lies beside it and says something else" % name
     return text, None
 
@@ -73,11 +76,12 @@ class File:
         self.kind, self.data, self.size, self.text, self.bytes_shown = kind, data, size, text, bytes_shown
 
     def verdict(self):
-        """The counts of a file that is in order, in words, and the refusal; one of them is None."""
+        """The counts of a file that is in order, and the start that it records, in words; and the refusal. One of them is None."""
         try:
             if self.kind == "grammar":
-                stages, rules = read_stages_and_rules(self.data)
-                return count(stages, "stage") + ", " + count(len(rules), "rule"), None
+                grammar = read_grammar(self.data)
+                start = "" if grammar.recorded is None else ", start %d" % grammar.start
+                return count(grammar.stages, "stage") + start + ", " + count(len(grammar.rules), "rule"), None
             return count(len(read_history(self.data)), "token"), None
         except Refused as refused:
             return None, refused
@@ -106,8 +110,8 @@ class File:
         """The bytes at fault and the line."""
         if self.bytes_shown:
             yield self.bytes(refused.at, refused.end)
-            if self.kind == "grammar" and refused.item is not None and refused.start < refused.at:
-                yield "the rule begins at byte %d: %s" % (refused.start, " ".join(map(str, self.data[refused.start:refused.end])))
+            if self.kind == "grammar" and refused.item is not None and refused.first < refused.at:
+                yield "the rule begins at byte %d: %s" % (refused.first, " ".join(map(str, self.data[refused.first:refused.end])))
         if self.text:
             yield self.text.shown(self.text.line(refused))
 

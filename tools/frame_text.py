@@ -1,12 +1,15 @@
-"""The readable form of a grammar or a history, both ways: text to the numbers of its file, and rules or tokens to text.
+"""The readable form of a grammar or a history, both ways: text to the bytes of its file, and rules or tokens to text.
 
 A '#' starts a comment, and blank lines are skipped. Words are parted by blanks and tabs. Numbers are the digits 0 to 9 alone.
 
-A grammar: a line 'stages N', then one line for each rule. Rules are numbered from 0 in the order of their lines, stage 0 is the start.
+A grammar: a line 'stages N', then 'start N' where the file records its start, then one line for each rule. Rules are numbered from 0 in
+the order of their lines.
     L ->                       L becomes nothing                                  (form 0)
     L -> mark C L1             L becomes mark C, then L1                           (form 1)
     L -> open A L1 close B L2  L becomes open A, L1, close B, then L2              (form 2)
 L, L1, L2 are stage numbers; A, B, C are names, numbers too.
+With a line 'start N' the file has the long form, which begins with a 0. Without one it has the short form, and stage 0 is the start; but
+0 stages, which no file may have, are written in the long form with the start 0, since a file that begins with a 0 is of that form.
 
 A history: 'mark N', 'open N' or 'close N' for each token, any number of them to a line.
 
@@ -14,13 +17,14 @@ A text is UTF-8, with or without a byte order mark, its lines ended by LF or CR 
 here; whether the numbers are in their ranges is told by the reader of frames.py.
 """
 import re
-from typing import List, NamedTuple
+from typing import List, NamedTuple, Optional
 
-from frames import FIELDS, KINDS, MOST, token_words
+from frames import FIELDS, KINDS, MOST, Grammar, grammar_bytes, history_bytes, token_words
 
 # A rule's line, by form; the letters are the fields in file order.
 PATTERNS = [["L", "->"], ["L", "->", "mark", "c", "L1"], ["L", "->", "open", "a", "L1", "close", "b", "L2"]]
 RULE_HELP = "a rule is 'L ->', 'L -> mark C L1' or 'L -> open A L1 close B L2'"
+START_HELP = "the start is told by one line 'start N', directly behind 'stages N'"
 TOKEN_HELP = "a token is 'mark N', 'open N' or 'close N'"
 
 # Characters that a person doesn't see, or sees as the end of a line where none is: they would hide what is read.
@@ -47,14 +51,24 @@ class TokenLine(NamedTuple):
 
 
 class GrammarText(NamedTuple):
-    numbers: List[int]
+    grammar: Grammar
     rules: List[RuleLine]
     stages_line: int
+    start_line: Optional[int]
+
+    def files(self):
+        """The bytes of each file that says the same, that of the text itself first: a start of 0 may stand in the file or not."""
+        stages, rules, _ = self.grammar
+        both = [grammar_bytes(stages, rules), grammar_bytes(stages, rules, 0)]
+        return [grammar_bytes(*self.grammar)] + (both if stages and not self.grammar.start else [])
 
 
 class HistoryText(NamedTuple):
     numbers: List[int]
     tokens: List[TokenLine]
+
+    def files(self):
+        return [history_bytes(self.numbers)]
 
 
 # ---- from text
@@ -109,24 +123,43 @@ def rule_numbers(line, words):
     raise TextFault(line, "no rule: %s; %s" % (quoted(" ".join(words)), RULE_HELP))
 
 
-def parse_grammar(text):
-    """The numbers of a grammar's file, and the line of each rule."""
-    lines = lines_of(text)
-    line, words, _ = next(lines, (1, [], ""))
+def stage_count(line, words):
     if words[:1] != ["stages"] or len(words) != 2:
         raise TextFault(line, "a grammar begins with a line 'stages N'" + ("; here it is %s" % quoted(" ".join(words)) if words else ""))
-    stages, stages_line = number_of(words[1], line, "the stage count"), line
-    numbers, rules = [], []
+    return number_of(words[1], line, "the stage count")
+
+
+def start_stage(line, words, earlier, rules):
+    """The number of a line 'start N'; `earlier` is the line of another one or None, `rules` those before it."""
+    if len(words) != 2:
+        raise TextFault(line, "no start: %s; %s" % (quoted(" ".join(words)), START_HELP))
+    if earlier is not None:
+        raise TextFault(line, "a second start; line %d has the first, and %s" % (earlier, START_HELP))
+    if rules:
+        raise TextFault(line, "a start behind a rule; %s" % START_HELP)
+    return number_of(words[1], line, "the start")
+
+
+def parse_grammar(text):
+    """What a grammar's text says, and the line of each part."""
+    lines = lines_of(text)
+    stages_line, words, _ = next(lines, (1, [], ""))
+    stages, start, start_line = stage_count(stages_line, words), None, None
+    rules, rule_lines = [], []
     for line, words, comment in lines:
+        if words[0] == "start":
+            start, start_line = start_stage(line, words, start_line, rules), line
+            continue
         if len(rules) == MOST:
             raise TextFault(line, "a file can hold no more than %d rules" % MOST)
-        numbers += rule_numbers(line, words)
-        rules.append(RuleLine(line, words, comment))
-    return GrammarText([stages, len(rules)] + numbers, rules, stages_line)
+        rules.append(rule_numbers(line, words))
+        rule_lines.append(RuleLine(line, words, comment))
+    # 0 stages in the short form would be read as the 0 of the long one
+    return GrammarText(Grammar(stages, rules, 0 if stages == 0 and start is None else start), rule_lines, stages_line, start_line)
 
 
 def parse_history(text):
-    """The numbers of a history's file, and the line of each token."""
+    """The numbers of a history's tokens, and the line of each."""
     numbers, tokens = [], []
     for line, words, comment in lines_of(text):
         for at in range(0, len(words), 2):
@@ -139,7 +172,7 @@ def parse_history(text):
                 raise TextFault(line, "a file can hold no more than %d tokens" % MOST)
             numbers.append(4 * number_of(name[0], line, "the %s's name" % kind, MOST // 4) + KINDS.index(kind))
             tokens.append(TokenLine(line, comment))
-    return HistoryText([len(tokens)] + numbers, tokens)
+    return HistoryText(numbers, tokens)
 
 
 PARSE = {"grammar": parse_grammar, "history": parse_history}
@@ -152,8 +185,9 @@ def rule_text(rule):
     return " ".join(str(next(fields)) if word in FIELDS[rule[0]] else word for word in PATTERNS[rule[0]])
 
 
-def grammar_text(stages, rules):
-    lines = ["stages %d" % stages]
+def grammar_text(stages, rules, start=None):
+    """The start is told where the file records it."""
+    lines = ["stages %d" % stages] + ([] if start is None else ["start %d" % start])
     for number, rule in enumerate(rules):
         lines.append(rule_text(rule).ljust(36) + "# rule %d" % number)
     return "\n".join(lines) + "\n"

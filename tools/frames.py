@@ -1,11 +1,15 @@
 """The two files, both ways: numbers, grammars and histories to bytes, and bytes back or the number of the refusal.
 
-Every script of tools/ that writes or reads a grammar or a history does it by this module, which is written from document 01
-alone. A rule is a list of numbers, its form and then its fields in file order; a token is its number, 4 x name + kind.
+Every script of tools/ that writes or reads a grammar or a history does it by this module, which is written from documents 01
+and 02 alone. A rule is a list of numbers, its form and then its fields in file order; a token is its number, 4 x name + kind.
 """
+from typing import List, NamedTuple, Optional
 
-# Document 01's grammar G: each of its steps has two readings.
+# Document 01's grammar G: each of its steps has two readings. It has the short beginning.
 G = bytes([3, 7, 0, 0, 2, 0, 0, 1, 0, 0, 2, 0, 0, 2, 0, 0, 1, 1, 0, 1, 0, 1, 1, 2, 0, 2, 0, 2])
+
+# G with its stages 0 and 1 exchanged, so that stage 1 is the start: the same readings by the same rule numbers.
+EXCHANGED = bytes([0, 3, 1, 7, 0, 1, 2, 1, 0, 0, 0, 1, 2, 1, 0, 2, 0, 1, 1, 0, 0, 0, 0, 0, 1, 2, 0, 2, 0, 2])
 
 # Tokens of name 0, as lists, so that they can be repeated and joined.
 MARK, OPEN, CLOSE = [0], [1], [2]
@@ -25,6 +29,21 @@ NAMES = ["c", "a", "b"]
 MOST = (1 << 14) - 1
 
 
+class Grammar(NamedTuple):
+    """What a grammar file says, in the order of grammar_bytes, so that grammar_bytes(*grammar) is the file again.
+
+    `recorded` is the start stage as the long beginning has it: 0, stage count, start, rule count. It is None where the file has the short
+    one, stage count and rule count; there stage 0 is the start.
+    """
+    stages: int
+    rules: List[List[int]]
+    recorded: Optional[int] = None
+
+    @property
+    def start(self):
+        return 0 if self.recorded is None else self.recorded
+
+
 def token_words(token):
     """A token as its kind and its name, for a number that is one."""
     return "%s %d" % (KINDS[token % 4], token // 4)
@@ -35,10 +54,11 @@ class Refused(Exception):
 
     number    that number
     at, end   the bytes at fault: from `at` on and before `end`; all that is there of a number which the end of the file cuts off (1)
-    item      the number of the rule or token, from 0; None at the counts and behind the last one
-    start     the byte where that rule or token begins
+    item      the number of the rule or token, from 0; None before the first one and behind the last
+    first     the byte where that rule or token begins
     form      the rule's form, once it is read
-    field     "stage count", "rule count", "token count", "form", "token" or a letter of FIELDS; None where no single number is at fault
+    field     "stage count", "start", "rule count", "token count", "form", "token" or a letter of FIELDS; None where no single number is
+              at fault
     value     the number found
     allowed   the least and the largest number that would do
     due       how many rules or tokens the file says it has, once that is read
@@ -49,7 +69,7 @@ class Refused(Exception):
     def __init__(self, number, at, end, place, field=None, value=None, allowed=None, others=()):
         super().__init__(number)
         self.number, self.at, self.end = number, at, end
-        self.item, self.start, self.form, self.due = place
+        self.item, self.first, self.form, self.due = place
         self.field, self.value, self.allowed, self.others = field, value, allowed, list(others)
 
 
@@ -65,8 +85,10 @@ def numbers_bytes(numbers):
     return b"".join(map(number_bytes, numbers))
 
 
-def grammar_bytes(stages, rules):
-    return numbers_bytes([stages, len(rules)] + [n for rule in rules for n in rule])
+def grammar_bytes(stages, rules, start=None):
+    """With a start the long form, as a writer writes it; without one the short form, whose start is stage 0."""
+    beginning = [stages, len(rules)] if start is None else [0, stages, start, len(rules)]
+    return numbers_bytes(beginning + [n for rule in rules for n in rule])
 
 
 def history_bytes(tokens):
@@ -82,14 +104,14 @@ class Reader:
 
     def __init__(self, data, lax=False):
         self.data, self.lax, self.at = data, lax, 0
-        self.item = self.start = self.form = self.due = None
+        self.item = self.first = self.form = self.due = None
 
     def begin(self, item):
-        self.item, self.start, self.form = item, self.at, None
+        self.item, self.first, self.form = item, self.at, None
 
     def refuse(self, number, at, must=False, **more):
         if must or not self.lax:
-            raise Refused(number, at, self.at, (self.item, self.start, self.form, self.due), **more)
+            raise Refused(number, at, self.at, (self.item, self.first, self.form, self.due), **more)
 
     def number(self, field):
         """A number below 128 is its own byte; a byte from 128 on is the low group, and a byte from 1 to 127 follows it."""
@@ -112,7 +134,7 @@ class Reader:
 
     def end(self):
         """Nothing follows."""
-        self.item = self.start = self.form = None
+        self.item = self.first = self.form = None
         if self.at < len(self.data):
             at, self.at = self.at, len(self.data)
             self.refuse(9, at, must=True)
@@ -127,27 +149,33 @@ def read_rule(reader, stages, before):
     return rule
 
 
-def read_stages_and_rules(data, lax=False):
-    """A grammar file's stage count and its rules."""
-    reader = Reader(data, lax)
+def read_beginning(reader):
+    """What stands before the rules: the stage count, and the start where it is recorded. The reader keeps the rule count."""
+    # a 0 in the shortest form is this byte, and no other number begins with it
+    recorded = reader.data[:1] == b"\x00"
+    if recorded:
+        reader.number("leading 0")
     stages = reader.within("stage count", 1, 32, 3)
+    start = reader.within("start", 0, stages - 1, 6) if recorded else None
     reader.due = reader.within("rule count", 1, 128, 4)
+    return stages, start
+
+
+def read_grammar(data, lax=False):
+    """A grammar file, of either beginning."""
+    reader = Reader(data, lax)
+    stages, start = read_beginning(reader)
     rules, places, before = [], {}, []
     for item in range(reader.due):
         reader.begin(item)
         rule = read_rule(reader, stages, before)
-        before = [(item, reader.start)]
+        before = [(item, reader.first)]
         earlier = places.setdefault(tuple(rule), before[0])
         if earlier != before[0]:
-            reader.refuse(8, reader.start, others=[earlier])
+            reader.refuse(8, reader.first, others=[earlier])
         rules.append(rule)
     reader.end()
-    return stages, rules
-
-
-def read_grammar(data):
-    """A grammar file's rules."""
-    return read_stages_and_rules(data)[1]
+    return Grammar(stages, rules, start)
 
 
 def read_history(data, lax=False):
@@ -158,7 +186,7 @@ def read_history(data, lax=False):
     for item in range(reader.due):
         reader.begin(item)
         t = reader.within("token", 0, 255, 11)
-        at = reader.start
+        at = reader.first
         if t % 4 == 3:
             reader.refuse(11, at, must=True, field="token", value=t, allowed=(0, 255))
         if t % 4 == 1:

@@ -1,23 +1,43 @@
 #!/usr/bin/env python3
 """Writes crates/test_checks/data/cases.bin and crates/test_checks/stdout: files for both checks, and the answer due for each.
 
-Run from the repository's root. Every answer here is written out by hand from document 01; no part of the library is run.
-A case: what it is, the file's bytes, the answer.
+Run from the repository's root. Every answer here is written out by hand from documents 01 and 02, but those of the small files, which the
+judges find; these are held to all the others. No part of the library is run. A case: what it is, the file's bytes, the answer.
 """
+import itertools
 import os
+import sys
 
-from frames import CLOSE, G, OPEN
+import judges
+from frames import CLOSE, EXCHANGED, G, OPEN
 
 GRAMMAR, HISTORY = 0, 1
 CASES = []
 
 
+def judged(kind, file):
+    """The answer, by the judges."""
+    try:
+        if kind == HISTORY:
+            return "accepted %d" % len(judges.judge_history(judges.Bytes(file)))
+        stages, _, rules = judges.judge_grammar(judges.Bytes(file))
+        return "accepted %d %d" % (stages, len(rules))
+    except judges.Refused as e:
+        return "refused %d" % e.args[0]
+
+
+def case(kind, label, file, answer):
+    if judged(kind, file) != answer:
+        sys.exit("make_check_cases: %s: %s, and by the judges %s" % (label, answer, judged(kind, file)))
+    CASES.append((kind, label, bytes(file), answer))
+
+
 def grammar(label, file, answer):
-    CASES.append((GRAMMAR, "grammar, " + label, bytes(file), answer))
+    case(GRAMMAR, "grammar, " + label, file, answer)
 
 
 def history(label, file, answer):
-    CASES.append((HISTORY, "history, " + label, bytes(file), answer))
+    case(HISTORY, "history, " + label, file, answer)
 
 
 # Shorthands for long files.
@@ -26,9 +46,9 @@ def marks(n):
     return [byte for k in range(n) for byte in (1, k // 64, k % 64, 0)]
 
 
-def steps(n):
+def steps(n, stage=0):
     """n form 2 rules that differ in the close name, then in the open name."""
-    return [byte for k in range(n) for byte in (2, 0, k // 64, 0, k % 64, 0)]
+    return [byte for k in range(n) for byte in (2, stage, k // 64, stage, k % 64, stage)]
 
 
 # ---- document 01's own examples
@@ -107,7 +127,6 @@ grammar("form 2, L2 128 0", [1, 1, 2, 0, 0, 0, 0, 128, 0], "refused 2")
 grammar("form 2, L2 255 128", [1, 1, 2, 0, 0, 0, 0, 255, 128], "refused 2")
 
 # ---- grammar, 3: stage count not 1 to 32
-grammar("0 stages", [0, 1, 0, 0], "refused 3")
 grammar("1 stage", [1, 1, 0, 0], "accepted 1 1")
 grammar("32 stages", [32, 1, 0, 31], "accepted 32 1")
 grammar("33 stages", [33, 1, 0, 0], "refused 3")
@@ -196,7 +215,7 @@ grammar("2 before 6", [1, 1, 0, 129, 0], "refused 2")
 grammar("1 before 6", [1, 1, 0, 255], "refused 1")
 grammar("2 before 7", [1, 1, 1, 0, 192, 0, 0], "refused 2")
 grammar("1 before 7", [1, 1, 1, 0, 255], "refused 1")
-grammar("3 before 4", [0, 0], "refused 3")
+grammar("3 before 4", [33, 0], "refused 3")
 grammar("3 before a missing rule count", [33], "refused 3")
 grammar("4 before a missing rule", [1, 129, 1], "refused 4")
 grammar("4 before a fault of a rule", [1, 0, 3], "refused 4")
@@ -218,6 +237,120 @@ grammar("8 before a missing rule", [1, 3, 0, 0, 0, 0], "refused 8")
 grammar("a fault of a rule before a later 8", [1, 3, 0, 0, 3, 0, 0, 0], "refused 5")
 grammar("8 before 9", [1, 2, 0, 0, 0, 0, 7], "refused 8")
 grammar("7 before 9", [1, 1, 1, 0, 64, 0, 7], "refused 7")
+
+# ---- grammar with a start, document 02's 2.3: the 0, stage count (3), start (6), rule count (4)
+R = list(G[2:])
+grammar("G with its start", [0, 3, 0, 7] + R, "accepted 3 7")
+grammar("G with start 1", [0, 3, 1, 7] + R, "accepted 3 7")
+grammar("G with start 2", [0, 3, 2, 7] + R, "accepted 3 7")
+grammar("G with stages 0 and 1 exchanged", EXCHANGED, "accepted 3 7")
+grammar("the same without its start", EXCHANGED[1:2] + EXCHANGED[3:], "accepted 3 7")
+grammar("0", [0], "refused 1")
+grammar("0 0", [0, 0], "refused 3")
+grammar("0 0 0 0", [0, 0, 0, 0], "refused 3")
+grammar("0 1", [0, 1], "refused 1")
+grammar("0 1 0", [0, 1, 0], "refused 1")
+grammar("0 1 0 0", [0, 1, 0, 0], "refused 4")
+grammar("0 1 1", [0, 1, 1], "refused 6")
+grammar("0 33", [0, 33], "refused 3")
+grammar("0 128 0", [0, 128, 0], "refused 2")
+
+# ---- grammar with a start, each number of the head: cut off, in two bytes, out of range
+grammar("0, ends inside the stage count", [0, 131], "refused 1")
+grammar("0, ends before the start", [0, 3], "refused 1")
+grammar("0, ends inside the start", [0, 3, 129], "refused 1")
+grammar("0, ends before the rule count", [0, 3, 1], "refused 1")
+grammar("0, ends inside the rule count", [0, 3, 1, 129], "refused 1")
+grammar("0, ends before a form", [0, 3, 1, 1], "refused 1")
+grammar("the 0 in two bytes", [128, 0, 3, 1, 1, 0, 0], "refused 2")
+grammar("the 0 as 128 128", [128, 128, 3, 1, 1, 0, 0], "refused 2")
+grammar("0, stage count 3 in two bytes", [0, 131, 0, 1, 1, 0, 0], "refused 2")
+grammar("0, stage count 128 128", [0, 128, 128], "refused 2")
+grammar("0, stage count 255 255", [0, 255, 255], "refused 2")
+grammar("0, start 0 in two bytes", [0, 3, 128, 0, 1, 0, 0], "refused 2")
+grammar("0, start 1 in two bytes", [0, 3, 129, 0, 1, 0, 0], "refused 2")
+grammar("0, start 128 128", [0, 3, 128, 128, 1, 0, 0], "refused 2")
+grammar("0, rule count 1 in two bytes", [0, 3, 1, 129, 0, 0, 0], "refused 2")
+grammar("0, rule count 128 0", [0, 3, 1, 128, 0], "refused 2")
+grammar("0, rule count 128 128", [0, 3, 1, 128, 128], "refused 2")
+grammar("0, 0 stages", [0, 0, 0, 1, 0, 0], "refused 3")
+grammar("0, 33 stages", [0, 33, 0, 1, 0, 0], "refused 3")
+grammar("0, 127 stages", [0, 127, 0, 1, 0, 0], "refused 3")
+grammar("0, 128 stages", [0, 128, 1, 0, 1, 0, 0], "refused 3")
+grammar("0, 16,383 stages", [0, 255, 127, 0, 1, 0, 0], "refused 3")
+grammar("0, start 0 of 1", [0, 1, 0, 1, 0, 0], "accepted 1 1")
+grammar("0, start 1 of 1", [0, 1, 1, 1, 0, 0], "refused 6")
+grammar("0, start 1 of 2", [0, 2, 1, 1, 0, 0], "accepted 2 1")
+grammar("0, start 2 of 2", [0, 2, 2, 1, 0, 0], "refused 6")
+grammar("0, start 0 of 32", [0, 32, 0, 1, 0, 31], "accepted 32 1")
+grammar("0, start 31 of 32", [0, 32, 31, 1, 0, 0], "accepted 32 1")
+grammar("0, start 32 of 32", [0, 32, 32, 1, 0, 0], "refused 6")
+grammar("0, start 31 of 31", [0, 31, 31, 1, 0, 0], "refused 6")
+grammar("0, start 127 of 32", [0, 32, 127, 1, 0, 0], "refused 6")
+grammar("0, start 128 of 32", [0, 32, 128, 1, 1, 0, 0], "refused 6")
+grammar("0, start 256 of 32", [0, 32, 128, 2, 1, 0, 0], "refused 6")
+grammar("0, start 16,383 of 32", [0, 32, 255, 127, 1, 0, 0], "refused 6")
+grammar("0, 0 rules", [0, 32, 31, 0, 0, 0], "refused 4")
+grammar("0, 129 rules", [0, 3, 2, 129, 1] + marks(129), "refused 4")
+grammar("0, 16,383 rules", [0, 3, 2, 255, 127] + marks(1), "refused 4")
+
+# ---- grammar with a start, the order: each number judged before the next is read; numbers that are not there or stand in each other's place
+grammar("0, 1 before 3", [0, 161], "refused 1")
+grammar("0, 2 before 3", [0, 161, 0, 0, 1, 0, 0], "refused 2")
+grammar("0, 3 before 6", [0, 33, 33, 1, 0, 0], "refused 3")
+grammar("0, 3 before 4: 0 0 0 0 and more", [0, 0, 0, 0, 0, 0], "refused 3")
+grammar("0, 3 before a missing start", [0, 127], "refused 3")
+grammar("0, 3 before a start in two bytes", [0, 33, 128, 0, 1, 0, 0], "refused 3")
+grammar("0, 1 before 6", [0, 1, 255], "refused 1")
+grammar("0, 2 before 6", [0, 1, 129, 0, 1, 0, 0], "refused 2")
+grammar("0, 6 before a missing rule count", [0, 3, 3], "refused 6")
+grammar("0, 6 before a rule count cut off", [0, 3, 3, 128], "refused 6")
+grammar("0, 6 before a rule count in two bytes", [0, 3, 3, 128, 0], "refused 6")
+grammar("0, 6 before 4", [0, 1, 1, 0], "refused 6")
+grammar("0, 6 before a fault of a rule", [0, 1, 1, 1, 3], "refused 6")
+grammar("0, 1 before 4", [0, 1, 0, 255], "refused 1")
+grammar("0, 2 before 4", [0, 1, 0, 128, 0, 0, 0], "refused 2")
+grammar("0, 4 before a missing rule", [0, 1, 0, 129, 1], "refused 4")
+grammar("0, 4 before 5", [0, 1, 0, 0, 3], "refused 4")
+grammar("0, a rule before 9", [0, 1, 0, 1, 0, 0, 0], "refused 9")
+grammar("a 0 before G", bytes([0]) + G, "refused 6")
+grammar("a 0 before 8 stages and 7 rules", [0, 8, 7] + R, "refused 4")
+grammar("two zeros before G with its start", [0, 0, 3, 0, 7] + R, "refused 3")
+grammar("start before stage count", [0, 1, 3, 7] + R, "refused 6")
+grammar("rule count before start", [0, 3, 7, 1] + R, "refused 6")
+
+# ---- grammar with a start, the longest file
+grammar("0, 128 rules of the longest form", [0, 1, 0, 128, 1] + steps(128), "accepted 1 128")
+grammar("0, 773 bytes, the last stage the start", [0, 32, 31, 128, 1] + steps(128, 31), "accepted 32 128")
+grammar("0, 773 bytes and a byte", [0, 32, 31, 128, 1] + steps(128, 31) + [0], "refused 9")
+grammar("0, 773 bytes but the last", [0, 32, 31, 128, 1] + steps(128, 31)[:-1], "refused 1")
+
+
+# ---- grammars of both beginnings
+def others(files):
+    """Those that are no case yet, each as its label, its bytes and its answer."""
+    there = {file for _, _, file, _ in CASES}
+    return [(label, file, answer) for label, file, answer in files if bytes(file) not in there]
+
+
+def with_starts():
+    """Every file above whose stage count passes, with its last stage as start: the answer stays."""
+    for kind, label, file, answer in CASES:
+        if kind == GRAMMAR and file[:1] and 1 <= file[0] <= 32:
+            yield "start %d, %s" % (file[0] - 1, label[len("grammar, "):]), bytes([0, file[0], file[0] - 1]) + file[1:], answer
+
+
+def small_grammars():
+    """Every file of up to four bytes that are 0, 1, 2 or 128; and of five or six, a 0 and then 0, 1 or 2."""
+    files = [file for n in range(1, 5) for file in itertools.product([0, 1, 2, 128], repeat=n)]
+    files += [(0,) + rest for n in (4, 5) for rest in itertools.product([0, 1, 2], repeat=n)]
+    for file in files:
+        yield "bytes " + " ".join(map(str, file)), file, judged(GRAMMAR, file)
+
+
+for more in (with_starts, small_grammars):
+    for label, file, answer in others(more()):
+        grammar(label, file, answer)
 
 # ---- history, 1 and 2
 history("no byte", [], "refused 1")

@@ -2,25 +2,26 @@
 """Writes crates/test_listings/data/cases.bin and crates/test_listings/stdout: pairs of files, and the listing due for each.
 
 Run from the repository's root, when the cases change. A case in cases.bin is four bytes (the grammar's length and the
-history's, low byte first), then both files. random.bin beside it has 1,500 more in the same form, drawn once; this tool
-only lists them. No part of the library is run: the checks (frames.py) and the search below are written from document 01
-alone, and the search tries every rule at every token, with no table of what can follow.
+history's, low byte first), then both files. random.bin beside it has 1,500 more in the same form, drawn once, every other
+one of them with its stages in another order and its start recorded; this tool only lists them. No part of the library is
+run: the checks (frames.py) and the search below are written from documents 01 and 02 alone, and the search tries every rule
+at every token, with no table of what can follow.
 """
 import itertools
 import os
 import sys
 
-from frames import CLOSE, G, MARK, OPEN, Refused, grammar_bytes, history_bytes, read_grammar, read_history
+from frames import CLOSE, EXCHANGED, G, MARK, OPEN, Refused, grammar_bytes, history_bytes, read_grammar, read_history
 
 
 # ---- readings: from a stage at a position, what is still due being a chain of (close name, stage after it)
-def readings(rules, tokens):
-    """Every reading in order, as a generator."""
+def readings(grammar, tokens):
+    """Every reading in order, as a generator: from the grammar's start, and nothing due behind it."""
     n = len(tokens)
     dead = set()  # (position, stage, chain) from which no reading goes on
 
     def moves(p, stage, due):
-        for r, rule in enumerate(rules):
+        for r, rule in enumerate(grammar.rules):
             if rule[1] != stage:
                 continue
             if rule[0] == 0:
@@ -36,7 +37,7 @@ def readings(rules, tokens):
                     yield r, (p + 1, rule[3], (rule[4], rule[5], due))
 
     # depth-first, smaller rule numbers first; a stack of iterators, so that length is no matter
-    path, stack, found = [], [(None, moves(0, 0, None), [False])], []
+    path, stack, found = [], [(None, moves(0, grammar.start, None), [False])], []
     while stack:
         key, it, any_found = stack[-1]
         step = next(it, None)
@@ -64,7 +65,7 @@ def doubtful(every):
 
 def listing(grammar, history):
     try:
-        rules = read_grammar(grammar)
+        read = read_grammar(grammar)
     except Refused as e:
         return "refused grammar %d\n" % e.args[0]
     try:
@@ -72,7 +73,7 @@ def listing(grammar, history):
     except Refused as e:
         return "refused history %d\n" % e.args[0]
     out = ["tokens %d" % len(tokens)]
-    every = list(itertools.islice(readings(rules, tokens), 200000))
+    every = list(itertools.islice(readings(read, tokens), 200000))
     if len(every) == 200000:
         sys.exit("make_listings: too many readings to count")
     if not every:
@@ -116,11 +117,33 @@ def of_document_01():
     case(grammar_bytes(1, [[0, 0], [2, 0, 0, 0, 0, 0]]), history_bytes((OPEN + CLOSE) * 512))
 
 
+def recorded_starts():
+    # G's histories by the same grammar with two stages exchanged, and by its rules from stages that are not its start
+    rules = list(G[1:])
+    exchanged = EXCHANGED[1:2] + EXCHANGED[3:]
+    for h in [[0], [2, 1, 2], [3, 1, 0, 2], [4, 1, 2, 1, 2], [1, 0], [2, 0, 0], [1, 1]]:
+        if listing(EXCHANGED, bytes(h)) != listing(G, bytes(h)):
+            sys.exit("make_listings: %s: another listing with stages 0 and 1 exchanged" % h)
+        for g in [EXCHANGED, exchanged, [0, 3, 0] + rules, [0, 3, 1] + rules, [0, 3, 2] + rules]:
+            case(g, h)
+    # every stage of 32 as the start: stage k ends by rule k
+    ends = [[0, k] for k in range(32)]
+    for start in range(32):
+        case(grammar_bytes(32, ends, start), [0])
+    # 773 bytes, with no rule that ends a stage; and all but the last of them
+    longest = grammar_bytes(32, [[2, 31, k // 64, 31, k % 64, 31] for k in range(128)], 31)
+    case(longest, history_bytes(OPEN + CLOSE))
+    case(longest[:-1], history_bytes(OPEN + CLOSE))
+
+
 def refusals():
     fine = [1]
     for g in [[], [128], [0], [33, 1], [1], [1, 0], [1, 129, 1], [1, 1], [1, 1, 3], [1, 1, 0, 1], [1, 1, 1, 0, 64, 0], [1, 1, 2, 0, 64], [1, 1, 2, 0, 0, 0, 64, 0], [1, 1, 0, 128, 0], [1, 1, 0, 0, 0], [2, 3, 0, 0, 0, 1, 0, 0]]:
         case(g, fine)
         case(g, [0])
+    # the head of a grammar with its start
+    for g in [[0, 0], [0, 0, 0, 0], [128, 0], [0, 1, 1], [0, 1], [0, 33], [0, 128, 0], [0, 1, 0, 0], [0, 1, 0], [0, 3, 129, 0, 1, 0, 0], [0, 3, 3, 0], [0, 2, 1, 1], [0, 2, 1, 1, 0, 2], [0] + list(G), [0, 2, 1, 1, 0, 1, 0]]:
+        case(g, fine)
     for h in [[], [128], [128, 128], [129, 8], [1], [1, 128, 2], [1, 255, 1], [1, 3], [1, 7], [1, 2], [1, 1], [0, 0], [2, 1, 2, 0], [3, 1, 2, 2]]:
         case(G, h)
     case(G, history_bytes(OPEN * 129 + CLOSE * 129))
@@ -149,8 +172,8 @@ def many_readings():
     # a choice at the very end of a long history
     end = grammar_bytes(3, [[0, 0], [1, 0, 0, 0], [1, 0, 1, 1], [1, 0, 1, 2], [0, 1], [0, 2]])
     case(end, history_bytes(MARK * 1023 + [4]))
-    # a choice in the innermost of 128 steps
-    deep = grammar_bytes(3, [[0, 0], [2, 0, 0, 0, 0, 0], [1, 0, 0, 1], [1, 0, 0, 2], [0, 1], [0, 2]])
+    # a choice in the innermost of 128 steps, by a start that is the last stage
+    deep = grammar_bytes(3, [[0, 2], [2, 2, 0, 2, 0, 2], [1, 2, 0, 1], [1, 2, 0, 0], [0, 1], [0, 0]], 2)
     case(deep, history_bytes(OPEN * 128 + MARK + CLOSE * 128))
 
 
@@ -165,6 +188,7 @@ def written(name):
 if __name__ == "__main__":
     samples()
     of_document_01()
+    recorded_starts()
     refusals()
     many_readings()
     with open("crates/test_listings/data/cases.bin", "wb") as f:

@@ -16,17 +16,19 @@ from make_listings import listing
 PIECE = 1 << 20
 
 
-def frame(before):
-    """Ten steps with two readings each and as many marks as there is room for; `before` rules that nothing uses stand before the others."""
+def frame(before, start):
+    """Ten steps with two readings each and as many marks as there is room for; `before` rules that nothing uses stand before the others.
+    Without a start the grammar doesn't say it, and it is stage 0."""
     unused = [(1, 3, k % 64, 3 + k // 64) for k in range(before)]
-    used = [(0, 0), (1, 0, 0, 0), (2, 0, 0, 1, 0, 0), (2, 0, 0, 2, 0, 0), (0, 1), (0, 2)]
+    s = start or 0
+    used = [(0, s), (1, s, 0, s), (2, s, 0, 1, 0, s), (2, s, 0, 2, 0, s), (0, 1), (0, 2)]
     tokens = (OPEN + CLOSE) * 10 + MARK * 1004
-    return grammar_bytes(8, unused + used), history_bytes(tokens)
+    return grammar_bytes(8, unused + used, start), history_bytes(tokens)
 
 
 def main(folder):
-    for name, before, pieces in [("two_pieces", 0, 2), ("four_pieces", 110, 4)]:
-        grammar, history = frame(before)
+    for name, before, start, pieces in [("two_pieces", 0, None, 2), ("four_pieces", 110, 7, 4)]:
+        grammar, history = frame(before, start)
         text = listing(grammar, history)
         if not (pieces - 1) * PIECE < len(text) < pieces * PIECE:
             sys.exit("make_long_frames: the listing of %s has %d bytes" % (name, len(text)))

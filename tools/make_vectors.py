@@ -1,14 +1,14 @@
 #!/usr/bin/env python3
 """Writes crates/test_vectors/data/cases.bin and crates/test_vectors/stdout: cases for the services, and the line due for each.
 
-Run from the repository's root, when the cases change. The readings of document 01's examples are written out by hand; those of
-the others are found by the search of make_listings.py. No part of the library is run.
+Run from the repository's root, when the cases change. The readings of document 01's examples, and of those with a recorded start, are
+written out by hand; those of the others are found by the search of make_listings.py. No part of the library is run.
 """
 import itertools
 import random
 import sys
 
-from frames import CLOSE, G, MARK, OPEN, Refused, grammar_bytes, history_bytes, read_grammar, read_history
+from frames import CLOSE, EXCHANGED, G, MARK, OPEN, Refused, grammar_bytes, history_bytes, read_grammar, read_history
 from make_listings import readings
 
 SHOW, MARKS = 1, 2
@@ -53,11 +53,11 @@ def plain_listing(entries, size, buffer, calls):
 
 
 def passed(label, g, h, what=MARKS, limit=ALL, buffer=(), calls=(), due=None):
-    """due: the readings and the marks as document 01 has them."""
-    rules, tokens = read_grammar(bytes(g)), read_history(bytes(h))
+    """due: the readings and the marks as they are written out by hand, or as another form of the grammar has them."""
+    grammar, tokens = read_grammar(bytes(g)), read_history(bytes(h))
     size = len(tokens) + 1
     room = limit // size
-    found = list(itertools.islice(readings(rules, tokens), room + 1))
+    found = list(itertools.islice(readings(grammar, tokens), room + 1))
     whole, entries = len(found) <= room, found[:room]
     put(0, what, limit, label, g, h, buffer, calls)
     line = "%s: readings %d%s; list same; short buffers same; short answers same;" % (label, len(entries), "" if whole else " and more")
@@ -65,35 +65,41 @@ def passed(label, g, h, what=MARKS, limit=ALL, buffer=(), calls=(), due=None):
     line += " sets same; doubtful count same; calls same;" if whole else ""
     DUE.append(line)
     if what & SHOW:
-        marks = [int(any(True for _ in readings(rules, tokens[:i]))) for i in range(size)]
+        marks = [int(any(True for _ in readings(grammar, tokens[:i]))) for i in range(size)]
         if due is not None and due != (entries, marks):
-            sys.exit("make_vectors: %s: %s, not as document 01 has it" % (label, (entries, marks)))
+            sys.exit("make_vectors: %s: %s, not %s" % (label, (entries, marks), due))
         DUE.extend("  reading " + words(entry) for entry in entries)
         DUE.append("  marks " + words(marks))
         DUE.append("  answers" + "".join(" %d" % a for a in plain_listing(entries, size, buffer, calls)))
 
 
-def of_document_01():
-    def shown(h, entries, marks, buffer, calls):
-        label = "G, " + words(h)
-        if calls:
-            label += "; %s on %s" % (" ".join("first next".split()[kind > 0] for kind in calls), words(buffer))
-        passed(label, G, h, SHOW | MARKS, ALL, buffer, calls, (entries, marks))
+def shown(name, g, h, entries, marks, buffer, calls):
+    label = name + ", " + words(h)
+    if calls:
+        label += "; %s on %s" % (" ".join("first next".split()[kind > 0] for kind in calls), words(buffer))
+    passed(label, g, h, SHOW | MARKS, ALL, buffer, calls, (entries, marks))
 
-    shown([0], [[0]], [1], [9], [0, 1])
-    two_of_3 = [[1, 3, 4, 0], [2, 5, 6, 0]]
-    shown([3, 1, 0, 2], two_of_3, [1, 0, 0, 1], [9] * 4, [0, 1, 1])
-    shown([3, 1, 0, 2], two_of_3, [1, 0, 0, 1], [1, 5, 4, 0], [1])  # no reading combines the sets freely
-    shown([2, 1, 2], [[1, 4, 0], [2, 6, 0]], [1, 0, 1], [9] * 5, [0, 1, 1])
-    four = [[1, 4, 1, 4, 0], [1, 4, 2, 6, 0], [2, 6, 1, 4, 0], [2, 6, 2, 6, 0]]
-    marks = [1, 0, 1, 0, 1]
-    shown([4, 1, 2, 1, 2], four, marks, [9] * 5, [0, 1, 1, 1, 1, 0])
-    shown([4, 1, 2, 1, 2], four, marks, [2, 6, 2, 6, 0], [1, 1])
-    shown([4, 1, 2, 1, 2], four, marks, [1, 4, 1, 4, 1], [1, 0, 1])
-    shown([4, 1, 2, 1, 2], four, marks, [2, 6, 2, 6], [1, 0])
-    shown([1, 0], [], [1, 0], [9] * 3, [0, 1])
-    for h, due in [([1, 2], 12), ([1, 1], 13), ([1, 3], 11), ([128], 1), ([128, 0], 2)]:
-        refused("G, %s: %d" % (words(h), due), G, h, due)
+
+def of_document_01():
+    # G, G with its start written out, and G with two stages exchanged have the same readings
+    for name, g in [("G", G), ("G with its start", [0, 3, 0] + list(G[1:])), ("G exchanged", EXCHANGED)]:
+        shown(name, g, [0], [[0]], [1], [9], [0, 1])
+        two_of_3 = [[1, 3, 4, 0], [2, 5, 6, 0]]
+        shown(name, g, [3, 1, 0, 2], two_of_3, [1, 0, 0, 1], [9] * 4, [0, 1, 1])
+        shown(name, g, [3, 1, 0, 2], two_of_3, [1, 0, 0, 1], [1, 5, 4, 0], [1])  # no reading combines the sets freely
+        shown(name, g, [2, 1, 2], [[1, 4, 0], [2, 6, 0]], [1, 0, 1], [9] * 5, [0, 1, 1])
+        four = [[1, 4, 1, 4, 0], [1, 4, 2, 6, 0], [2, 6, 1, 4, 0], [2, 6, 2, 6, 0]]
+        marks = [1, 0, 1, 0, 1]
+        shown(name, g, [4, 1, 2, 1, 2], four, marks, [9] * 5, [0, 1, 1, 1, 1, 0])
+        shown(name, g, [4, 1, 2, 1, 2], four, marks, [2, 6, 2, 6, 0], [1, 1])
+        shown(name, g, [4, 1, 2, 1, 2], four, marks, [1, 4, 1, 4, 1], [1, 0, 1])
+        shown(name, g, [4, 1, 2, 1, 2], four, marks, [2, 6, 2, 6], [1, 0])
+        shown(name, g, [1, 0], [], [1, 0], [9] * 3, [0, 1])
+        for h, due in [([1, 2], 12), ([1, 1], 13), ([1, 3], 11), ([128], 1), ([128, 0], 2)]:
+            refused("%s, %s: %d" % (name, words(h), due), g, h, due)
+
+
+def limits_of_document_01():
     refused("grammar 1 2 0 0 0 0: 8", [1, 2, 0, 0, 0, 0], [0], 8)
     refused("grammar 1 0: 4", [1, 0], [0], 4)
     passed("grammar 1 1 1 0 0 0, 0", [1, 1, 1, 0, 0, 0], [0], SHOW | MARKS, ALL, [9], [0, 1], ([], [0]))
@@ -103,6 +109,49 @@ def of_document_01():
     passed("128 nested steps", grammar_bytes(1, [[0, 0], [2, 0, 0, 0, 0, 0]]), history_bytes(OPEN * 128 + CLOSE * 128), MARKS, ALL, [0] * 300, [1, 0, 1])
     refused("129 nested steps: 14", G, history_bytes(OPEN * 129 + CLOSE * 129), 14)
     refused("grammar before history: 4", [1, 0], [1, 3], 4)
+
+
+def recorded_starts():
+    # by another start than its own G reads other histories; so does G with two stages exchanged that doesn't say its start
+    inside = [("G from stage 1", [0, 3, 1] + list(G[1:]), 3, 4), ("G from stage 2", [0, 3, 2] + list(G[1:]), 5, 6)]
+    inside += [("G exchanged without its start", EXCHANGED[1:2] + EXCHANGED[3:], 3, 4)]
+    for name, g, mark, end in inside:
+        shown(name, g, [0], [[end]], [1], [9], [0, 1])
+        shown(name, g, [2, 0, 0], [[mark, mark, end]], [1, 1, 1], [mark, mark, end, 9], [1, 0])
+        shown(name, g, [3, 1, 0, 2], [], [1, 0, 0, 0], [1, 3, 4, 0], [1, 0])
+    # stage k goes on to stage k + 1 by a mark, the last to the first, and stage 7 can end: so every start has its own length
+    circle = [[1, k, 0, (k + 1) % 32] for k in range(32)] + [[0, 7]]
+    for start in range(32):
+        n = (7 - start) % 32
+        g = grammar_bytes(32, circle, start)
+        reading = [(start + i) % 32 for i in range(n)] + [32]
+        passed("a circle of 32 stages, start %d" % start, g, history_bytes(MARK * n), SHOW | MARKS, ALL, reading, [1, 0], ([reading], [0] * n + [1]))
+
+
+def heads():
+    """Faults before the rules, with a history that passes and with one that doesn't."""
+    heads = [([0], 1), ([0, 0], 3), ([0, 0, 0, 0], 3), ([128, 0], 2), ([0, 1, 1], 6), ([0, 1], 1), ([0, 33], 3), ([0, 128, 0], 2), ([0, 1, 0, 0], 4), ([0, 1, 0], 1)]
+    heads += [([0, 131], 1), ([0, 3, 129], 1), ([0, 3, 1, 129], 1), ([0, 3, 1, 1], 1), ([0, 131, 0, 1, 1, 0, 0], 2), ([0, 3, 129, 0, 1, 0, 0], 2)]
+    heads += [([0, 3, 1, 129, 0, 0, 0], 2), ([0, 32, 32, 1, 0, 0], 6), ([0, 3, 128, 1, 1, 0, 0], 6), ([0, 3, 3, 0], 6), ([0, 33, 33, 0], 3), ([0, 3, 2, 129, 1, 0, 0], 4)]
+    heads += [([0] + list(G), 6), ([0, 1, 3] + list(G[1:]), 6), ([0, 0, 3, 0] + list(G[1:]), 3), ([0, 3, 1] + list(G[1:]) + [0], 9)]
+    for g, due in heads:
+        refused("grammar %s: %d" % (words(g), due), g, [0], due)
+        refused("grammar %s, history 1 3: %d" % (words(g), due), g, [1, 3], due)
+
+
+def largest():
+    # 773 bytes: no stage can end, so there is no reading
+    endless = grammar_bytes(32, [[2, 31, k // 64, 31, k % 64, 31] for k in range(128)], 31)
+    passed("128 rules of six numbers, start 31", endless, history_bytes(OPEN + CLOSE), SHOW | MARKS, ALL, [9] * 3, [0, 1], ([], [0, 0, 0]))
+    # as large but for one rule: a step of two names by its own rule, and the start can end
+    ended = [[2, 31, k // 64, 31, k % 64, 31] for k in range(127)] + [[0, 31]]
+    tokens = [1, 4 * 62 + 2, 5, 4 * 61 + 2, 1, 2]
+    reading = [62, 127, 125, 127, 0, 127, 127]
+    passed("127 steps, start 31", grammar_bytes(32, ended, 31), history_bytes(tokens), SHOW | MARKS, ALL, reading, [1, 0], ([reading], [1, 0, 1, 0, 1, 0, 1]))
+    # 31 ways through every step, behind 64 rules that no reading has
+    ways = [[1, 0, k, 0] for k in range(64)] + [[2, 31, 0, k, 0, 31] for k in range(31)] + [[0, 31 - k] for k in range(32)]
+    for start in (31, 0):
+        passed("31 ways through a step, start %d" % start, grammar_bytes(32, ways, start), history_bytes(OPEN + CLOSE), MARKS, ALL, [64, 126, 95], [1, 1, 0])
 
 
 def wrong_turns():
@@ -133,9 +182,10 @@ def many_readings():
 class Draw:
     """A random grammar with few names and nonterminals, so that readings are many, and a history that is likely to have some."""
 
-    def __init__(self, seed):
+    def __init__(self, seed, with_start=False):
         self.r = random.Random(seed)
         self.stages = self.r.randint(1, 4)
+        self.start = self.r.randrange(self.stages) if with_start else None
         self.rules = []
         for _ in range(self.r.randint(2, 11)):
             rule = self.rule()
@@ -184,13 +234,25 @@ class Draw:
         return [self.r.randrange(len(self.rules)) for _ in range(self.r.randrange(size + 4))]
 
 
+    def calls(self):
+        return [self.r.choice([0, 1, 1, 1, 2]) for _ in range(self.r.randrange(30))]
+
+    def renumbered(self):
+        """The same grammar with its stages in another order and the start where stage 0 has come to be."""
+        order = self.r.sample(range(self.stages), self.stages)
+        places = [{1}, {1, 3}, {1, 3, 5}]
+        rules = [[order[n] if i in places[rule[0]] else n for i, n in enumerate(rule)] for rule in self.rules]
+        return grammar_bytes(self.stages, rules, order[0])
+
+
 def drawn(wanted):
+    """Every other one says its start, which may be any stage."""
     seed = made = 0
     while made < wanted:
         seed += 1
-        draw = Draw(seed)
-        h = history_bytes(draw.changed(draw.tokens(0, 12))[:40])
-        g = grammar_bytes(draw.stages, draw.rules)
+        draw = Draw(seed, seed % 2 == 0)
+        h = history_bytes(draw.changed(draw.tokens(draw.start or 0, 12))[:40])
+        g = grammar_bytes(draw.stages, draw.rules, draw.start)
         try:
             tokens = read_history(h)
         except Refused as e:
@@ -201,16 +263,39 @@ def drawn(wanted):
         # of those with none or one reading only some, so that most have several
         if len(entries) > 1000 or len(entries) < 2 and draw.r.random() < 0.8:
             continue
-        calls = [draw.r.choice([0, 1, 1, 1, 2]) for _ in range(draw.r.randrange(30))]
-        passed("drawn %d" % seed, g, h, MARKS, ALL, draw.buffer(entries, len(tokens) + 1), calls)
+        passed("drawn %d" % seed, g, h, MARKS, ALL, draw.buffer(entries, len(tokens) + 1), draw.calls())
         made += 1
+
+
+def drawn_thrice(wanted):
+    """A grammar that doesn't say its start, the same with its start, 0, and with its stages in another order: the same readings and marks."""
+    seed = 10000
+    while wanted > 0:
+        seed += 1
+        draw = Draw(seed)
+        tokens = draw.tokens(0, 12)[:20]
+        g = grammar_bytes(draw.stages, draw.rules)
+        entries = list(itertools.islice(readings(read_grammar(g), tokens), 11))
+        if draw.stages < 2 or not 2 <= len(entries) <= 10:
+            continue
+        marks = [int(any(True for _ in readings(read_grammar(g), tokens[:i]))) for i in range(len(tokens) + 1)]
+        buffer, calls = draw.buffer(entries, len(tokens) + 1), draw.calls()
+        forms = [("", g), (", with its start", grammar_bytes(draw.stages, draw.rules, 0)), (", in another order", draw.renumbered())]
+        for form, same in forms:
+            passed("drawn %d%s" % (seed, form), same, history_bytes(tokens), SHOW | MARKS, ALL, buffer, calls, (entries, marks))
+        wanted -= 1
 
 
 if __name__ == "__main__":
     of_document_01()
+    limits_of_document_01()
+    recorded_starts()
+    heads()
+    largest()
     wrong_turns()
     many_readings()
-    drawn(1000)
+    drawn(820)
+    drawn_thrice(60)
     with open("crates/test_vectors/data/cases.bin", "wb") as f:
         f.write(b"".join(CASES))
     with open("crates/test_vectors/stdout", "w") as f:

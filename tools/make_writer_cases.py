@@ -2,16 +2,17 @@
 """Writes crates/test_writers/data/cases.bin and crates/test_writers/stdout: elements and a buffer for a writer, and what is due of it.
 
 Run from the repository's root, when the cases change. The answers to the examples, limits, orders and large elements are written out
-by hand; the others are found by the judges below, which go by documents 01 and 02 alone and are held to the former, and to frames.py
-where two bytes can hold every element. No part of the library is run. A case: which file, what it is, the elements, the buffer's bytes
-before the call, the number of the refusal or 0, the file's length or 0, the buffer's bytes after the call.
+by hand; the others are found by the judges of judges.py, which are held to the former, and to frames.py where two bytes can hold every
+element. No part of the library is run. A case: which file, what it is, the elements, the buffer's bytes before the call, the number of
+the refusal or 0, the file's length or 0, the buffer's bytes after the call.
 """
 import random
 import sys
 
 import frames
+import judges
 from case_files import write_cases
-from frames import CLOSE, G, MARK, MOST, OPEN
+from frames import CLOSE, EXCHANGED, G, MARK, MOST, OPEN
 
 GRAMMAR, HISTORY = 0, 1
 KINDS = ["grammar", "history"]
@@ -24,65 +25,15 @@ NUMBERS = [{WRITTEN, 1, 3, 4, 5, 6, 7, 8, 9, 15}, {WRITTEN, 1, 9, 10, 11, 12, 13
 # No number of a file is as large. The first is the largest of two bytes.
 LARGE = [16383, 16384, 65535, 65536, 1 << 31, (1 << 32) - 1]
 
-# Every token number that there is.
-TOKENS = {4 * name + kind for name in range(64) for kind in range(3)}
 
-
-# ---- the judges: the elements by document 01's limits, in file order
-class Refused(Exception):
-    """The one argument is document 01's number."""
-
-
-class Elements:
-    """The elements one behind the other."""
-
-    def __init__(self, elements):
-        self.left = iter(elements)
-
-    def number(self, allowed, otherwise):
-        """The next element, "1 for too few"; the other number where it isn't one of those allowed."""
-        n = next(self.left, None)
-        if n is None:
-            raise Refused(1)
-        if n not in allowed:
-            raise Refused(otherwise)
-        return n
-
-    def end(self):
-        """Nothing follows: "9 for too many"."""
-        if next(self.left, None) is not None:
-            raise Refused(9)
-
-
-def judge_grammar(elements):
-    source, rules = Elements(elements), []
-    stages = source.number(range(1, 33), 3)
-    for _ in range(source.number(range(1, 129), 4)):
-        form = source.number(range(3), 5)
-        rule = [form]
-        for field in ["L", "L c L1", "L a L1 b L2"][form].split():
-            rule.append(source.number(range(64), 7) if field in "abc" else source.number(range(stages), 6))
-        if rule in rules:
-            raise Refused(8)
-        rules.append(rule)
-    source.end()
-
-
-def judge_history(elements):
-    source, still_open = Elements(elements), 0
-    for _ in range(source.number(range(1025), 10)):
-        kind = source.number(TOKENS, 11) % 4
-        if kind == 1 and still_open == 128:
-            raise Refused(14)
-        if kind == 2 and still_open == 0:
-            raise Refused(12)
-        still_open += [0, 1, -1][kind]
-    if still_open:
-        raise Refused(13)
-    source.end()
-
-
-JUDGES = [judge_grammar, judge_history]
+# ---- what is due, by the judges
+def numbers_due(which, elements):
+    """The numbers of the file to be written. A grammar's file says its start, also where its elements don't."""
+    if which == HISTORY:
+        tokens = judges.judge_history(judges.Elements(elements))
+        return [len(tokens)] + tokens
+    stages, start, rules = judges.judge_grammar(judges.Elements(elements))
+    return [0, stages, start, len(rules)] + [n for rule in rules for n in rule]
 
 
 def number_bytes(n):
@@ -97,10 +48,9 @@ def number_bytes(n):
 def judged(which, elements, before):
     """The number of the refusal, the length, the buffer afterwards."""
     try:
-        JUDGES[which](elements)
-    except Refused as e:
+        file = b"".join(map(number_bytes, numbers_due(which, elements)))
+    except judges.Refused as e:
         return e.args[0], 0, before
-    file = b"".join(map(number_bytes, elements))
     if len(before) < len(file):
         return 15, 0, before
     return WRITTEN, len(file), file + before[len(file):]
@@ -110,7 +60,11 @@ def judged(which, elements, before):
 def read(which, elements, before):
     file = frames.numbers_bytes(elements)
     try:
-        [frames.read_stages_and_rules, frames.read_history][which](file)
+        if which == GRAMMAR:
+            grammar = frames.read_grammar(file)
+            file = frames.grammar_bytes(grammar.stages, grammar.rules, grammar.start)
+        else:
+            frames.read_history(file)
     except frames.Refused as e:
         return e.number, 0, before
     return (WRITTEN, len(file), file + before[len(file):]) if len(file) <= len(before) else (15, 0, before)
@@ -168,6 +122,27 @@ def written(which, label, elements, file):
     by_hand(which, label, elements, plain(len(file) - 1), 15)
 
 
+def last_start(elements):
+    """The numbers of a grammar that doesn't say its start, with its last stage as start."""
+    return [0, elements[0], elements[0] - 1] + elements[1:]
+
+
+def rules_refused(label, elements, number):
+    """A grammar with a fault behind its stage count: with a start it has the same."""
+    refused(GRAMMAR, label, elements, number)
+    by_hand(GRAMMAR, "start, " + label, last_start(elements), plain(room(elements) + 3), number)
+
+
+def rules_written(label, elements):
+    """A grammar of numbers below 128. One that doesn't say its start gets a 0 in front and a 0 behind the stage count, and takes two bytes
+    more than it has numbers; one that says it is written as it is."""
+    file = [0, elements[0], 0] + elements[1:]
+    written(GRAMMAR, label, elements, file)
+    by_hand(GRAMMAR, label, elements, plain(len(elements)), 15)
+    by_hand(GRAMMAR, "start, " + label, last_start(elements), mixed(len(file) + 1), last_start(elements))
+    by_hand(GRAMMAR, "start, " + label, last_start(elements), plain(len(file) - 1), 15)
+
+
 def lengths(which, label, elements, sizes):
     """Buffers of several lengths, for elements that pass."""
     for size in sizes:
@@ -187,11 +162,19 @@ def steps(n, stage=0):
 
 # ---- the examples
 def examples():
-    g = list(G)
-    by_hand(GRAMMAR, "G", g, plain(28), g)
-    by_hand(GRAMMAR, "G", g, plain(27), 15)
-    by_hand(GRAMMAR, "G without its last number", g[:27], plain(28), 1)
-    by_hand(GRAMMAR, "G with a 5 behind", g + [5], plain(29), 9)
+    g, rules = list(G), list(G[2:])
+    longer = [0, 3, 0, 7] + rules
+    by_hand(GRAMMAR, "G", g, plain(30), longer)
+    by_hand(GRAMMAR, "G", g, plain(29), 15)
+    by_hand(GRAMMAR, "G", g, plain(28), 15)
+    by_hand(GRAMMAR, "G, written again", longer, plain(30), longer)
+    by_hand(GRAMMAR, "G, written again", longer, plain(29), 15)
+    by_hand(GRAMMAR, "0 3 1 7 and G's rules", [0, 3, 1, 7] + rules, plain(30), [0, 3, 1, 7] + rules)
+    exchanged = list(EXCHANGED)
+    by_hand(GRAMMAR, "G with stages 0 and 1 exchanged", exchanged, plain(30), exchanged)
+    by_hand(GRAMMAR, "the same without its start", [3] + exchanged[3:], plain(30), [0, 3, 0] + exchanged[3:])
+    by_hand(GRAMMAR, "G without its last number", g[:27], plain(30), 1)
+    by_hand(GRAMMAR, "G with a 5 behind", g + [5], plain(31), 9)
     by_hand(GRAMMAR, "1 1 1 0 70000 0", [1, 1, 1, 0, 70000, 0], plain(12), 7)
     by_hand(GRAMMAR, "4294967295", [4294967295], plain(12), 3)
     by_hand(GRAMMAR, "1 128 0 0 0 0", [1, 128, 0, 0, 0, 0], plain(12), 8)
@@ -212,36 +195,60 @@ def examples():
 # ---- a grammar's numbers
 def too_few_or_too_many_rules():
     one_of_each = [3, 3, 0, 2, 1, 1, 5, 0, 2, 0, 6, 1, 7, 2]
-    for end in range(len(one_of_each)):
-        refused(GRAMMAR, "one rule of each form, %d of 14 elements" % end, one_of_each[:end], 1)
+    for elements in (one_of_each, last_start(one_of_each)):
+        for end in range(1, len(elements)):
+            refused(GRAMMAR, "one rule of each form, %d of %d elements" % (end, len(elements)), elements[:end], 1)
     refused(GRAMMAR, "the last of 128 rules is not there", [2, 128] + marks(127), 1)
-    refused(GRAMMAR, "the last number of 128 rules is not there", [2, 128] + marks(128)[:-1], 1)
-    refused(GRAMMAR, "an element behind one rule", [1, 1, 0, 0, 0], 9)
-    refused(GRAMMAR, "a rule behind one rule", [1, 1, 0, 0, 1, 0, 0, 0], 9)
+    refused(GRAMMAR, "the last number of 128 rules is not there", [0, 2, 1, 128] + marks(128)[:-1], 1)
+    rules_refused("an element behind one rule", [1, 1, 0, 0, 0], 9)
+    rules_refused("a rule behind one rule", [1, 1, 0, 0, 1, 0, 0, 0], 9)
     for n in LARGE:
-        refused(GRAMMAR, "%d behind the last rule" % n, one_of_each + [n], 9)
+        rules_refused("%d behind the last rule" % n, one_of_each + [n], 9)
+
+
+def grammar_heads():
+    """A 0 in front: then stage count, start and rule count, each judged before the next is read."""
+    for elements, number in [([0], 1), ([0, 0], 3), ([0, 0, 0, 0], 3), ([0, 1, 1], 6), ([0, 1], 1), ([0, 33], 3), ([0, 1, 0, 0], 4), ([0, 1, 0], 1)]:
+        refused(GRAMMAR, " ".join(map(str, elements)), elements, number)
+    for stages in (0, 33, 127, 128, 129, 256, 257, 288):
+        refused(GRAMMAR, "a 0, %d stages" % stages, [0, stages, 0, 1, 0, 0], 3)
+    for stages in (1, 2, 3, 31, 32):
+        for start in sorted({0, 1, stages - 2, stages - 1} & set(range(stages))):
+            written(GRAMMAR, "start %d of %d" % (start, stages), [0, stages, start, 1, 0, 0], [0, stages, start, 1, 0, 0])
+        for start in (stages, stages + 1, 63, 127, 128, 256, 16384):
+            refused(GRAMMAR, "start %d of %d" % (start, stages), [0, stages, start, 1, 0, 0], 6)
+    refused(GRAMMAR, "3 before 6", [0, 33, 33, 1, 0, 0], 3)
+    refused(GRAMMAR, "3 before a large start", [0, 0, 65536], 3)
+    refused(GRAMMAR, "6 before a missing rule count", [0, 3, 3], 6)
+    refused(GRAMMAR, "6 before 4", [0, 3, 3, 0], 6)
+    refused(GRAMMAR, "6 before a large rule count", [0, 3, 3, 65536], 6)
+    refused(GRAMMAR, "a 0 before G", [0] + list(G), 6)
+    refused(GRAMMAR, "two zeros before 3 1 7 and G's rules", [0, 0, 3, 1] + list(G[1:]), 3)
+    refused(GRAMMAR, "start before stage count", [0, 1, 3] + list(G[1:]), 6)
+    refused(GRAMMAR, "rule count before start", [0, 3, 7, 1] + list(G[2:]), 6)
 
 
 def grammar_limits():
-    written(GRAMMAR, "1 stage", [1, 1, 0, 0], [1, 1, 0, 0])
-    written(GRAMMAR, "32 stages", [32, 1, 0, 31], [32, 1, 0, 31])
-    for stages in (0, 33, 127, 128, 129, 256, 257):
+    rules_written("1 stage", [1, 1, 0, 0])
+    rules_written("32 stages", [32, 1, 0, 31])
+    for stages in (33, 127, 128, 129, 256, 257):
         refused(GRAMMAR, "%d stages" % stages, [stages, 1, 0, 0], 3)
-    written(GRAMMAR, "127 rules", [2, 127] + marks(127), [2, 127] + marks(127))
-    written(GRAMMAR, "128 rules", [2, 128] + marks(128), [2, 128, 1] + marks(128))
+    written(GRAMMAR, "127 rules", [2, 127] + marks(127), [0, 2, 0, 127] + marks(127))
+    written(GRAMMAR, "128 rules", [2, 128] + marks(128), [0, 2, 0, 128, 1] + marks(128))
+    by_hand(GRAMMAR, "start, 128 rules", [0, 2, 1, 128] + marks(128), plain(517), [0, 2, 1, 128, 1] + marks(128))
     refused(GRAMMAR, "129 rules, all there", [3, 129] + marks(129), 4)
     for rules in (0, 129, 130, 255, 256, 257, 384):
-        refused(GRAMMAR, "%d rules" % rules, [3, rules] + marks(1), 4)
-    written(GRAMMAR, "form 0", [3, 1, 0, 2], [3, 1, 0, 2])
-    written(GRAMMAR, "form 1", [3, 1, 1, 2, 5, 1], [3, 1, 1, 2, 5, 1])
-    written(GRAMMAR, "form 2", [3, 1, 2, 2, 5, 1, 6, 0], [3, 1, 2, 2, 5, 1, 6, 0])
+        rules_refused("%d rules" % rules, [3, rules] + marks(1), 4)
+    rules_written("form 0", [3, 1, 0, 2])
+    rules_written("form 1", [3, 1, 1, 2, 5, 1])
+    rules_written("form 2", [3, 1, 2, 2, 5, 1, 6, 0])
     for form in (3, 4, 127, 128, 130, 256, 258):
-        refused(GRAMMAR, "form %d" % form, [1, 1, form, 0, 0, 0, 0, 0], 5)
-    written(GRAMMAR, "names 63", [1, 2, 1, 0, 63, 0, 2, 0, 63, 0, 63, 0], [1, 2, 1, 0, 63, 0, 2, 0, 63, 0, 63, 0])
+        rules_refused("form %d" % form, [1, 1, form, 0, 0, 0, 0, 0], 5)
+    rules_written("names 63", [1, 2, 1, 0, 63, 0, 2, 0, 63, 0, 63, 0])
     for name in (64, 127, 128, 191, 192, 256, 319):
-        refused(GRAMMAR, "mark name %d" % name, [1, 1, 1, 0, name, 0], 7)
-        refused(GRAMMAR, "open name %d" % name, [1, 1, 2, 0, name, 0, 0, 0], 7)
-        refused(GRAMMAR, "close name %d" % name, [1, 1, 2, 0, 0, 0, name, 0], 7)
+        rules_refused("mark name %d" % name, [1, 1, 1, 0, name, 0], 7)
+        rules_refused("open name %d" % name, [1, 1, 2, 0, name, 0, 0, 0], 7)
+        rules_refused("close name %d" % name, [1, 1, 2, 0, 0, 0, name, 0], 7)
 
 
 def stages_of_rules():
@@ -249,55 +256,55 @@ def stages_of_rules():
     for stages in (1, 3, 32):
         s = stages - 1
         for rule, places in [([0, s], [1]), ([1, s, 0, s], [1, 3]), ([2, s, 0, s, 0, s], [1, 3, 5])]:
-            written(GRAMMAR, "form %d, stages %d of %d" % (rule[0], s, stages), [stages, 1] + rule, [stages, 1] + rule)
+            rules_written("form %d, stages %d of %d" % (rule[0], s, stages), [stages, 1] + rule)
             for i in places:
-                refused(GRAMMAR, "form %d, field %d is %d of %d" % (rule[0], i, stages, stages), [stages, 1] + rule[:i] + [stages] + rule[i + 1:], 6)
+                rules_refused("form %d, field %d is %d of %d" % (rule[0], i, stages, stages), [stages, 1] + rule[:i] + [stages] + rule[i + 1:], 6)
 
 
 def equal_rules():
-    refused(GRAMMAR, "form 0 twice", [1, 2, 0, 0, 0, 0], 8)
-    refused(GRAMMAR, "form 1 twice", [2, 2, 1, 1, 5, 0, 1, 1, 5, 0], 8)
-    refused(GRAMMAR, "form 2 twice", [2, 2, 2, 1, 5, 0, 6, 1, 2, 1, 5, 0, 6, 1], 8)
-    refused(GRAMMAR, "the first again behind another", [1, 3, 0, 0, 1, 0, 0, 0, 0, 0], 8)
+    rules_refused("form 0 twice", [1, 2, 0, 0, 0, 0], 8)
+    rules_refused("form 1 twice", [2, 2, 1, 1, 5, 0, 1, 1, 5, 0], 8)
+    rules_refused("form 2 twice", [2, 2, 2, 1, 5, 0, 6, 1, 2, 1, 5, 0, 6, 1], 8)
+    rules_refused("the first again behind another", [1, 3, 0, 0, 1, 0, 0, 0, 0, 0], 8)
     refused(GRAMMAR, "the first again as the 128th", [2, 128] + marks(127) + [1, 0, 0, 0], 8)
-    refused(GRAMMAR, "the 127th again as the 128th", [2, 128] + marks(127) + [1, 1, 62, 0], 8)
+    refused(GRAMMAR, "the 127th again as the 128th", [0, 2, 1, 128] + marks(127) + [1, 1, 62, 0], 8)
     for i in range(1, 6):
         rules = [2, 0, 5, 0, 6, 0] * 2
         rules[6 + i] = [0, 1, 7, 1, 7, 1][i]
-        written(GRAMMAR, "form 2, only field %d differs" % i, [2, 2] + rules, [2, 2] + rules)
+        rules_written("form 2, only field %d differs" % i, [2, 2] + rules)
     for i in range(1, 4):
         rules = [1, 0, 5, 0] * 2
         rules[4 + i] = [0, 1, 7, 1][i]
-        written(GRAMMAR, "form 1, only field %d differs" % i, [2, 2] + rules, [2, 2] + rules)
+        rules_written("form 1, only field %d differs" % i, [2, 2] + rules)
 
 
 def order_in_a_grammar():
     refused(GRAMMAR, "3 before a missing rule count", [33], 3)
-    refused(GRAMMAR, "3 before 4", [0, 0], 3)
-    refused(GRAMMAR, "3 before a later 9", [0, 1, 0, 0, 0], 3)
-    refused(GRAMMAR, "4 before a missing rule", [1, 129], 4)
-    refused(GRAMMAR, "4 before 5", [1, 0, 3], 4)
-    refused(GRAMMAR, "5 before a missing L", [1, 1, 3], 5)
-    refused(GRAMMAR, "5 before 6", [1, 1, 3, 1], 5)
-    refused(GRAMMAR, "form 1: 6 of L before 7", [1, 1, 1, 1, 64, 1], 6)
-    refused(GRAMMAR, "form 1: 7 before 6 of L1", [1, 1, 1, 0, 64, 1], 7)
-    refused(GRAMMAR, "form 1: 7 before a missing L1", [1, 1, 1, 0, 64], 7)
-    refused(GRAMMAR, "form 2: 6 of L before 7 of a", [1, 1, 2, 1, 64, 1, 64, 1], 6)
-    refused(GRAMMAR, "form 2: 7 of a before 6 of L1", [1, 1, 2, 0, 64, 1, 64, 1], 7)
-    refused(GRAMMAR, "form 2: 6 of L1 before 7 of b", [1, 1, 2, 0, 0, 1, 64, 1], 6)
-    refused(GRAMMAR, "form 2: 7 of b before 6 of L2", [1, 1, 2, 0, 0, 0, 64, 1], 7)
-    refused(GRAMMAR, "6 before a missing field", [1, 1, 2, 1], 6)
-    refused(GRAMMAR, "1 before 8: equal but for a missing L2", [1, 2, 2, 0, 0, 0, 0, 0, 2, 0, 0, 0, 0], 1)
-    refused(GRAMMAR, "6 before 8: equal but for L2", [1, 2, 2, 0, 0, 0, 0, 0, 2, 0, 0, 0, 0, 1], 6)
-    refused(GRAMMAR, "8 before a later 1", [1, 3, 0, 0, 0, 0], 8)
-    refused(GRAMMAR, "8 before a later 5", [1, 3, 0, 0, 0, 0, 3], 8)
-    refused(GRAMMAR, "8 before a later 7", [1, 3, 0, 0, 0, 0, 1, 0, 70000, 0], 8)
-    refused(GRAMMAR, "5 before a later 8", [1, 3, 0, 0, 3, 0, 0, 0], 5)
-    refused(GRAMMAR, "8 before a later 9", [1, 2, 0, 0, 0, 0, 7], 8)
-    refused(GRAMMAR, "7 before a later 9", [1, 1, 1, 0, 64, 0, 7], 7)
-    refused(GRAMMAR, "7 before a later 1", [1, 2, 1, 0, 64, 0], 7)
-    refused(GRAMMAR, "a large name before a later 9", [1, 1, 1, 0, 65536, 0, 7], 7)
-    refused(GRAMMAR, "a large stage before a large name", [1, 1, 1, 65536, 65536, 0], 6)
+    refused(GRAMMAR, "3 before 4", [33, 0], 3)
+    refused(GRAMMAR, "3 before a later 9", [33, 1, 0, 0, 0], 3)
+    rules_refused("4 before a missing rule", [1, 129], 4)
+    rules_refused("4 before 5", [1, 0, 3], 4)
+    rules_refused("5 before a missing L", [1, 1, 3], 5)
+    rules_refused("5 before 6", [1, 1, 3, 1], 5)
+    rules_refused("form 1: 6 of L before 7", [1, 1, 1, 1, 64, 1], 6)
+    rules_refused("form 1: 7 before 6 of L1", [1, 1, 1, 0, 64, 1], 7)
+    rules_refused("form 1: 7 before a missing L1", [1, 1, 1, 0, 64], 7)
+    rules_refused("form 2: 6 of L before 7 of a", [1, 1, 2, 1, 64, 1, 64, 1], 6)
+    rules_refused("form 2: 7 of a before 6 of L1", [1, 1, 2, 0, 64, 1, 64, 1], 7)
+    rules_refused("form 2: 6 of L1 before 7 of b", [1, 1, 2, 0, 0, 1, 64, 1], 6)
+    rules_refused("form 2: 7 of b before 6 of L2", [1, 1, 2, 0, 0, 0, 64, 1], 7)
+    rules_refused("6 before a missing field", [1, 1, 2, 1], 6)
+    rules_refused("1 before 8: equal but for a missing L2", [1, 2, 2, 0, 0, 0, 0, 0, 2, 0, 0, 0, 0], 1)
+    rules_refused("6 before 8: equal but for L2", [1, 2, 2, 0, 0, 0, 0, 0, 2, 0, 0, 0, 0, 1], 6)
+    rules_refused("8 before a later 1", [1, 3, 0, 0, 0, 0], 8)
+    rules_refused("8 before a later 5", [1, 3, 0, 0, 0, 0, 3], 8)
+    rules_refused("8 before a later 7", [1, 3, 0, 0, 0, 0, 1, 0, 70000, 0], 8)
+    rules_refused("5 before a later 8", [1, 3, 0, 0, 3, 0, 0, 0], 5)
+    rules_refused("8 before a later 9", [1, 2, 0, 0, 0, 0, 7], 8)
+    rules_refused("7 before a later 9", [1, 1, 1, 0, 64, 0, 7], 7)
+    rules_refused("7 before a later 1", [1, 2, 1, 0, 64, 0], 7)
+    rules_refused("a large name before a later 9", [1, 1, 1, 0, 65536, 0, 7], 7)
+    rules_refused("a large stage before a large name", [1, 1, 1, 65536, 65536, 0], 6)
 
 
 # ---- a history's numbers
@@ -384,7 +391,7 @@ def order_in_a_history():
 
 # ---- elements that no file holds, at each place of a file
 GRAMMAR_PLACES = [
-    ("stage count", 4, 3), ("rule count", 4, 4),
+    ("the 0", 0, 3), ("stage count", 4, 3), ("start", 1, 6), ("rule count", 4, 4),
     ("form 0", 0, 5), ("its L", 3, 6),
     ("form 1", 1, 5), ("L before c", 2, 6), ("c", 5, 7), ("L1 behind c", 1, 6),
     ("form 2", 2, 5), ("L before a", 1, 6), ("a", 6, 7), ("L1 inside", 2, 6), ("b", 7, 7), ("L2", 3, 6),
@@ -397,33 +404,48 @@ HISTORY_PLACES = [("token count", 6, 10)] + [(label, token, 11) for label, token
 
 def large_elements():
     """Large ones, and those that are a right one to a writer who drops their high bits."""
-    written(GRAMMAR, "elements as they should be", [n for _, n, _ in GRAMMAR_PLACES], [4, 4, 0, 3, 1, 2, 5, 1, 2, 1, 6, 2, 7, 3, 0, 0])
+    written(GRAMMAR, "elements as they should be", [n for _, n, _ in GRAMMAR_PLACES], [0, 4, 1, 4, 0, 3, 1, 2, 5, 1, 2, 1, 6, 2, 7, 3, 0, 0])
     written(HISTORY, "elements as they should be", [n for _, n, _ in HISTORY_PLACES], [6, 0, 1, 128, 1, 5, 6, 2])
     for which, places in [(GRAMMAR, GRAMMAR_PLACES), (HISTORY, HISTORY_PLACES)]:
         elements = [n for _, n, _ in places]
         for i, (label, n, number) in enumerate(places):
-            for other in sorted(set(LARGE + [n + (1 << bits) for bits in (14, 16, 21, 28, 31)] + [(1 << 32) - 256 + n])):
+            for other in large_ones(n):
                 by_hand(which, "%d as %s" % (other, label), elements[:i] + [other] + elements[i + 1:], plain(40), number)
             for other in [n + 128, n + 256]:
                 case(which, "%d as %s" % (other, label), elements[:i] + [other] + elements[i + 1:], plain(40))
+    for other in large_ones(1):
+        by_hand(GRAMMAR, "%d as stage count, no start" % other, [other, 1, 0, 0], plain(40), 3)
+        by_hand(GRAMMAR, "%d as rule count, no start" % other, [1, other, 0, 0], plain(40), 4)
+
+
+def large_ones(n):
+    return sorted(set(LARGE + [n + (1 << bits) for bits in (14, 16, 21, 28, 31)] + [(1 << 32) - 256 + n]))
 
 
 # ---- files at every limit, and elements behind them
 def full_grammar():
-    longest, file = [1, 128] + steps(128), [1, 128, 1] + steps(128)
-    for size in (771, 772, 773, 1024):
-        by_hand(GRAMMAR, "128 rules of six numbers", longest, mixed(size), file)
-    for size in (770, 769, 768, 515, 3, 0):
-        by_hand(GRAMMAR, "128 rules of six numbers", longest, mixed(size), 15)
-    last = [32, 128] + steps(128, 31)
-    by_hand(GRAMMAR, "128 rules of six numbers, 32 stages", last, plain(774), [32, 128, 1] + steps(128, 31))
-    by_hand(GRAMMAR, "128 rules of six numbers, and large elements", longest + LARGE, plain(790), 9)
-    by_hand(GRAMMAR, "128 rules of six numbers, the last one twice, and more", longest[:-6] + longest[-12:-6] + [0], plain(774), 8)
-    by_hand(GRAMMAR, "128 rules of six numbers, a fault at the end", longest[:-1] + [1], plain(774), 6)
-    for count in (771, 772, 1026, 1027, 3000):
-        by_hand(GRAMMAR, "128 rules of six numbers, %d elements" % count, longest + [0] * (count - 770), plain(780), 9)
+    no_start, from_last = [1, 128] + steps(128), [0, 32, 31, 128] + steps(128, 31)
+    for size in (773, 774):
+        by_hand(GRAMMAR, "128 rules of six numbers", no_start, mixed(size), [0, 1, 0, 128, 1] + steps(128))
+    for size in (772, 771, 770, 0):
+        by_hand(GRAMMAR, "128 rules of six numbers", no_start, mixed(size), 15)
+    for size in (773, 1024):
+        by_hand(GRAMMAR, "128 rules of six numbers, start 31", from_last, mixed(size), [0, 32, 31, 128, 1] + steps(128, 31))
+    for size in (772, 771, 515):
+        by_hand(GRAMMAR, "128 rules of six numbers, start 31", from_last, mixed(size), 15)
+    by_hand(GRAMMAR, "128 rules of six numbers, and large elements", no_start + LARGE, plain(790), 9)
+    by_hand(GRAMMAR, "128 rules of six numbers, the last one twice, and more", from_last[:-6] + from_last[-12:-6] + [0], plain(776), 8)
+    by_hand(GRAMMAR, "128 rules of six numbers, a fault at the end", no_start[:-1] + [1], plain(776), 6)
+    by_hand(GRAMMAR, "128 rules of six numbers, start 31, a fault at the end", from_last[:-1] + [32], plain(776), 6)
+
+
+def behind_a_full_grammar():
+    no_start, from_last = [1, 128] + steps(128), [0, 32, 31, 128] + steps(128, 31)
+    for elements, count in [(no_start, 771), (from_last, 773), (no_start, 1026), (from_last, 1027), (from_last, 3000)]:
+        by_hand(GRAMMAR, "128 rules of six numbers, %d elements" % count, elements + [0] * (count - len(elements)), plain(780), 9)
     for count in (1025, 1026, 1027, 1028):
-        by_hand(GRAMMAR, "a rule, %d elements" % count, [1, 1, 0, 0] + [0] * (count - 4), plain(9), 9)
+        rule = [1, 1, 0, 0] if count % 2 else [0, 1, 0, 1, 0, 0]
+        by_hand(GRAMMAR, "a rule, %d elements" % count, rule + [0] * (count - len(rule)), plain(9), 9)
 
 
 def full_history():
@@ -456,10 +478,14 @@ def behind_a_full_history():
 
 # ---- every length of a buffer
 def buffers():
-    g = list(G)
-    lengths(GRAMMAR, "G, any buffer", g, range(40))
+    g, longer = list(G), [0, 3, 0] + list(G[1:])
+    lengths(GRAMMAR, "G, any buffer", g, range(42))
+    lengths(GRAMMAR, "G with stages 0 and 1 exchanged, any buffer", list(EXCHANGED), range(42))
+    lengths(GRAMMAR, "1 1 0 0, any buffer", [1, 1, 0, 0], range(10))
+    lengths(GRAMMAR, "0 2 1 1 0 0, any buffer", [0, 2, 1, 1, 0, 0], range(10))
     for byte in (0, 1, 127, 128, 255):
-        by_hand(GRAMMAR, "G, buffer filled with %d" % byte, g, plain(33, byte), g)
+        by_hand(GRAMMAR, "G, buffer filled with %d" % byte, g, plain(33, byte), longer)
+        by_hand(GRAMMAR, "G, buffer of 29 filled with %d" % byte, g, plain(29, byte), 15)
         by_hand(GRAMMAR, "G and a 5, buffer filled with %d" % byte, g + [5], plain(33, byte), 9)
         by_hand(HISTORY, "2 161 134, buffer filled with %d" % byte, [2, 161, 134], plain(9, byte), [2, 161, 1, 134, 1])
         by_hand(HISTORY, "2 161, buffer filled with %d" % byte, [2, 161], plain(9, byte), 1)
@@ -467,7 +493,7 @@ def buffers():
     lengths(HISTORY, "3 1 0 2, any buffer", [3, 1, 0, 2], range(10))
     lengths(HISTORY, "5 0 161 252 134 0, any buffer", [5, 0, 161, 252, 134, 0], range(16))
     lengths(HISTORY, "3 1 0 2, a long buffer", [3, 1, 0, 2], [255, 256, 257, 260, 2050, 2052, 4096])
-    lengths(GRAMMAR, "G, a long buffer", g, [255, 256, 257, 284, 771, 4096])
+    lengths(GRAMMAR, "G, a long buffer", g, [255, 256, 257, 286, 773, 4096])
     # a length whose low byte is that of the file's, or 0
     for count in (253, 254, 255):
         elements = [count] + MARK * count
@@ -511,8 +537,9 @@ class Draw:
         i = self.r.randrange(len(rules) + 1)
         return rules[:i] + [self.r.choice(rules)] + rules[i:]
 
-    def grammar(self, rules):
-        return [self.stages, len(rules)] + [n for rule in rules for n in rule]
+    def grammar(self, rules, with_start):
+        head = [0, self.stages, self.r.randrange(self.stages), len(rules)] if with_start else [self.stages, len(rules)]
+        return head + [n for rule in rules for n in rule]
 
     def level(self, left):
         """A level of at most so many tokens."""
@@ -533,8 +560,10 @@ class Draw:
         return self.r.choice([n + 1, max(n - 1, 0), n + 4, n ^ 1, n + 128, n + 256, self.r.choice(LARGE), self.r.randrange(70), self.r.randrange(1 << 32)])
 
     def damaged(self, elements):
-        """An element changed, left out, put in or moved; or an end cut off or put on."""
+        """An element changed, left out, put in or moved; or an end cut off or put on. Now and then it is one of the first."""
         i, j = self.r.randrange(len(elements)), self.r.randrange(len(elements))
+        if self.r.random() < 0.3:
+            i %= 4
         changed = elements[:i] + [self.other(elements[i])] + elements[i + 1:]
         left_out = elements[:i] + elements[i + 1:]
         put_in = elements[:i] + [self.r.choice(elements)] + elements[i:]
@@ -542,24 +571,35 @@ class Draw:
         put_on = elements + [self.other(elements[i]) for _ in range(self.r.randrange(1, 4))]
         return self.r.choice([changed, changed, changed, changed, left_out, put_in, moved, elements[:i], put_on])
 
-    def buffer(self, elements):
-        """Mostly about as long as the file would be."""
-        size = sum(1 if n < 128 else 2 for n in elements) + self.r.choice([-2, -1, 0, 0, 1, 2, 7, -len(elements)])
+    def buffer(self, elements, more=0):
+        """Mostly about as long as the file would be, which may take more bytes than its elements."""
+        size = sum(1 if n < 128 else 2 for n in elements) + more + self.r.choice([-2, -1, 0, 0, 1, 2, 7, -len(elements)])
         return self.r.choice([plain(max(size, 0)), mixed(max(size, 0)), plain(max(size, 0), 0), self.r.randbytes(max(size, 0))])
 
 
 def drawn():
-    """A third of them as they should be, the others damaged."""
+    """A third of them as they should be, the others damaged. Every other grammar says its start."""
     for seed in range(600):
         draw = Draw(seed)
-        rules, history = draw.rules(), draw.history()
-        if seed >= 200:
-            grammar = draw.grammar(draw.repeated(rules)) if seed % 8 == 0 else draw.damaged(draw.grammar(rules))
-            history = draw.damaged(history)
+        rules, history, with_start = draw.rules(), draw.history(), seed % 2 == 1
+        if seed < 200:
+            grammar = draw.grammar(rules, with_start)
+        elif seed % 8 < 2:
+            grammar = draw.grammar(draw.repeated(rules), with_start)
         else:
-            grammar = draw.grammar(rules)
-        case(GRAMMAR, "drawn %d" % seed, grammar, draw.buffer(grammar))
+            grammar = draw.damaged(draw.grammar(rules, with_start))
+        if seed >= 200:
+            history = draw.damaged(history)
+        case(GRAMMAR, "drawn %d" % seed, grammar, draw.buffer(grammar, 0 if with_start else 2))
         case(HISTORY, "drawn %d" % seed, history, draw.buffer(history))
+
+
+def written_again():
+    """The numbers of what a writer makes of grammars without a start: the same bytes."""
+    made = [c for c in CASES if c[1].startswith("grammar, drawn") and c[4] == WRITTEN and c[2][0] != 0]
+    for _, label, elements, before, _, length, after in made[:40]:
+        again = [0, elements[0], 0] + elements[1:]
+        by_hand(GRAMMAR, label[len("grammar, "):] + ", written again", again, before, after[:length])
 
 
 # ---- the files
@@ -588,11 +628,11 @@ def packed(which, label, elements, before, number, length, after):
 
 def main():
     examples()
-    for part in (too_few_or_too_many_rules, grammar_limits, stages_of_rules, equal_rules, order_in_a_grammar):
+    for part in (too_few_or_too_many_rules, grammar_heads, grammar_limits, stages_of_rules, equal_rules, order_in_a_grammar):
         part()
     for part in (too_few_or_too_many_tokens, history_limits, history_steps, order_in_a_history):
         part()
-    for part in (large_elements, full_grammar, full_history, behind_a_full_history, buffers, each_token, drawn):
+    for part in (large_elements, full_grammar, behind_a_full_grammar, full_history, behind_a_full_history, buffers, each_token, drawn, written_again):
         part()
     hold_to_limits()
     write_cases("test_writers", [packed(*c) for c in CASES])

@@ -1,21 +1,21 @@
 -- A first reading and next readings, as a list of calls over the two files: they give all entries in order, and then "no further".
 use Prim.Native.Nat.{ℕ, zero, suc, _+_, _*_, _<_, _≤_}
 use native.Mathlib.Omega.{arith}
-use mathlib.Core.Path.{_≡_, refl, sym, _∙_, ap}
+use mathlib.Core.Path.{_≡_, refl, _∙_, ap}
 use mathlib.Core.List.{List, [], _∷_, _++_, map}
 use mathlib.Core.Option.{some}
 use borrow.Author.Tests.{lt-ltb, le-ltb}
-use lib.ListN.{length, drop, replicate, length-replicate, length-map}
+use lib.ListN.{length, drop, replicate, length-replicate}
 use Rattle.vpg.specs.believed.Grammar.{Grammar}
 use Rattle.vpg.specs.Runs.{entries}
-use Rattle.listing_model.specs.believed.Listing.{Call, first, next, Answer, written, no-further, Subject, over, Shown, start, entry, modelFirst, model, shows, trace}
+use Rattle.listing_model.specs.believed.Listing.{Call, first, next, Answer, written, over, Shown, start, entry, modelFirst, model, shows, trace}
 use Rattle.listing_model.proofs.Listing.{first-one}
-use Rattle.history_file.specs.believed.HistoryFile.{tokenOf, tokensOf}
+use Rattle.history_file.specs.believed.HistoryFile.{tokensOf}
 use Rattle.files.specs.believed.Files.{accepted}
 use Rattle.service.specs.believed.Given as service
 use Rattle.service.specs.believed.Opened.{filesIn}
 use Rattle.readings.specs.believed.Answers.{subject}
-use Rattle.calls.specs.believed.CallList.{codeOf, callOf, callsOf, final, modelAnswers, modelBuffer, callsMade, callsDue}
+use Rattle.calls.specs.believed.CallList.{codeOf, callsOf, final, modelAnswers, modelBuffer, callsDue}
 
 -- the list: one first reading, then k next readings
 abbrev pub firstAndNext : ℕ → List ℕ

@@ -1,19 +1,24 @@
--- A grammar file is accepted exactly where it holds the numbers of a well-formed grammar whose start is 0, over any source of numbers.
-use Prim.Native.Nat.{ℕ, zero, suc}
+-- A grammar file is accepted exactly where it holds the numbers of a well-formed grammar, with its start or, if that is 0, without it; over
+-- any source of numbers.
+use Prim.Native.Nat.{ℕ, zero, suc, _<_}
 use mathlib.Core.Path.{_≡_, refl, sym, ap, _∙_}
 use mathlib.Core.Logic.{_↔_, _≢_, _⊎_, inl, inr}
-use mathlib.Core.Bool.{Bool, true, false, false≢true}
+use mathlib.Core.Bool.{Bool, true, false, false≢true, cond}
 use mathlib.Core.List.{List, [], _∷_, _++_, append-nil, append-assoc, List·Memᴰ, List·Memᴰ·head, List·Memᴰ·tail, List·Memᴰ·not-nil, List·Memᴰ·cases-cons, List·Memᴰ·append-cases, List·Memᴰ·eq-of-singleton, Memᴰ·append-right}
 use mathlib.Core.Option.{some, Option·none-ne-some, Option·some-injective}
 use native.Mathlib.Omega.{arith}
+use borrow.Author.Tests.{eqb-true, ne-eqb}
+use lib.Dec.{eqb}
 use lib.ListN.{length, getElem?}
 use Rattle.laws.specs.Distinct.{Distinct}
+use Rattle.numbers.specs.declared.NumberRead.{NumberRead}
+use Rattle.numbers.specs.declared.NumberRead.the-variants.{Number, Refused as NumberRefused}
 use Rattle.numbers.specs.declared.FieldRead.{FieldRead}
 use Rattle.numbers.specs.declared.FieldRead.the-variants.{Field, Refused as FieldRefused}
 use Rattle.numbers.specs.believed.Number.{Source}
-use Rattle.numbers.specs.believed.Field.{countAt}
+use Rattle.numbers.specs.believed.Field.{fieldAt, countAt}
 use Rattle.numbers.specs.Written.{NumbersAt, none, one, Holds}
-use Rattle.numbers.proofs.Fields.{Counted, count-read, count-reads}
+use Rattle.numbers.proofs.Fields.{field-read, field-reads, Counted, count-read, count-reads}
 use Rattle.laws.proofs.Bools.{chose-second}
 use Rattle.numbers.proofs.Standing.{none-left, one-left, join, part}
 use Rattle.rules.specs.declared.RuleRead.{RuleRead}
@@ -25,8 +30,8 @@ use Rattle.tables.specs.Table.{earlier}
 use Rattle.tables.proofs.Earlier.{earlier-is}
 use Rattle.vpg.specs.declared.Rule.{Rule}
 use Rattle.vpg.specs.believed.Grammar.{Grammar}
-use Rattle.grammar_file.specs.believed.GrammarFile.{GrammarFile, accepted, refused, afterRule, afterCount, rulesFrom, grammarFrom}
-use Rattle.grammar_file.specs.Wellformed.{Wellformed, rulesNumbers, numbersOf}
+use Rattle.grammar_file.specs.believed.GrammarFile.{GrammarFile, accepted, refused, afterRule, afterCount, rulesFrom, countedFrom, withoutStart, withStart, either, grammarFrom}
+use Rattle.grammar_file.specs.Wellformed.{Wellformed, rulesNumbers, numbersOf, numbersWithoutStart}
 
 -- ── lists of rules ──
 
@@ -62,7 +67,7 @@ rule-fits {g} w i {r} h = w .fits r (member (g .rules) i h)
 
 -- ── what was read, of an accepted file ──
 
-apart : {e : ℕ} {g : Grammar} → refused e ≢ accepted g
+pub apart : {e : ℕ} {g : Grammar} → refused e ≢ accepted g
 apart h = let z : _≡_ {A = ℕ} 0 1 = cc in omega arith
 
 after-rule : (f : RuleRead) (rest : Rule → ℕ → GrammarFile) {g : Grammar} → afterRule f rest ≡ accepted g → (r : Rule) × (p : ℕ) × (f ≡ Read r p) × (rest r p ≡ accepted g)
@@ -142,51 +147,106 @@ module _ (x : Source) (nonterminals start : ℕ) where
 -- ── the file ──
 
 module _ (x : Source) (g : Grammar) where
-  abbrev Said : Type 0
-  Said = Holds x (numbersOf g) × (g .start ≡ 0) × Wellformed g
+  -- the numbers of the grammar, with or without its start
+  abbrev pub Said : Type 0
+  Said = Holds x (numbersOf g) ⊎ (Holds x (numbersWithoutStart g) × (g .start ≡ 0))
 
-  counts-read : (n p due q : ℕ) → Counted (x .number 0) 32 n p → Counted (x .number p) 128 due q → RulesAre x n 0 g due q [] → Said
-  counts-read n p due q c k b =
-      let en : g .nonterminals ≡ n = ap (λ f. f .nonterminals) (b .is) in
-      let es : g .start ≡ 0 = ap (λ f. f .start) (b .is) in
-      let er : g .rules ≡ b .rest = ap (λ f. f .rules) (b .is) in
-      let el : length (g .rules) ≡ due = ap length er ∙ b .count in (
-        rw (el, en, er) (b .end, one (c .read) (one (k .read) (b .stand)), b .last),
-        es,
-        record {
-          nonterminals-least = omega arith;
-          nonterminals-most = omega arith;
-          start-below = omega arith;
-          rules-least = omega arith;
-          rules-most = omega arith;
-          fits = rw (en, er) (b .fits);
-          distinct = rw er (b .distinct tt);
-        },
-      )
+  -- a number that is read, known as another
+  number-as : {at p end n m : ℕ} {ns : List ℕ} → m ≡ n → x .number at ≡ Number n p → NumbersAt (x .number) p ns end → NumbersAt (x .number) at (m ∷ ns) end
+  number-as e h i = rw e (one h i)
 
-  said-read : grammarFrom x ≡ accepted g → Said
-  unfolding grammarFrom
-  said-read h =
+  counted : (n start at : ℕ) → countedFrom x at n start ≡ accepted g → (due p : ℕ) × Counted (x .number at) 128 due p × RulesAre x n start g due p []
+  counted n start at h =
+      let s = after-count (countAt (x .number) at 128 4) _ h in
+      (s .0, s .1, count-read (x .number) at 128 4 _ _ (s .2), rules-read x n start g (s .0) (s .1) [] (s .3))
+
+  module _ {n p start at due q : ℕ} {r : NumberRead} (c : Counted r 32 n p) (below : start < n) (k : Counted (x .number at) 128 due q) (b : RulesAre x n start g due q []) where
+    stages-are : g .nonterminals ≡ n
+    stages-are = ap (λ f. f .nonterminals) (b .is)
+
+    start-is : g .start ≡ start
+    start-is = ap (λ f. f .start) (b .is)
+
+    rules-are : g .rules ≡ b .rest
+    rules-are = ap (λ f. f .rules) (b .is)
+
+    due-is : length (g .rules) ≡ due
+    due-is = ap length rules-are ∙ b .count
+
+    rules-stand : NumbersAt (x .number) at (length (g .rules) ∷ rulesNumbers (g .rules)) (b .end)
+    rules-stand = rw (due-is, rules-are) (one (k .read) (b .stand))
+
+    good : Wellformed g
+    good = record {
+      nonterminals-least = omega (arith, c .least, stages-are);
+      nonterminals-most = omega (arith, c .most-of, stages-are);
+      start-below = omega (arith, below, stages-are, start-is);
+      rules-least = omega (arith, k .least, due-is);
+      rules-most = omega (arith, k .most-of, due-is);
+      fits = rw (stages-are, rules-are) (b .fits);
+      distinct = rw rules-are (b .distinct tt);
+    }
+
+  short-read : withoutStart x ≡ accepted g → Said × Wellformed g
+  short-read h =
       let f = after-count (countAt (x .number) 0 32 3) _ h in
-      let s = after-count (countAt (x .number) (f .1) 128 4) _ (f .3) in
-      counts-read (f .0) (f .1) (s .0) (s .1) (count-read (x .number) 0 32 3 _ _ (f .2)) (count-read (x .number) (f .1) 128 4 _ _ (s .2))
-      (rules-read x (f .0) 0 g (s .0) (s .1) [] (s .3))
+      let c = count-read (x .number) 0 32 3 _ _ (f .2) in
+      let (due, p, k, b) = counted (f .0) 0 (f .1) (f .3) in
+      (inr ((b .end, number-as (stages-are c (c .least) k b) (c .read) (rules-stand c (c .least) k b), b .last), start-is c (c .least) k b), good c (c .least) k b)
 
-  said-reads : Said → grammarFrom x ≡ accepted g
+  long-read : (at : ℕ) → x .number 0 ≡ Number 0 at → withStart x at ≡ accepted g → Said × Wellformed g
+  long-read at z h =
+      let f = after-count (countAt (x .number) at 32 3) _ h in
+      let c = count-read (x .number) at 32 3 _ _ (f .2) in
+      let s = after-count (fieldAt (x .number) (f .1) (f .0) 6) _ (f .3) in
+      let l = field-read (x .number) (f .1) (f .0) 6 _ _ (s .2) in
+      let (due, p, k, b) = counted (f .0) (s .0) (s .1) (s .3) in
+      let rest = number-as (start-is c (l .below) k b) (l .read) (rules-stand c (l .below) k b) in
+      (inl (b .end, one z (number-as (stages-are c (l .below) k b) (c .read) rest), b .last), good c (l .below) k b)
+
+  said-read : grammarFrom x ≡ accepted g → Said × Wellformed g
   unfolding grammarFrom
-  said-reads (h, zero-start, w) =
-      let f = one-left (h .1) in
-      let s = one-left (f .2) in
-      let n = g .nonterminals in
-      rw (
-        count-reads (x .number) 0 32 3 n (f .0) (f .1) (w .nonterminals-least) (w .nonterminals-most),
-        count-reads (x .number) (f .0) 128 4 (length (g .rules)) (s .0) (s .1) (w .rules-least) (w .rules-most),
-      )
-      (rules-reads x n 0 (g .rules) (s .0) (h .0) [] (s .2) (h .2) (w .fits) (w .distinct)
-      ∙ ap (λ z. accepted (record { nonterminals = n; start = z; rules = g .rules })) (sym zero-start))
+  said-read h = go (x .number 0) refl h
+    where
+      go : (r : NumberRead) → x .number 0 ≡ r → either r (withStart x) (withoutStart x) ≡ accepted g → Said × Wellformed g
+      go (Number n at) e q = zero-or (eqb n 0) refl q
+        where
+          zero-or : (b : Bool) → eqb n 0 ≡ b → cond b (withStart x at) (withoutStart x) ≡ accepted g → Said × Wellformed g
+          zero-or true t k = long-read at (e ∙ ap (λ m. Number m at) (eqb-true n 0 t)) k
+          zero-or false t k = short-read k
+      go (NumberRefused d) e q = short-read q
 
-  pub grammar-is : (grammarFrom x ≡ accepted g) ↔ (Holds x (numbersOf g) × (g .start ≡ 0) × Wellformed g)
-  grammar-is = (said-read, said-reads)
+  module _ (w : Wellformed g) where
+    counted-reads : (start at end : ℕ) → start ≡ g .start → NumbersAt (x .number) at (length (g .rules) ∷ rulesNumbers (g .rules)) end → x .more end ≡ false
+        → countedFrom x at (g .nonterminals) start ≡ accepted g
+    counted-reads start at end e i last =
+        let s = one-left i in
+        rw (e, count-reads (x .number) at 128 4 (length (g .rules)) (s .0) (s .1) (w .rules-least) (w .rules-most))
+        (rules-reads x (g .nonterminals) (g .start) (g .rules) (s .0) end [] (s .2) last (w .fits) (w .distinct))
+
+    said-reads : Said → grammarFrom x ≡ accepted g
+    unfolding grammarFrom
+    said-reads (inl (end, i, last)) =
+        let z = one-left i in
+        let f = one-left (z .2) in
+        let s = one-left (f .2) in
+        rw (
+          z .1,
+          count-reads (x .number) (z .0) 32 3 (g .nonterminals) (f .0) (f .1) (w .nonterminals-least) (w .nonterminals-most),
+          field-reads (x .number) (f .0) (g .nonterminals) 6 (g .start) (s .0) (s .1) (w .start-below),
+        )
+        (counted-reads (g .start) (s .0) end refl (s .2) last)
+    said-reads (inr ((end, i, last), zero-start)) =
+        let f = one-left i in
+        rw (
+          f .1,
+          ne-eqb (g .nonterminals) 0 (omega (arith, w .nonterminals-least)),
+          count-reads (x .number) 0 32 3 (g .nonterminals) (f .0) (f .1) (w .nonterminals-least) (w .nonterminals-most),
+        )
+        (counted-reads 0 (f .0) end (sym zero-start) (f .2) last)
+
+  pub grammar-is : (grammarFrom x ≡ accepted g) ↔ (Said × Wellformed g)
+  grammar-is = (said-read, λ (s, w). said-reads w s)
 
   pub grammar-wellformed : grammarFrom x ≡ accepted g → Wellformed g
-  grammar-wellformed h = said-read h .2
+  grammar-wellformed h = said-read h .1

@@ -1,9 +1,11 @@
--- A grammar file is accepted exactly where its bytes are the writing of a well-formed grammar whose start is 0 (document 01, "The two files").
+-- A grammar file is accepted exactly where its bytes are the writing of a well-formed grammar, with its start or, if that is 0, without it
+-- (document 01, "The two files"; document 02, 2.3).
 use Prim.Native.Nat.{ℕ, _≤_}
 use mathlib.Core.Path.{_≡_, refl}
-use mathlib.Core.Logic.{_↔_}
+use mathlib.Core.Logic.{_↔_, _⊎_, inl, inr}
 use mathlib.Core.List.{List, [], _∷_, List·Memᴰ, List·Memᴰ·head, List·Memᴰ·tail}
 use native.Mathlib.Omega.{arith}
+use lib.ListN.{length}
 use Rattle.numbers.specs.believed.Number.{bytes}
 use Rattle.numbers.specs.Written.{AllBelow, written}
 use Rattle.numbers.proofs.Written.{below-append, holds-is}
@@ -11,8 +13,8 @@ use Rattle.rules.specs.RuleNumbers.{ruleNumbers, Fits}
 use Rattle.vpg.specs.declared.Rule.{Rule}
 use Rattle.vpg.specs.believed.Grammar.{Grammar}
 use Rattle.grammar_file.specs.believed.GrammarFile.{accepted, grammarOf}
-use Rattle.grammar_file.specs.Wellformed.{Wellformed, rulesNumbers, numbersOf}
-use Rattle.grammar_file.proofs.Accepted.{grammar-is}
+use Rattle.grammar_file.specs.Wellformed.{Wellformed, rulesNumbers, numbersOf, numbersWithoutStart}
+use Rattle.grammar_file.proofs.Accepted.{Said, grammar-is}
 
 -- the numbers of rules are below every limit that is above their names and nonterminals
 rule-small : (limit n : ℕ) (r : Rule) → 64 ≤ limit → n ≤ limit → Fits n r → AllBelow limit (ruleNumbers r)
@@ -27,14 +29,27 @@ rules-small limit n (r ∷ rs) k h f =
     (rules-small limit n rs k h (λ x m. f x (List·Memᴰ·tail m)))
 
 -- every number of a well-formed grammar has two bytes at most
-numbers-small : (g : Grammar) → Wellformed g → AllBelow 16384 (numbersOf g)
-numbers-small g w = (omega arith, (omega arith, rules-small 16384 (g .nonterminals) (g .rules) (omega arith) (omega (arith, w .nonterminals-most)) (w .fits)))
+rest-small : (g : Grammar) → Wellformed g → AllBelow 16384 (length (g .rules) ∷ rulesNumbers (g .rules))
+rest-small g w = (omega (arith, w .rules-most), rules-small 16384 (g .nonterminals) (g .rules) (omega arith) (omega (arith, w .nonterminals-most)) (w .fits))
+
+pub numbers-small : (g : Grammar) → Wellformed g → AllBelow 16384 (numbersOf g)
+numbers-small g w = (omega arith, (omega (arith, w .nonterminals-most), (omega (arith, w .start-below, w .nonterminals-most), rest-small g w)))
+
+short-small : (g : Grammar) → Wellformed g → AllBelow 16384 (numbersWithoutStart g)
+short-small g w = (omega (arith, w .nonterminals-most), rest-small g w)
+
+-- the bytes of a grammar's file, with or without its start
+abbrev pub FileOf : List ℕ → Grammar → Type 0
+FileOf s g = (s ≡ written (numbersOf g)) ⊎ ((s ≡ written (numbersWithoutStart g)) × (g .start ≡ 0))
 
 pub grammar-both-ways : (s : List ℕ) → AllBelow 256 s → (g : Grammar)
-    → (grammarOf s ≡ accepted g) ↔ ((s ≡ written (numbersOf g)) × (g .start ≡ 0) × Wellformed g)
-grammar-both-ways s b g = (
-  λ h.
-      let a = grammar-is (bytes s) g .0 h in
-      (holds-is s b (numbersOf g) (numbers-small g (a .2)) .0 (a .0), a .1, a .2),
-  λ (e, z, w). grammar-is (bytes s) g .1 (holds-is s b (numbersOf g) (numbers-small g w) .1 e, z, w),
-)
+    → (grammarOf s ≡ accepted g) ↔ (((s ≡ written (numbersOf g)) ⊎ ((s ≡ written (numbersWithoutStart g)) × (g .start ≡ 0))) × Wellformed g)
+grammar-both-ways s b g = (λ h. let a = grammar-is (bytes s) g .0 h in (there (a .1) (a .0), a .1), λ (f, w). grammar-is (bytes s) g .1 (back w f, w))
+  where
+    there : Wellformed g → Said (bytes s) g → FileOf s g
+    there w (inl h) = inl (holds-is s b (numbersOf g) (numbers-small g w) .0 h)
+    there w (inr (h, z)) = inr (holds-is s b (numbersWithoutStart g) (short-small g w) .0 h, z)
+
+    back : Wellformed g → FileOf s g → Said (bytes s) g
+    back w (inl e) = inl (holds-is s b (numbersOf g) (numbers-small g w) .1 e)
+    back w (inr (e, z)) = inr (holds-is s b (numbersWithoutStart g) (short-small g w) .1 e, z)

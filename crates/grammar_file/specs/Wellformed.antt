@@ -23,5 +23,10 @@ abbrev pub rulesNumbers : List Rule → List ℕ
 rulesNumbers [] = []
 rulesNumbers (r ∷ rs) = ruleNumbers r ++ rulesNumbers rs
 
+-- the longer form, which says the start: "a 0; then come stage count, start stage, rule count and rules" (document 02, 2.3)
 abbrev pub numbersOf : Grammar → List ℕ
-numbersOf g = g .nonterminals ∷ length (g .rules) ∷ rulesNumbers (g .rules)
+numbersOf g = 0 ∷ g .nonterminals ∷ g .start ∷ length (g .rules) ∷ rulesNumbers (g .rules)
+
+-- the form without the start, for a grammar whose start is 0
+abbrev pub numbersWithoutStart : Grammar → List ℕ
+numbersWithoutStart g = g .nonterminals ∷ length (g .rules) ∷ rulesNumbers (g .rules)

@@ -1,5 +1,6 @@
 // Reads a grammar file: its head and the rules as a table, or the number of the first fault in file order.
 use numbers::FieldRead;
+use numbers::NumberRead;
 use rules::RuleRead;
 use tables::Head;
 use tables::Table;
@@ -7,9 +8,10 @@ ghost use mathlib.Core.Path.{_≡_};
 ghost use mathlib.Core.List.{[]};
 ghost use Prim.Native.Nat.{_≤_};
 ghost use lib.ListN.{replicate};
-ghost use Rattle.numbers.specs.believed.Number.{bytes};
+ghost use Rattle.numbers.specs.believed.Number.{numberAt, bytes};
+ghost use Rattle.numbers.specs.believed.Field.{fieldAt, countAt};
 ghost use Rattle.grammar_file.specs.believed.GrammarFile;
-ghost use Rattle.grammar_file.specs.believed.GrammarFile.{rulesFrom, grammarOf};
+ghost use Rattle.grammar_file.specs.believed.GrammarFile.{rulesFrom, countedFrom, withoutStart, withStart, grammarOf};
 ghost use Rattle.grammar_file.specs.GrammarTable.{grammarRead};
 
 // At most this many nonterminals (refusal 3) and rules (refusal 4).
@@ -60,24 +62,83 @@ fn rules_at(s: &[u8], from: usize, head: Head, table: &mut Table) -> GrammarAnsw
     GrammarAnswer::Accepted(head)
 }
 
+// The stage count at a place.
+fn stages_at(s: &[u8], at: usize) -> FieldRead
+    ensures { λ r. ⌜ r ≡ countAt (numberAt (now (s .entry))) at 32 3 ⌝ }
+{
+    numbers::count_at(s, at, NONTERMINALS, 3)
+}
+
+// The start at a place: below the stage count.
+fn start_at(s: &[u8], at: usize, nonterminals: u16) -> FieldRead
+    ensures { λ r. ⌜ r ≡ fieldAt (numberAt (now (s .entry))) at nonterminals 6 ⌝ }
+{
+    numbers::field_at(s, at, nonterminals as u32, 6)
+}
+
+// The rule count at a place and the rules behind it.
+fn counted_at(
+    s: &[u8],
+    at: usize,
+    nonterminals: u16,
+    start: u16,
+    table: &mut Table,
+) -> GrammarAnswer
+    requires { ⌜ now table ≡ replicate 1154 0 ⌝ }
+    ensures { λ r. ⌜ (r, now (table .exit)) ≡ grammarRead (countedFrom (bytes (now (s .entry))) at nonterminals start) ⌝ }
+{
+    let count = numbers::count_at(s, at, RULES, 4);
+    let FieldRead::Field(due, next) = count else {
+        return refused(table, numbers::field_refusal(count));
+    };
+    let rules = due as usize;
+    let head = Head {
+        nonterminals,
+        start,
+        rules,
+    };
+    rules_at(s, next, head, table)
+}
+
+// A file that doesn't say its start, which is nonterminal 0.
+fn without_start(s: &[u8], table: &mut Table) -> GrammarAnswer
+    requires { ⌜ now table ≡ replicate 1154 0 ⌝ }
+    ensures { λ r. ⌜ (r, now (table .exit)) ≡ grammarRead (withoutStart (bytes (now (s .entry)))) ⌝ }
+{
+    let count = stages_at(s, 0);
+    let FieldRead::Field(nonterminals, next) = count else {
+        return refused(table, numbers::field_refusal(count));
+    };
+    counted_at(s, next, nonterminals, 0, table)
+}
+
+// A file that says its start, from the place behind its leading 0.
+fn with_start(s: &[u8], at: usize, table: &mut Table) -> GrammarAnswer
+    requires { ⌜ now table ≡ replicate 1154 0 ⌝ }
+    ensures { λ r. ⌜ (r, now (table .exit)) ≡ grammarRead (withStart (bytes (now (s .entry))) at) ⌝ }
+{
+    let count = stages_at(s, at);
+    let FieldRead::Field(nonterminals, next) = count else {
+        return refused(table, numbers::field_refusal(count));
+    };
+    let field = start_at(s, next, nonterminals);
+    let FieldRead::Field(start, behind) = field else {
+        return refused(table, numbers::field_refusal(field));
+    };
+    counted_at(s, behind, nonterminals, start, table)
+}
+
 // Reads the file into a table of zeros that the caller lends; a refused file leaves zeros.
 pub fn read_grammar(s: &[u8], table: &mut Table) -> GrammarAnswer
     requires { ⌜ now table ≡ replicate 1154 0 ⌝ }
     ensures { λ r. ⌜ (r, now (table .exit)) ≡ grammarRead (grammarOf (now (s .entry))) ⌝ }
 {
-    let first = numbers::count_at(s, 0, NONTERMINALS, 3);
-    let FieldRead::Field(nonterminals, at1) = first else {
-        return refused(table, numbers::field_refusal(first));
+    let first = numbers::number_at(s, 0);
+    let NumberRead::Number(n, next) = first else {
+        return without_start(s, table);
     };
-    let second = numbers::count_at(s, at1, RULES, 4);
-    let FieldRead::Field(due, at2) = second else {
-        return refused(table, numbers::field_refusal(second));
-    };
-    let rules = due as usize;
-    let head = Head {
-        nonterminals,
-        start: 0,
-        rules,
-    };
-    rules_at(s, at2, head, table)
+    if n == 0 {
+        return with_start(s, next, table);
+    }
+    without_start(s, table)
 }

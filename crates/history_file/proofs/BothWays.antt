@@ -19,7 +19,7 @@ tokens-small (t ∷ ts) h =
     let k = h t (List·Memᴰ·head refl) in
     (omega arith, tokens-small ts (λ u m. h u (List·Memᴰ·tail m)))
 
-numbers-small : (ts : List ℕ) → Wellformed ts → AllBelow 16384 (length ts ∷ ts)
+pub numbers-small : (ts : List ℕ) → Wellformed ts → AllBelow 16384 (length ts ∷ ts)
 numbers-small ts w = (omega arith, tokens-small ts (w .tokens))
 
 pub history-both-ways : (s : List ℕ) → AllBelow 256 s → (ts : List ℕ) → (historyOf s ≡ accepted ts) ↔ ((s ≡ written (length ts ∷ ts)) × Wellformed ts)

@@ -18,8 +18,8 @@ use Rattle.history_file.specs.believed.HistoryFile.{HistoryFile, historyOf, tok
 use Rattle.history_file.specs.believed.HistoryFile as history-file
 use Rattle.files.specs.believed.Files.{Files, accepted, filesOf}
 use Rattle.files.specs.believed.Files as files
-use Rattle.listing_model.specs.believed.Listing.{Call, first, next, Answer, written, no-reading, no-further, refused, Subject, due, over, overEntries, Shown, find}
-use Rattle.listing_model.specs.Calls.{firstOn, successor, nextOn, callOn}
+use Rattle.listing_model.specs.believed.Listing.{Call, first, next, Answer, written, no-reading, no-further, refused, due, over, overEntries, Shown, find}
+use Rattle.listing_model.specs.Calls.{successor, nextOn, callOn}
 use Rattle.service.specs.believed.Given.{Given, given}
 use Rattle.service.specs.believed.Given as service
 use Rattle.service.specs.believed.Opened.{filesIn, opened, served}

@@ -1,11 +1,10 @@
 -- What every refusal of a reader has in common: a property of the numbers that the reader itself gives holds of each of its refusals.
-use Prim.Native.Nat.{ℕ, zero, suc, _+_, _-_, _*_}
+use Prim.Native.Nat.{ℕ, zero, suc, _+_, _-_}
 use mathlib.Core.Bool.{Bool, true, false, cond, _&&_, _||_}
 use mathlib.Core.List.{List, [], _∷_, _++_}
 use lib.Dec.{eqb, ltb, leb}
 use lib.ListN.{length, getD}
 use Rattle.vpg.specs.declared.Rule.{Rule}
-use Rattle.vpg.specs.believed.Grammar.{Grammar}
 use Rattle.numbers.specs.declared.NumberRead.{NumberRead}
 use Rattle.numbers.specs.declared.NumberRead.the-variants.{Number, Refused as NumberRefused}
 use Rattle.numbers.specs.declared.FieldRead.{FieldRead}
@@ -18,7 +17,7 @@ use Rattle.rules.specs.declared.RuleRead.{RuleRead}
 use Rattle.rules.specs.declared.RuleRead.the-variants.{Read, Refused as RuleRefused}
 use Rattle.rules.specs.believed.Rule.{names, forms, first, second, pairAt, after, stepAt, bodyAt, ruleAt}
 use Rattle.tables.specs.Table.{earlier}
-use Rattle.grammar_file.specs.believed.GrammarFile.{GrammarFile, afterRule, rulesFrom, afterCount, grammarFrom, grammarOf}
+use Rattle.grammar_file.specs.believed.GrammarFile.{GrammarFile, afterRule, rulesFrom, afterCount, countedFrom, withoutStart, withStart, either, grammarFrom, grammarOf}
 use Rattle.grammar_file.specs.believed.GrammarFile as grammar
 use Rattle.history_file.specs.declared.TokenRead.{TokenRead}
 use Rattle.history_file.specs.declared.TokenRead.the-variants.{Token as TokenIs, Refused as TokenRefused}
@@ -171,13 +170,29 @@ module _ (P : ℕ → Type 0) where
     after-tokens-of (FieldRefused e) h rest k = h
 
     -- beside the source's own numbers a grammar is refused by 3 to 9
-    pub grammar-from-of : P 3 → P 4 → P 5 → P 6 → P 7 → P 8 → P 9 → OfGrammar (grammarFrom x)
-    unfolding grammarFrom
-    grammar-from-of three four five six seven eight nine =
-        after-count-of (countAt (x .number) 0 32 3) (count-of (x .number) of 0 32 3 three) _
-        (λ nonterminals at1.
-        after-count-of (countAt (x .number) at1 128 4) (count-of (x .number) of at1 128 4 four) _
-        (λ due at2. rules-of five six seven eight nine nonterminals 0 due at2 []))
+    module _ (three : P 3) (four : P 4) (five : P 5) (six : P 6) (seven : P 7) (eight : P 8) (nine : P 9) where
+      counted-of : (at nonterminals start : ℕ) → OfGrammar (countedFrom x at nonterminals start)
+      counted-of at nonterminals start =
+          after-count-of (countAt (x .number) at 128 4) (count-of (x .number) of at 128 4 four) _
+          (λ due next. rules-of five six seven eight nine nonterminals start due next [])
+
+      without-of : OfGrammar (withoutStart x)
+      without-of = after-count-of (countAt (x .number) 0 32 3) (count-of (x .number) of 0 32 3 three) _ (λ nonterminals next. counted-of next nonterminals 0)
+
+      with-of : (at : ℕ) → OfGrammar (withStart x at)
+      with-of at =
+          after-count-of (countAt (x .number) at 32 3) (count-of (x .number) of at 32 3 three) _
+          (λ nonterminals next.
+          after-count-of (fieldAt (x .number) next nonterminals 6) (field-of (x .number) of next nonterminals 6 six) _
+          (λ start behind. counted-of behind nonterminals start))
+
+      either-of : (r : NumberRead) → OfGrammar (either r (withStart x) (withoutStart x))
+      either-of (Number n next) = chosen OfGrammar (eqb n 0) (with-of next) without-of
+      either-of (NumberRefused e) = without-of
+
+      pub grammar-from-of : OfGrammar (grammarFrom x)
+      unfolding grammarFrom
+      grammar-from-of = either-of (x .number 0)
 
     -- and a history by 9 to 14
     pub history-from-of : P 9 → P 10 → P 11 → P 12 → P 13 → P 14 → OfHistory (historyFrom x)

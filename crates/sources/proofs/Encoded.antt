@@ -40,14 +40,10 @@ shortest-bytes n h = go (ltb n 128) refl
     go true e = let l = ltb-true n 128 e in (omega arith, tt)
     go false e = (omega arith, (omega arith, tt))
 
-written-bytes : (ns : List ℕ) → AllBelow 256 (written (map writable ns))
+pub bytes-below : (ns : List ℕ) → AllBelow 16384 ns → AllBelow 256 (written ns)
 unfolding written
-written-bytes [] = tt
-written-bytes (n ∷ ns) = below-append 256 (shortest (writable n)) (written (map writable ns)) (shortest-bytes (writable n) (writable-small n)) (written-bytes ns)
-
-pub encoded-bytes : (es : List ℕ) → AllBelow 256 (encoded es)
-unfolding encoded
-encoded-bytes es = written-bytes (take 1026 es)
+bytes-below [] h = tt
+bytes-below (n ∷ ns) h = below-append 256 (shortest n) (written ns) (shortest-bytes n (h .0)) (bytes-below ns (h .1))
 
 -- ── the places of elements and bytes ──
 
@@ -137,8 +133,8 @@ module _ (es : List ℕ) (most : ℕ) where
   unfolding written
   starts k h = record { few = omega arith; place = refl }
 
-  grammar-cut : 770 < most → grammarFrom (elements es) ≡ grammarOf (bytesTo es most)
-  grammar-cut h = grammar-alike together (omega arith) (omega arith) (starts 770 h)
+  grammar-cut : 772 < most → grammarFrom (elements es) ≡ grammarOf (bytesTo es most)
+  grammar-cut h = grammar-alike together (omega arith) (omega arith) (starts 772 h)
 
   history-cut : 1025 < most → historyFrom (elements es) ≡ historyOf (bytesTo es most)
   history-cut h = history-alike together (omega arith) (starts 1025 h)

@@ -3,8 +3,11 @@ use Prim.Native.Nat.{ℕ, zero, suc, _+_, _*_, _<_, _≤_}
 use mathlib.Core.Path.{_≡_, refl, ap}
 use mathlib.Core.Bool.{Bool, true, false, cond}
 use mathlib.Core.List.{List, [], _∷_, _++_}
+use mathlib.Core.Logic.{inl, inr}
 use native.Mathlib.Omega.{arith}
+use borrow.Author.Tests.{ne-eqb}
 use lib.Dec.{eqb}
+use Rattle.numbers.specs.declared.NumberRead.{NumberRead}
 use Rattle.numbers.specs.declared.FieldRead.{FieldRead}
 use Rattle.numbers.specs.believed.Number.{Source}
 use Rattle.rules.specs.declared.PairRead.{PairRead}
@@ -14,8 +17,8 @@ use Rattle.rules.specs.declared.RuleRead.the-variants.{Read, Refused as RuleRef
 use Rattle.rules.specs.believed.Rule.{names, forms, first, second, pairAt, after, stepAt, bodyAt, ruleAt}
 use Rattle.tables.specs.Table.{earlier}
 use Rattle.vpg.specs.declared.Rule.{Rule}
-use Rattle.grammar_file.specs.believed.GrammarFile.{GrammarFile, refused, afterRule, afterCount, rulesFrom, grammarFrom}
-use Rattle.sources.proofs.Alike.{Alike, SameField, both-fields, no-field, field-alike, count-alike}
+use Rattle.grammar_file.specs.believed.GrammarFile.{GrammarFile, refused, afterRule, afterCount, rulesFrom, countedFrom, withoutStart, withStart, either, grammarFrom}
+use Rattle.sources.proofs.Alike.{SameNumber, both, neither, Alike, SameField, both-fields, no-field, field-alike, count-alike}
 
 data SamePair (At : ℕ → ℕ → Type 0) : PairRead → PairRead → Type 0 where
   both-pairs : {a b p q : ℕ} → At p q → SamePair At (Pair a b p) (Pair a b q)
@@ -110,12 +113,33 @@ module _ {x y : Source} {limit : ℕ} {At : ℕ → ℕ → ℕ → Type 0} (ali
         after-rule-alike _ _ (rule-alike (6 * due) p q (alike .fewer (six (6 * due)) (6 * suc due) p q (omega arith) a))
         (λ R p1 q1 b. ap (cond (earlier R rules) (refused 8)) (rules-alike start due p1 q1 (rules ++ (R ∷ [])) b))
 
-  -- ── the file: two counts and at most 128 rules of six numbers ──
+    -- ── the file: its head, and at most 128 rules of six numbers ──
 
-  pub grammar-alike : 129 ≤ limit → At 770 0 0 → grammarFrom x ≡ grammarFrom y
+    counted-alike : (start k p q : ℕ) → 129 ≤ limit → 769 ≤ k → At k p q → countedFrom x p nonterminals start ≡ countedFrom y q nonterminals start
+    counted-alike start k p q h room a =
+        after-count-alike _ _ (count-alike alike 768 p q 128 4 (omega arith) (alike .fewer 769 k p q room a))
+        (λ due p1 q1 most b. rules-alike start due p1 q1 [] (alike .fewer (6 * due) 768 p1 q1 (omega arith) b))
+
+  either-alike : (k : ℕ) {r s : NumberRead} (f g : ℕ → GrammarFile) (c d : GrammarFile) → 1 ≤ limit → SameNumber limit (At k) r s
+      → ((p q : ℕ) → At k p q → f p ≡ g q) → c ≡ d → either r f c ≡ either s g d
+  either-alike k f g c d h (both {n} {m} {p} {q} (inl same) a) long short = rw (same, short, long p q a)
+  either-alike k f g c d h (both {n} {m} (inr (l, e)) a) long short = rw (ne-eqb n 0 (omega arith), ne-eqb m 0 (omega arith)) short
+  either-alike k f g c d h neither long short = short
+
+  without-alike : 129 ≤ limit → At 772 0 0 → withoutStart x ≡ withoutStart y
+  without-alike h a =
+      after-count-alike _ _ (count-alike alike 771 0 0 32 3 (omega arith) a)
+      (λ n p q few b. counted-alike n (omega arith) 0 771 p q h (omega arith) b)
+
+  with-alike : (p q : ℕ) → 129 ≤ limit → At 771 p q → withStart x p ≡ withStart y q
+  with-alike p q h a =
+      after-count-alike _ _ (count-alike alike 770 p q 32 3 (omega arith) a)
+      (λ n p1 q1 few b.
+      after-count-alike _ _ (field-alike alike 769 p1 q1 n 6 (omega arith) b)
+      (λ start p2 q2 below c. counted-alike n (omega arith) start 769 p2 q2 h (omega arith) c))
+
+  pub grammar-alike : 129 ≤ limit → At 772 0 0 → grammarFrom x ≡ grammarFrom y
   unfolding grammarFrom
   grammar-alike h a =
-      after-count-alike _ _ (count-alike alike 769 0 0 32 3 (omega arith) a)
-      (λ n p1 q1 few b.
-      after-count-alike _ _ (count-alike alike 768 p1 q1 128 4 (omega arith) b)
-      (λ due p2 q2 most c. rules-alike n (omega arith) 0 due p2 q2 [] (alike .fewer (6 * due) 768 p2 q2 (omega arith) c)))
+      either-alike 771 (withStart x) (withStart y) (withoutStart x) (withoutStart y) (omega arith) (alike .number 771 0 0 a)
+      (λ p q b. with-alike p q h b) (without-alike h a)

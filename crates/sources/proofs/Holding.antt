@@ -17,7 +17,7 @@ use Rattle.numbers.specs.believed.Number.{numberAt, bytes}
 use Rattle.numbers.specs.Written.{NumbersAt, none, one, Holds}
 use Rattle.elements.specs.believed.Elements.{elementAt, elements}
 
-apart : {A : Type 0} {e n next : ℕ} → Refused e ≡ Number n next → A
+pub apart : {A : Type 0} {e n next : ℕ} → Refused e ≡ Number n next → A
 apart h = absurd (let z : _≡_ {A = ℕ} 0 1 = cc in omega arith)
 
 -- ── elements ──

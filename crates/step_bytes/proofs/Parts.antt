@@ -11,7 +11,6 @@ use Rattle.numbers.specs.Written.{AllBelow, written}
 use Rattle.numbers.proofs.Written.{below-all, written-append}
 use Rattle.history_file.specs.believed.HistoryFile
 use Rattle.history_file.specs.believed.HistoryFile.{HistoryFile, historyOf}
-use Rattle.history_file.specs.Wellformed.{Wellformed}
 use Rattle.history_file.proofs.BothWays.{history-both-ways}
 use Rattle.step_bytes.specs.declared.StepPlace.{StepPlace}
 use Rattle.step_bytes.specs.believed.StepBytes.{StepPart, part, refused, stepLength, partFrom, stepIn, stepFrom, stepOf, bytesIn, startIn, numberIn}

@@ -12,7 +12,7 @@ use borrow.Author.Tests.{ltb-true}
 use Rattle.numbers.specs.Written.{shortest, written}
 use Rattle.history_file.specs.believed.HistoryFile.{kind, depthAfter}
 use Rattle.step_bytes.specs.declared.StepEnd.{StepEnd}
-use Rattle.step_bytes.specs.believed.StepBytes.{StepPart, refused, later, stepLength, partFrom, stepIn}
+use Rattle.step_bytes.specs.believed.StepBytes.{refused, later, stepLength, partFrom, stepIn}
 use Rattle.step_bytes.specs.Places.{ended}
 
 pub ended-some : (x : Option ℕ) (k : ℕ) → StepEnd.Tokens k ≡ ended x → x ≡ some k

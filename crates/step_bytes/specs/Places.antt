@@ -1,7 +1,6 @@
 -- Where a step's bytes stand, as the functions on the way to the two services answer it.
 -- Inner: locate (step_bytes/src/lib.rt)
 use Prim.Native.Nat.{ℕ}
-use mathlib.Core.List.{List}
 use mathlib.Core.Option.{Option, none, some}
 use lib.ListN.{length}
 use Rattle.numbers.specs.Written.{written}

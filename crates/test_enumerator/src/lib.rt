@@ -31,13 +31,14 @@ struct Turn {
 
 const TURNS: u32 = 4000000;
 
-// Field k of rule r: the form, then the fields in file order.
+// Field k of rule r: the form, then the fields in file order. The start stands before the first rule.
 fn field(rules: &[u8], r: u8, k: u8) -> usize
     ensures { λ x. ⌜ x ≤ 255 ⌝ }
 {
-    at(rules, wide(r) * 6 + wide(k))
+    at(rules, 1 + wide(r) * 6 + wide(k))
 }
 
+// How many rules there are; the start's byte is less than a rule.
 fn rule_count(rules: &[u8]) -> u8 {
     (rules.len() / 6 % 256) as u8
 }
@@ -71,7 +72,7 @@ fn nonterminal_at(rules: &[u8], tokens: &[u8], path: &[u8], p: usize) -> usize
     requires { ⌜ p < 2000 ⌝ }
 {
     if p == 0 {
-        return 0;
+        return at(rules, 0);
     }
     if at(tokens, p - 1) % 4 == 2 {
         let open = open_before(tokens, p - 1);
@@ -183,7 +184,7 @@ fn search(rules: &[u8], tokens: &[u8], path: &mut [u8], start: Turn) -> Found
     Found::Reading
 }
 
-// Writes the first reading; rules are six bytes each, the path has a byte for each position.
+// Writes the first reading; the rules are the start's byte and then six bytes each, the path has a byte for each position.
 pub fn first(rules: &[u8], tokens: &[u8], path: &mut [u8]) -> Found
     ensures { λ _. ⌜ length (now (path .exit)) ≡ length (now (path .entry)) ⌝ }
 {

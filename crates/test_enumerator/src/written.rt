@@ -32,11 +32,23 @@ fn at_most(x: usize, limit: usize) -> usize
     if x < limit { x } else { limit }
 }
 
-// How many bytes the rules of a grammar take here: six each.
-pub fn rule_bytes(file: &[u8]) -> usize
-    ensures { λ r. ⌜ r ≤ 768 ⌝ }
+// Where a grammar's rule count stands: behind the stage count; or, in a file that begins with a 0, behind stage count and start.
+fn count_place(file: &[u8]) -> usize
+    ensures { λ r. ⌜ r ≤ 3 ⌝ }
 {
-    at_most(number(file, 1), 128) * 6
+    if at(file, 0) == 0 { 3 } else { 1 }
+}
+
+// The nonterminal that a grammar starts from: the one behind a leading 0 and the stage count, else 0.
+fn start_of(file: &[u8]) -> u8 {
+    if at(file, 0) == 0 { byte(file, 2) } else { 0 }
+}
+
+// How many bytes the start and the rules of a grammar take here: one, and six for each rule.
+pub fn rule_bytes(file: &[u8]) -> usize
+    ensures { λ r. ⌜ r ≤ 769 ⌝ }
+{
+    1 + at_most(number(file, count_place(file)), 128) * 6
 }
 
 pub fn token_count(file: &[u8]) -> usize
@@ -59,14 +71,15 @@ fn copy_rule(file: &[u8], p: usize, rules: &mut [u8], to: usize) -> usize
     p + size
 }
 
-// The rules of a grammar, six bytes each, zeros where a rule has fewer.
-pub fn rules_of(file: &[u8]) -> [u8; 768]
-    ensures { λ r. ⌜ length r ≡ 768 ⌝ }
+// The start and the rules of a grammar, six bytes for each rule, zeros where it has fewer.
+pub fn rules_of(file: &[u8]) -> [u8; 769]
+    ensures { λ r. ⌜ length r ≡ 769 ⌝ }
 {
-    let mut rules = [0u8; 768];
+    let mut rules = [0u8; 769];
+    rules[0] = start_of(file);
     let size = rule_bytes(file);
-    let mut p = behind(file, 1);
-    let mut to: usize = 0;
+    let mut p = behind(file, count_place(file));
+    let mut to: usize = 1;
     while to < size {
         p = copy_rule(file, p, &mut rules, to);
         to += 6;

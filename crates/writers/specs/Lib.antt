@@ -1,2 +1,3 @@
 pub mod believed
 pub mod Passing
+pub mod Longer

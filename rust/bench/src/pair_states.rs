@@ -6,6 +6,22 @@ use frames::{Rule, Token};
 /// A state of pairs: bit L2 of word L1 for the pair of context L1 and current stage L2.
 type Pairs = [u32; 32];
 
+/// The state before the first token: the start stage in its own context.
+fn started(start: u16) -> Pairs {
+    let mut pairs = [0; 32];
+    pairs[usize::from(start)] = 1 << start;
+    pairs
+}
+
+/// Both files, where there is room for the marks; or the number of the refusal.
+fn opened(grammar: &[u8], history: &[u8], marks: &[u8]) -> Result<Read, u8> {
+    let read = read(grammar, history)?;
+    if marks.len() <= read.tokens.len() {
+        return Err(15);
+    }
+    Ok(read)
+}
+
 /// Each word goes from the stages in it to those that a rule of the given kind leads to.
 fn led(pairs: &Pairs, rules: &[Rule], lead: impl Fn(&Rule) -> Option<u16>) -> Pairs {
     let mut out = [0; 32];
@@ -23,13 +39,14 @@ fn led(pairs: &Pairs, rules: &[Rule], lead: impl Fn(&Rule) -> Option<u16>) -> Pa
 
 /// Over all rules, a word to each context.
 pub fn by_contexts(grammar: &[u8], history: &[u8], marks: &mut [u8]) -> u8 {
-    let Read { rules, tokens } = match read(grammar, history) {
+    let Read {
+        start,
+        rules,
+        tokens,
+    } = match opened(grammar, history, marks) {
         Ok(read) => read,
         Err(number) => return number,
     };
-    if marks.len() <= tokens.len() {
-        return 15;
-    }
     let mut ends = 0u32;
     for rule in &rules {
         if let Rule::Ends { from } = rule {
@@ -37,8 +54,7 @@ pub fn by_contexts(grammar: &[u8], history: &[u8], marks: &mut [u8]) -> u8 {
         }
     }
     let mut stack: Vec<(Pairs, u16)> = Vec::new();
-    let mut pairs = [0u32; 32];
-    pairs[0] = 1;
+    let mut pairs = started(start);
     for (place, token) in tokens.iter().enumerate() {
         marks[place] = u8::from(stack.is_empty() && pairs.iter().any(|word| word & ends != 0));
         pairs = match *token {
@@ -93,18 +109,18 @@ fn finished(pairs: &Pairs, ends: u32) -> u32 {
 
 /// By the index, a word to each current stage, as the library has it.
 pub fn by_currents(grammar: &[u8], history: &[u8], marks: &mut [u8]) -> u8 {
-    let Read { rules, tokens } = match read(grammar, history) {
+    let Read {
+        start,
+        rules,
+        tokens,
+    } = match opened(grammar, history, marks) {
         Ok(read) => read,
         Err(number) => return number,
     };
-    if marks.len() <= tokens.len() {
-        return 15;
-    }
     let index = Classes::of(&rules);
     let ends = index.ends().map_or(0, |ends| ends.stages);
     let mut stack: Vec<(Pairs, u16)> = Vec::new();
-    let mut pairs = [0; 32];
-    pairs[0] = 1;
+    let mut pairs = started(start);
     for (place, &token) in tokens.iter().enumerate() {
         marks[place] = u8::from(stack.is_empty() && finished(&pairs, ends) != 0);
         pairs = match token {

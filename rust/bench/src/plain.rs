@@ -5,14 +5,19 @@ use frames::{Rule, Token};
 use reference::{parse_grammar, parse_history, Grammar, NO_FURTHER, NO_READING};
 
 pub struct Read {
+    pub start: u16,
     pub rules: Vec<Rule>,
     pub tokens: Vec<Token>,
 }
 
 pub fn read(grammar: &[u8], history: &[u8]) -> Result<Read, u8> {
-    let Grammar { rules, .. } = parse_grammar(grammar)?;
+    let Grammar { start, rules, .. } = parse_grammar(grammar)?;
     let tokens = parse_history(history)?;
-    Ok(Read { rules, tokens })
+    Ok(Read {
+        start,
+        rules,
+        tokens,
+    })
 }
 
 /// For each position the first pending close behind it: for an open its own close. n where there is none.
@@ -194,7 +199,7 @@ impl<I: Index> Levels<I> {
     fn kept(&self, mut each: impl FnMut(usize, [u32; 4], u32)) {
         let n = self.read.tokens.len();
         let mut behind = vec![0u32; n + 1];
-        let mut here = self.able[0] & 1;
+        let mut here = self.able[0] & 1 << self.read.start;
         for (place, &close) in self.close.iter().enumerate() {
             let set = self.set_at(here, place);
             each(place, set.words, set.held);
@@ -224,11 +229,12 @@ fn number(answer: Result<u8, u8>) -> u8 {
 pub fn first_reading<I: Index>(grammar: &[u8], history: &[u8], out: &mut [u8]) -> u8 {
     number(
         levels::<I>(grammar, history, out.len(), |positions| positions).map(|levels| {
-            if !has(levels.able[0], 0) {
+            let start = levels.read.start;
+            if !has(levels.able[0], start) {
                 return NO_READING;
             }
             let mut behind = vec![0; levels.read.tokens.len() + 1];
-            levels.fill(0, 0, &mut behind, out);
+            levels.fill(start, 0, &mut behind, out);
             0
         }),
     )
@@ -243,7 +249,7 @@ pub fn next_reading<I: Index>(grammar: &[u8], history: &[u8], out: &mut [u8]) ->
     let rules = &levels.read.rules;
     let mut at = vec![0; n + 1];
     let mut behind = vec![0; n + 1];
-    let mut stage = 0;
+    let mut stage = levels.read.start;
     for place in 0..=n {
         at[place] = stage;
         match rules.get(usize::from(out[place])) {

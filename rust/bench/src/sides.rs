@@ -136,3 +136,60 @@ fn in_rust<I: Index>(service: Service, grammar: &[u8], history: &History, to: &m
         Service::StopMarks => pair_states::by_currents(grammar, file, &mut to.bytes).into(),
     }
 }
+
+#[cfg(test)]
+mod tests {
+    use super::*;
+    use frames::{g_from, G_EXCHANGED};
+
+    /// What a side gives: the first reading if there is one, what "next reading" answers after it, the sets' first words,
+    /// the doubtful count, and the stop marks.
+    type Given = (Vec<u8>, u32, Vec<u32>, u32, Vec<u8>);
+
+    fn given(side: Side, grammar: &[u8], file: &[u8]) -> Given {
+        let n = file.len() - 1;
+        let first = vec![77; n + 1];
+        let mut history = History { file, first };
+        let mut made = |service| {
+            let mut to = Buffers::of(service, n);
+            let answer = call(side, service, grammar, &history, &mut to);
+            if (service, answer) == (Service::FirstReading, 0) {
+                history.first.clone_from(&to.bytes);
+            }
+            (answer, to)
+        };
+        let (answer, to) = made(Service::FirstReading);
+        let first = if answer == 0 { to.bytes } else { vec![] };
+        let (next, _) = made(Service::NextReading);
+        let (_, to) = made(Service::Sets);
+        let words = to.words.chunks(4).map(|words| words[0]).collect();
+        let (doubtful, _) = made(Service::DoubtfulCount);
+        let (_, to) = made(Service::StopMarks);
+        (first, next, words, doubtful, to.bytes)
+    }
+
+    /// Every side goes by the start that the file says.
+    #[test]
+    fn other_starts() {
+        let from_1 = &g_from(1)[..];
+        let step = &[3, 1, 0, 2];
+        let none = (vec![], 16, vec![0; 4], 0, vec![1, 0, 0, 0]);
+        let two = vec![1, 3, 4, 0];
+        let two = (two, 0, vec![6, 40, 80, 1], 3, vec![1, 0, 0, 1]);
+        let cases: [(&[u8], &[u8], Given); 4] = [
+            (from_1, &[0], (vec![4], 101, vec![16], 0, vec![1])),
+            (
+                from_1,
+                &[2, 0, 0],
+                (vec![3, 3, 4], 101, vec![8, 8, 16], 0, vec![1; 3]),
+            ),
+            (from_1, step, none),
+            (&G_EXCHANGED, step, two),
+        ];
+        for (grammar, history, due) in cases {
+            for side in SIDES {
+                assert_eq!(given(side, grammar, history), due);
+            }
+        }
+    }
+}

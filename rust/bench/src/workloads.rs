@@ -1,4 +1,5 @@
-//! The files that are timed: a grammar, and one history or many in turn.
+//! The files that are timed: a grammar, and one history or many in turn. No grammar says its start: so a library that is
+//! older than such files can be timed beside this one.
 use frames::{grammar_file, history_file, Rule, Token, G};
 
 pub struct Workload {
@@ -25,7 +26,7 @@ fn many_rules(count: usize) -> Vec<u8> {
     let rules = staged(stages, |_, later, other| {
         [0, u16::from(later == other), 0, 0]
     });
-    grammar_file(stages.into(), &rules)
+    grammar_file(stages.into(), None, &rules)
 }
 
 /// The same with the names dealt out to the rules.
@@ -164,7 +165,7 @@ fn repeated() -> Vec<Workload> {
     };
     let marks = history_file(&[Token::Mark(0); 1000]);
     let name = "1,000 marks, one reading".into();
-    add("workload", 2, name, grammar_file(1, &MARKS), marks);
+    add("workload", 2, name, grammar_file(1, None, &MARKS), marks);
     for (group, count) in [("workload", 16), ("listing", 340)] {
         let name = format!("{count} ambiguous steps");
         add(group, 7, name, G.to_vec(), steps(count));
@@ -188,7 +189,7 @@ fn by_names(histories: u64) -> Vec<Workload> {
             group: "names",
             size,
             name,
-            grammar: grammar_file(stages, rules),
+            grammar: grammar_file(stages, None, rules),
             histories: (1..=histories).map(|k| walked(rules, 1024, k)).collect(),
         });
     };

@@ -1,7 +1,7 @@
 //! One case: two files, the lent buffers of every service, a position and what the writers are called with; and the
 //! comparison of both sides on it.
+use crate::faults::{spoiled, Fault};
 use crate::writing::{self, Kind, Writing};
-use frames::Token;
 use gaffmedlar::raw;
 use reference::Work;
 use std::fmt::Write;
@@ -52,7 +52,7 @@ pub enum Service {
     /// The writers, and what they write read back.
     WriteGrammar,
     WriteHistory,
-    /// A file of the case that passes, written from its own numbers.
+    /// A file of the case that passes, written from its own numbers, twice; and the sets by such a grammar.
     GrammarAgain,
     HistoryAgain,
 }
@@ -71,62 +71,6 @@ pub const SERVICES: [Service; 13] = [
     Service::WriteHistory,
     Service::GrammarAgain,
     Service::HistoryAgain,
-];
-
-/// A wrong library, planted to see that it is found.
-#[derive(Clone, Copy, PartialEq, Eq, Debug)]
-pub enum Fault {
-    /// "No further" after the second reading.
-    StopsAfterTwo,
-    /// "None" answered as written.
-    NoneAsWritten,
-    /// One more element written than is due.
-    WritesOneMore,
-    /// The last rule of a set with two or more is lost.
-    SetLoses,
-    /// A mark at the end alone.
-    MarksTheEndOnly,
-    /// 14 answered as 13.
-    FourteenAsThirteen,
-    /// 15 only where the buffer is two elements short.
-    FifteenLate,
-    /// A step ends at the first close behind its open.
-    FirstCloseEnds,
-    /// 17 for a history that is refused.
-    SeventeenEarly,
-    /// A position of which the low 32 bits count alone.
-    PositionCut,
-    /// A writer's 15 before the number of what it is to write.
-    FifteenFirst,
-    /// A writer that is refused has written a byte.
-    RefusalWrites,
-    /// A writer clears what is behind the file in the buffer.
-    BehindCleared,
-    /// A writer tells one byte more than the file has.
-    LengthOneMore,
-    /// Every number is written in one byte.
-    WideInOneByte,
-    /// Elements behind the last one don't count.
-    RestIgnored,
-}
-
-pub const FAULTS: [Fault; 16] = [
-    Fault::StopsAfterTwo,
-    Fault::NoneAsWritten,
-    Fault::WritesOneMore,
-    Fault::SetLoses,
-    Fault::MarksTheEndOnly,
-    Fault::FourteenAsThirteen,
-    Fault::FifteenLate,
-    Fault::FirstCloseEnds,
-    Fault::SeventeenEarly,
-    Fault::PositionCut,
-    Fault::FifteenFirst,
-    Fault::RefusalWrites,
-    Fault::BehindCleared,
-    Fault::LengthOneMore,
-    Fault::WideInOneByte,
-    Fault::RestIgnored,
 ];
 
 /// What a service gave: its number, its counts, and its buffers afterwards.
@@ -258,12 +202,12 @@ pub fn library(case: &Case, service: Service) -> Outcome {
         Service::StepBytes => library_step(history, case.position),
         Service::WriteGrammar => writing::library(&case.write_grammar, Kind::Grammar),
         Service::WriteHistory => writing::library(&case.write_history, Kind::History),
-        Service::GrammarAgain => writing::library_again(grammar, Kind::Grammar),
+        Service::GrammarAgain => writing::library_grammar_again(grammar, history),
         Service::HistoryAgain => writing::library_again(history, Kind::History),
     }
 }
 
-fn library_step(history: &[u8], position: usize) -> Outcome {
+pub fn library_step(history: &[u8], position: usize) -> Outcome {
     let part = raw::step_bytes(history, position);
     let number = raw::step_refusal(history, position);
     Outcome::of(number, &[part.start as u64, part.length as u64], &[], &[])
@@ -315,81 +259,9 @@ pub fn due(case: &Case, work: &Work, service: Service) -> Outcome {
         },
         Service::WriteGrammar => writing::due(&case.write_grammar, Kind::Grammar),
         Service::WriteHistory => writing::due(&case.write_history, Kind::History),
-        Service::GrammarAgain => writing::due_again(&case.grammar, Kind::Grammar),
+        Service::GrammarAgain => writing::due_grammar_again(&case.grammar, work),
         Service::HistoryAgain => writing::due_again(&case.history, Kind::History),
     }
-}
-
-/// Where the first close behind the open at a position ends: it closes the last step that was opened before it.
-fn first_close_end(history: &[u8], position: usize) -> u64 {
-    let tokens = reference::parse_history(history).expect("the history passed");
-    let closes = |token: &Token| matches!(token, Token::Close(_));
-    let inside = tokens[position..].iter().take_while(|token| !closes(token));
-    let opens = |(_, token): &(usize, &Token)| matches!(token, Token::Open(_));
-    let (further, _) = inside.enumerate().filter(opens).last().expect("an open");
-    let step = reference::step_bytes(history, position + further);
-    step.expect("a step").end as u64
-}
-
-/// A true outcome turned into a wrong one, where the planted fault shows.
-fn spoiled(fault: Fault, case: &Case, service: Service, outcome: Outcome) -> Outcome {
-    let mut wrong = outcome;
-    match (fault, service) {
-        (Fault::StopsAfterTwo, Service::NextReading) if wrong.answer == 0 => {
-            let work = Work::new(&case.grammar, &case.history);
-            let second = work.reading_at(&reference::big::Big::new(1));
-            if second.is_some_and(|second| case.next.starts_with(&second)) {
-                wrong.answer = reference::NO_FURTHER;
-                wrong.lent[0] = case.next.clone();
-            }
-        }
-        (Fault::NoneAsWritten, Service::FirstReading) if wrong.answer == reference::NO_READING => {
-            wrong.answer = 0;
-        }
-        (Fault::WritesOneMore, Service::FirstReading) if wrong.answer == 0 => {
-            let positions = Work::new(&case.grammar, &case.history).positions();
-            if let Some(byte) = positions.and_then(|after| wrong.lent[0].get_mut(after)) {
-                *byte = 0;
-            }
-        }
-        (Fault::SetLoses, Service::Sets) if wrong.answer == 0 => {
-            for word in &mut wrong.words {
-                if word.count_ones() == 2 && *word < 64 {
-                    *word &= *word - 1;
-                    break;
-                }
-            }
-        }
-        (Fault::MarksTheEndOnly, Service::StopMarks) if wrong.answer == 0 => {
-            if let Some(n) = Work::new(&case.grammar, &case.history).positions() {
-                wrong.lent[0][..n - 1].fill(0);
-            }
-        }
-        (Fault::FourteenAsThirteen, Service::HistoryCheck) if wrong.answer == 14 => {
-            wrong.answer = 13;
-        }
-        (Fault::FifteenLate, Service::FirstReading) if wrong.answer == 15 => {
-            let positions = Work::new(&case.grammar, &case.history).positions();
-            if positions == Some(case.first.len() + 1) {
-                wrong.answer = 0;
-            }
-        }
-        (Fault::FirstCloseEnds, Service::StepBytes) if wrong.answer == 0 => {
-            wrong.counts[1] = first_close_end(&case.history, case.position) - wrong.counts[0];
-        }
-        (Fault::SeventeenEarly, Service::StepBytes) if wrong.answer != 0 => wrong.answer = 17,
-        (Fault::PositionCut, Service::StepBytes) => {
-            return library_step(&case.history, case.position as u32 as usize);
-        }
-        (_, Service::WriteGrammar) => {
-            return writing::spoiled(fault, &case.write_grammar, Kind::Grammar, wrong);
-        }
-        (_, Service::WriteHistory) => {
-            return writing::spoiled(fault, &case.write_history, Kind::History, wrong);
-        }
-        _ => {}
-    }
-    wrong
 }
 
 /// Both sides on every service; the first difference, if there is one. `seen` is told each answer of the library.

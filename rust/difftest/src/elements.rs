@@ -1,4 +1,6 @@
 //! Makes the elements that a writer is called with: the numbers of a file as they are, changed at one place, or any numbers.
+use crate::grammars::Made;
+use crate::heads;
 use crate::random::Random;
 use crate::writing::Kind;
 
@@ -27,21 +29,23 @@ pub fn elements(random: &mut Random, file: &[u8], kind: Kind) -> Vec<u32> {
         return any(random);
     }
     let mut elements = match random.below(400) {
-        0 => longest(kind),
+        0 => longest(random, kind),
         _ => gaffmedlar::numbers(file),
     };
-    if random.percent(55) {
-        change(random, &mut elements);
+    match (kind, random.below(100)) {
+        (Kind::Grammar, 0..=14) => heads::damage(random, &mut elements),
+        (_, 15..=69) => change(random, &mut elements),
+        _ => {}
     }
     elements
 }
 
-/// 128 rules of six numbers, or 1,024 tokens of two bytes each: no file has more bytes.
-fn longest(kind: Kind) -> Vec<u32> {
+/// 128 rules of six numbers, with or without the start, or 1,024 tokens of two bytes each: no file has more bytes.
+fn longest(random: &mut Random, kind: Kind) -> Vec<u32> {
     match kind {
         Kind::Grammar => {
-            let rules = (0..128).flat_map(|rule| [2, rule / 64, rule % 64, 31, 63, 0]);
-            [32, 128].into_iter().chain(rules).collect()
+            let made = Made::longest(random.one(&[None, Some(0), Some(31)]));
+            made.numbers().iter().map(|&number| number as u32).collect()
         }
         Kind::History => [vec![1024], [161, 134].repeat(512)].concat(),
     }

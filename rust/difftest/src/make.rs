@@ -2,83 +2,33 @@
 //! is needed, positions of opens, beside them and behind the last token, and elements to be written.
 use crate::case::Case;
 use crate::elements::elements;
+use crate::grammars::{Made, Size};
+use crate::heads;
 use crate::random::Random;
 use crate::writing::{Kind, Writing};
-use frames::{
-    grammar_file, grammar_numbers, history_file, history_numbers, numbers_file, Rule, Token, G,
-};
+use frames::{history_file, history_numbers, numbers_file, Rule, Token};
 use gaffmedlar::HISTORY_BYTES_MAX;
 use reference::big::Big;
 use reference::{parse_history, Work};
-
-/// How large a grammar and its history get.
-struct Size {
-    stages: usize,
-    rules: usize,
-    names: usize,
-    tokens: usize,
-    ends_percent: usize,
-}
 
 struct Maker<'a> {
     random: &'a mut Random,
 }
 
 impl Maker<'_> {
-    fn stage(&mut self, stages: usize) -> u16 {
-        self.random.below(stages) as u16
-    }
-
     fn name(&mut self, names: usize) -> u16 {
         self.random.below(names) as u16
     }
 
-    fn rule(&mut self, size: &Size) -> Rule {
-        let from = self.stage(size.stages);
-        match self.random.below(8) {
-            0 => Rule::Ends { from },
-            1..=3 => Rule::Marks {
-                from,
-                mark: self.name(size.names),
-                then: self.stage(size.stages),
-            },
-            _ => Rule::Steps {
-                from,
-                open: self.name(size.names),
-                inside: self.stage(size.stages),
-                close: self.name(size.names),
-                then: self.stage(size.stages),
-            },
-        }
-    }
-
-    fn rules(&mut self, size: &Size) -> Vec<Rule> {
-        let mut rules: Vec<Rule> = Vec::new();
-        for from in 0..size.stages as u16 {
-            if rules.len() < size.rules && self.random.percent(size.ends_percent) {
-                rules.push(Rule::Ends { from });
-            }
-        }
-        for _ in 0..8 * size.rules {
-            if rules.len() >= size.rules {
-                break;
-            }
-            let rule = self.rule(size);
-            if !rules.contains(&rule) {
-                let place = self.random.below(rules.len() + 1);
-                rules.insert(place, rule);
-            }
-        }
-        if rules.is_empty() {
-            rules.push(Rule::Ends { from: 0 });
-        }
-        rules
-    }
-
-    /// Tokens that the rules make from stage 0, as far as they lead; what is begun is closed in any case.
-    fn derived(&mut self, rules: &[Rule], most: usize) -> Vec<Token> {
+    /// Tokens that the rules make from the start, now and then from another stage, as far as they lead; what is begun is
+    /// closed in any case.
+    fn derived(&mut self, made: &Made, most: usize) -> Vec<Token> {
+        let from = match self.random.below(8) {
+            0 => self.random.below(made.stages) as u16,
+            _ => made.start(),
+        };
         let mut tokens = Vec::new();
-        self.derive(rules, 0, most, 0, &mut tokens);
+        self.derive(&made.rules, from, most, 0, &mut tokens);
         tokens
     }
 
@@ -235,6 +185,14 @@ impl Maker<'_> {
         bytes
     }
 
+    /// A grammar's bytes; many damaged ones are so at their beginning.
+    fn written_grammar(&mut self, made: &Made, damaged: bool) -> Vec<u8> {
+        if damaged && self.random.percent(40) {
+            return heads::damaged(self.random, &made.numbers());
+        }
+        self.written(made.numbers(), damaged)
+    }
+
     /// A rule that is there already is put in once more.
     fn repeat_rule(&mut self, rules: &mut Vec<Rule>) {
         let rule = self.random.one(rules);
@@ -284,49 +242,55 @@ impl Maker<'_> {
         let damage = self.random.below(100);
         let (grammar_damaged, history_damaged) = (damage < 22, (15..42).contains(&damage));
         let size = self.size();
-        let mut rules = self.rules(&size);
+        let mut made = if self.random.percent(5) {
+            Made::g(self.random)
+        } else {
+            Made::any(self.random, &size)
+        };
         let tokens = match self.random.below(200) {
             0 => self.nested(),
             1..=40 => self.matched(size.tokens, size.names),
-            _ => self.derived(&rules, size.tokens),
+            _ => self.derived(&made, size.tokens),
         };
-        if grammar_damaged && self.random.percent(15) && rules.len() < 128 {
-            self.repeat_rule(&mut rules);
+        if grammar_damaged && self.random.percent(15) && made.rules.len() < 128 {
+            self.repeat_rule(&mut made.rules);
         }
-        let grammar = if self.random.percent(5) {
-            G.to_vec()
-        } else {
-            self.written(grammar_numbers(size.stages, &rules), grammar_damaged)
-        };
+        let grammar = self.written_grammar(&made, grammar_damaged);
         let history = self.written(history_numbers(&tokens), history_damaged);
         (grammar, history)
     }
 
-    /// Files at a limit, or one over it.
-    fn limit_files(&mut self) -> (Vec<u8>, Vec<u8>) {
-        let stages = self.random.one(&[1, 2, 31, 32, 32, 33]);
+    /// A grammar at a limit, or one over it.
+    fn limit_grammar(&mut self, names: usize) -> Made {
+        if self.random.percent(10) {
+            return Made::longest(self.random.one(&[None, Some(0), Some(31), Some(32)]));
+        }
         let size = Size {
-            stages,
+            stages: self.random.one(&[1, 2, 31, 32, 32, 33]),
             rules: self.random.one(&[1, 16, 64, 127, 128, 128]),
-            names: self.random.one(&[1, 2, 3, 64]),
+            names,
             tokens: 0,
             ends_percent: self.random.one(&[5, 60, 100]),
         };
-        let mut rules = self.rules(&size);
-        if self.random.percent(10) && rules.len() == 128 {
-            rules.push(Rule::Marks {
+        let mut made = Made::any(self.random, &size);
+        if self.random.percent(10) && made.rules.len() == 128 {
+            made.rules.push(Rule::Marks {
                 from: 0,
                 mark: 63,
                 then: 0,
             });
         }
-        let mut grammar = grammar_file(stages, &rules);
+        made
+    }
+
+    /// Files at a limit, or one over it.
+    fn limit_files(&mut self) -> (Vec<u8>, Vec<u8>) {
+        let names = self.random.one(&[1, 2, 3, 64]);
+        let mut made = self.limit_grammar(names);
         let count = self.random.one(&[1022, 1023, 1024, 1024, 1024, 1025]);
         let tokens = match self.random.below(7) {
             // marks alone
-            0 => (0..count)
-                .map(|_| Token::Mark(self.name(size.names)))
-                .collect(),
+            0 => (0..count).map(|_| Token::Mark(self.name(names))).collect(),
             // steps one behind the other
             1 => (0..count)
                 .map(|place| match place % 2 {
@@ -337,7 +301,7 @@ impl Maker<'_> {
             2 => self.nested(),
             // steps of G, with a mark in each
             3 | 4 => {
-                grammar = G.to_vec();
+                made = Made::g(self.random);
                 let steps = self.random.one(&[16, 340, 341]);
                 (0..3 * steps)
                     .map(|place| match place % 3 {
@@ -347,9 +311,10 @@ impl Maker<'_> {
                     })
                     .collect()
             }
-            5 => self.derived(&rules, count),
-            _ => self.matched(count, size.names),
+            5 => self.derived(&made, count),
+            _ => self.matched(count, names),
         };
+        let grammar = numbers_file(&made.numbers());
         let mut history = history_file(&tokens);
         if self.random.percent(10) {
             self.damage_bytes(&mut history);

@@ -35,6 +35,15 @@ impl Random {
         of[self.below(of.len())]
     }
 
+    /// The numbers below `count`, each once, in any order.
+    pub fn order(&mut self, count: usize) -> Vec<usize> {
+        let mut numbers: Vec<usize> = (0..count).collect();
+        for place in 1..count {
+            numbers.swap(place, self.below(place + 1));
+        }
+        numbers
+    }
+
     pub fn bytes(&mut self, length: usize) -> Vec<u8> {
         (0..length).map(|_| self.next() as u8).collect()
     }

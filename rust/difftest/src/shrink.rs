@@ -1,11 +1,13 @@
 //! Makes a case smaller as long as both sides still differ on it.
-use crate::case::{compare, Case, Fault};
+use crate::case::{compare, Case};
+use crate::faults::Fault;
+use crate::heads;
 use crate::make::tokens_without;
 use crate::writing::{Kind, Writing};
 use frames::{grammar_file, history_file, Token};
 use reference::big::Big;
 use reference::files::partners;
-use reference::{parse_grammar, parse_history, Work};
+use reference::{parse_grammar, parse_history, Grammar, Work};
 use std::time::{Duration, Instant};
 
 /// At most this long.
@@ -57,6 +59,7 @@ fn candidates(case: &Case) -> Vec<Case> {
     let mut all = Vec::new();
     parts_dropped(case, &mut all);
     rules_dropped(case, &mut all);
+    start_dropped(case, &mut all);
     tokens_dropped(case, &mut all);
     bytes_dropped(case, &mut all);
     bytes_lowered(case, &mut all);
@@ -64,6 +67,7 @@ fn candidates(case: &Case) -> Vec<Case> {
     for kind in [Kind::Grammar, Kind::History] {
         elements_dropped(case, kind, &mut all);
         elements_uncounted(case, kind, &mut all);
+        elements_unstarted(case, kind, &mut all);
         elements_lowered(case, kind, &mut all);
     }
     all
@@ -88,16 +92,22 @@ fn parts_dropped(case: &Case, all: &mut Vec<Case>) {
     }
 }
 
+/// The file of a grammar, with its start or without it.
+fn file_of(grammar: &Grammar, says_start: bool) -> Vec<u8> {
+    let start = says_start.then_some(grammar.start);
+    grammar_file(grammar.stages.into(), start, &grammar.rules)
+}
+
 /// A grammar that passes, with one rule less, and the numbers in the buffers moved down.
 fn rules_dropped(case: &Case, all: &mut Vec<Case>) {
     let Ok(grammar) = parse_grammar(&case.grammar) else {
         return;
     };
     for gone in 0..grammar.rules.len() {
-        let mut rules = grammar.rules.clone();
-        rules.remove(gone);
+        let mut fewer = grammar.clone();
+        fewer.rules.remove(gone);
         let mut smaller = case.clone();
-        smaller.grammar = grammar_file(grammar.stages.into(), &rules);
+        smaller.grammar = file_of(&fewer, heads::says_start(&case.grammar));
         for bytes in [&mut smaller.next, &mut smaller.buffer] {
             for byte in bytes.iter_mut() {
                 if usize::from(*byte) > gone {
@@ -106,6 +116,22 @@ fn rules_dropped(case: &Case, all: &mut Vec<Case>) {
             }
         }
         with_readings(smaller, all);
+    }
+}
+
+/// A grammar that passes, numbered so that stage 0 starts: without the start and with it. And any that says its start, with
+/// one stage less.
+fn start_dropped(case: &Case, all: &mut Vec<Case>) {
+    let with = |grammar| Case {
+        grammar,
+        ..case.clone()
+    };
+    if let Ok(grammar) = parse_grammar(&case.grammar) {
+        let from_0 = grammar.from_stage_0();
+        all.extend([false, true].map(|says_start| with(file_of(&from_0, says_start))));
+    }
+    if let [0, stages @ 1..=255, start @ 1..=255, rest @ ..] = &case.grammar[..] {
+        all.push(with([&[0, stages - 1, start - 1], rest].concat()));
     }
 }
 
@@ -259,21 +285,37 @@ fn elements_dropped(case: &Case, kind: Kind, all: &mut Vec<Case>) {
     }
 }
 
-/// One rule less, or one token or two, and the count before them less by as many.
+/// One rule less, or one token or two, and the count before them less by as many; with the buffer as it is, and with less room.
 fn elements_uncounted(case: &Case, kind: Kind, all: &mut Vec<Case>) {
+    let elements = case.clone().writing(kind).elements.clone();
     let (count, pieces): (usize, &[(usize, u32)]) = match kind {
+        Kind::Grammar if heads::says_start(&elements) => (3, &[(2, 1), (4, 1), (6, 1)]),
         Kind::Grammar => (1, &[(2, 1), (4, 1), (6, 1)]),
         Kind::History => (0, &[(1, 1), (2, 2)]),
     };
-    let length = case.clone().writing(kind).elements.len();
+    let length = elements.len();
     for &(piece, less) in pieces {
         for place in count + 1..(length + 1).saturating_sub(piece) {
             let mut smaller = case.clone();
-            let elements = &mut smaller.writing(kind).elements;
+            let Writing { elements, buffer } = smaller.writing(kind);
             elements.drain(place..place + piece);
             elements[count] = elements[count].saturating_sub(less);
+            let room = buffer.len().saturating_sub(piece);
+            all.push(smaller.clone());
+            smaller.writing(kind).buffer.truncate(room);
             all.push(smaller);
         }
+    }
+}
+
+/// A grammar's elements without the 0 and the start.
+fn elements_unstarted(case: &Case, kind: Kind, all: &mut Vec<Case>) {
+    let mut smaller = case.clone();
+    let elements = &mut smaller.writing(kind).elements;
+    if kind == Kind::Grammar && heads::says_start(elements) && elements.len() > 2 {
+        elements.remove(2);
+        elements.remove(0);
+        all.push(smaller);
     }
 }
 

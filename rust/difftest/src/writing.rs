@@ -1,7 +1,10 @@
 //! The writers in a case: what the library gives for elements and a buffer, and what is due; and a file written again from
-//! its own numbers.
-use crate::case::{Fault, Lent, Outcome, BYTE};
+//! its own numbers, twice.
+use crate::case::{Lent, Outcome, BYTE};
+use crate::faults::Fault;
+use crate::heads;
 use gaffmedlar::{raw, Refusal};
+use reference::Work;
 
 /// What a writer is called with: the numbers of a file, one element each, and the buffer.
 #[derive(Clone, PartialEq, Eq, Default)]
@@ -54,12 +57,21 @@ impl Kind {
         }
     }
 
-    /// The counts of a file stand first among its numbers.
-    fn counts(self, elements: &[u32]) -> &[u32] {
-        match self {
-            Kind::Grammar => &elements[..2],
-            Kind::History => &elements[..1],
+    /// The numbers of the file that is written from these: a grammar's with the start.
+    fn written(self, elements: &[u32]) -> Vec<u32> {
+        match (self, elements) {
+            (Kind::History, _) | (_, [] | [0, ..]) => elements.to_vec(),
+            (Kind::Grammar, [stages, rest @ ..]) => [&[0, *stages, 0], rest].concat(),
         }
+    }
+
+    /// The counts among the numbers of such a file.
+    fn counts(self, written: &[u32]) -> Vec<u64> {
+        let counts: &[usize] = match self {
+            Kind::Grammar => &[1, 3],
+            Kind::History => &[0],
+        };
+        counts.iter().map(|&place| written[place].into()).collect()
     }
 }
 
@@ -80,49 +92,77 @@ pub fn library(writing: &Writing, kind: Kind) -> Outcome {
     Outcome::of(reply.answer, &counts, &[&bytes], &words)
 }
 
-/// What is due by the reference; a file that was written passes and has the numbers that it was written from.
+/// What is due by the reference; a file that was written passes and has the numbers that it was written from, and its start.
 pub fn due(writing: &Writing, kind: Kind) -> Outcome {
     let mut buffer = writing.buffer.clone();
     match kind.due(&writing.elements, &mut buffer) {
         Ok(length) => {
+            let numbers = kind.written(&writing.elements);
             let mut counts = vec![length as u64, 0];
-            counts.extend(kind.counts(&writing.elements).iter().map(|&n| u64::from(n)));
-            Outcome::of(0, &counts, &[&buffer], &writing.elements)
+            counts.extend(kind.counts(&numbers));
+            Outcome::of(0, &counts, &[&buffer], &numbers)
         }
         Err(number) => Outcome::of(number, &[0], &[&buffer], &[]),
     }
 }
 
-/// A file that the library lets through, written again from its numbers; or the number of its check.
+/// A file that the library lets through, written again from its numbers, and what was written once more; or the number of its
+/// check.
 pub fn library_again(file: &[u8], kind: Kind) -> Outcome {
+    let again = |file: &[u8]| kind.write_whole(&gaffmedlar::numbers(file));
     match kind.check(file) {
-        (0, _) => match kind.write_whole(&gaffmedlar::numbers(file)) {
-            Ok(written) => Outcome::of(0, &[], &[&written], &[]),
+        (0, _) => match again(file).and_then(|once| Ok([again(&once)?, once])) {
+            Ok([twice, once]) => Outcome::of(0, &[], &[&once, &twice], &[]),
             Err(refusal) => Outcome::of(refusal.number(), &[], &[], &[]),
         },
         (number, _) => Outcome::of(number, &[], &[], &[]),
     }
 }
 
-/// It is the same, byte for byte.
+/// It is the same, byte for byte; a grammar that doesn't say its start alone has the start 0 put in, and then stays.
 pub fn due_again(file: &[u8], kind: Kind) -> Outcome {
     let refused = match kind {
         Kind::Grammar => reference::grammar_check(file).err(),
         Kind::History => reference::history_check(file).err(),
     };
-    match refused {
-        None => Outcome::of(0, &[], &[file], &[]),
-        Some(number) => Outcome::of(number, &[], &[], &[]),
+    match (refused, kind) {
+        (Some(number), _) => Outcome::of(number, &[], &[], &[]),
+        (None, Kind::Grammar) if !heads::says_start(file) => {
+            let longer = [&[0, file[0], 0], &file[1..]].concat();
+            Outcome::of(0, &[], &[&longer, &longer], &[])
+        }
+        (None, _) => Outcome::of(0, &[], &[file, file], &[]),
     }
+}
+
+/// And a grammar keeps its meaning: the words are the history's sets by what was written.
+pub fn library_grammar_again(grammar: &[u8], history: &[u8]) -> Outcome {
+    let mut outcome = library_again(grammar, Kind::Grammar);
+    if let Some(written) = outcome.lent.first() {
+        let sets = gaffmedlar::sets(written, history);
+        outcome.words = sets.map_or(vec![], |sets| sets.words().to_vec());
+    }
+    outcome
+}
+
+/// They are those by the grammar itself.
+pub fn due_grammar_again(grammar: &[u8], work: &Work) -> Outcome {
+    let mut outcome = due_again(grammar, Kind::Grammar);
+    if let Some(positions) = work.positions() {
+        outcome.words = vec![0; 4 * positions];
+        work.sets(&mut outcome.words);
+    }
+    outcome
 }
 
 /// A writer's true outcome turned into a wrong one, where the planted fault shows.
 pub fn spoiled(fault: Fault, writing: &Writing, kind: Kind, outcome: Outcome) -> Outcome {
     let mut wrong = outcome;
-    let numbers: Vec<usize> = writing.elements.iter().map(|&n| n as usize).collect();
-    let short = writing.buffer.len() < frames::numbers_file(&numbers).len();
+    let numbers = kind.written(&writing.elements);
     match fault {
-        Fault::FifteenFirst if wrong.answer != 0 && short => wrong.answer = 15,
+        Fault::FifteenFirst if wrong.answer != 0 && writing.buffer.len() < length(&numbers) => {
+            wrong.answer = 15;
+        }
         Fault::RefusalWrites if wrong.answer != 0 => {
             if let (Some(byte), Some(&number)) = (wrong.lent[0].first_mut(), numbers.first()) {
                 *byte = number as u8;
@@ -134,20 +174,58 @@ pub fn spoiled(fault: Fault, writing: &Writing, kind: Kind, outcome: Outcome) ->
         }
         Fault::LengthOneMore if wrong.answer == 0 => wrong.counts[0] += 1,
         Fault::WideInOneByte if wrong.answer == 0 => {
-            wrong.lent[0].clone_from(&writing.buffer);
-            for (byte, &number) in wrong.lent[0].iter_mut().zip(&numbers) {
-                *byte = number as u8;
-            }
-            wrong.counts[0] = numbers.len() as u64;
+            let bytes: Vec<u8> = numbers.iter().map(|&number| number as u8).collect();
+            fill(&mut wrong, writing, &bytes);
         }
         Fault::RestIgnored if wrong.answer == 9 => {
             let elements = passing(&writing.elements, kind).to_vec();
             let buffer = writing.buffer.clone();
             return library(&Writing { elements, buffer }, kind);
         }
+        _ if kind == Kind::Grammar => spoil_start(fault, writing, &mut wrong),
         _ => {}
     }
     wrong
+}
+
+/// A grammar's writer that doesn't put the start in, has no room for it in mind, or puts in another.
+fn spoil_start(fault: Fault, writing: &Writing, wrong: &mut Outcome) {
+    let elements = &writing.elements;
+    let room = writing.buffer.len();
+    match fault {
+        Fault::ShortKept if wrong.answer == 0 => {
+            fill(wrong, writing, &bytes_of(elements));
+            wrong.words.clone_from(elements);
+        }
+        Fault::FifteenByShort if wrong.answer == 15 && length(elements) <= room => {
+            let longer = bytes_of(&Kind::Grammar.written(elements));
+            wrong.answer = 0;
+            fill(wrong, writing, &longer);
+        }
+        Fault::StartLost if wrong.answer == 0 => {
+            wrong.lent[0][2] = 0;
+            wrong.words[2] = 0;
+        }
+        _ => {}
+    }
+}
+
+/// The buffer with a file in it, as far as there is room, and the file's length told.
+fn fill(wrong: &mut Outcome, writing: &Writing, file: &[u8]) {
+    wrong.lent[0].clone_from(&writing.buffer);
+    for (byte, due) in wrong.lent[0].iter_mut().zip(file) {
+        *byte = *due;
+    }
+    wrong.counts[0] = file.len() as u64;
+}
+
+fn bytes_of(numbers: &[u32]) -> Vec<u8> {
+    let numbers: Vec<usize> = numbers.iter().map(|&number| number as usize).collect();
+    frames::numbers_file(&numbers)
+}
+
+fn length(numbers: &[u32]) -> usize {
+    bytes_of(numbers).len()
 }
 
 /// Elements that are too many, without those behind the last one.

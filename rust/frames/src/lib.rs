@@ -5,6 +5,16 @@ pub const G: [u8; 28] = [
     3, 7, 0, 0, 2, 0, 0, 1, 0, 0, 2, 0, 0, 2, 0, 0, 1, 1, 0, 1, 0, 1, 1, 2, 0, 2, 0, 2,
 ];
 
+/// G with its stages 0 and 1 exchanged, and its start with them: the same readings by the same rule numbers.
+pub const G_EXCHANGED: [u8; 30] = [
+    0, 3, 1, 7, 0, 1, 2, 1, 0, 0, 0, 1, 2, 1, 0, 2, 0, 1, 1, 0, 0, 0, 0, 0, 1, 2, 0, 2, 0, 2,
+];
+
+/// G in the longer form, with any start.
+pub fn g_from(start: u8) -> Vec<u8> {
+    [&[0, G[0], start], &G[1..]].concat()
+}
+
 /// One rule. Stages and names are kept as they stand in the file.
 #[derive(Clone, Copy, Debug, PartialEq, Eq)]
 pub enum Rule {
@@ -28,6 +38,23 @@ impl Rule {
             Rule::Ends { from } | Rule::Marks { from, .. } | Rule::Steps { from, .. } => from,
         }
     }
+
+    /// The same rule with other numbers for its stages.
+    pub fn renumbered(&self, number: impl Fn(u16) -> u16) -> Rule {
+        let mut rule = *self;
+        match &mut rule {
+            Rule::Ends { from } => *from = number(*from),
+            Rule::Marks { from, then, .. } => {
+                (*from, *then) = (number(*from), number(*then));
+            }
+            Rule::Steps {
+                from, inside, then, ..
+            } => {
+                (*from, *inside, *then) = (number(*from), number(*inside), number(*then));
+            }
+        }
+        rule
+    }
 }
 
 #[derive(Clone, Copy, Debug, PartialEq, Eq)]
@@ -37,9 +64,13 @@ pub enum Token {
     Close(u16),
 }
 
-/// The numbers of a grammar file.
-pub fn grammar_numbers(stages: usize, rules: &[Rule]) -> Vec<usize> {
-    let mut numbers = vec![stages, rules.len()];
+/// The numbers of a grammar file. With a start they have the longer form; without one the file starts at stage 0.
+pub fn grammar_numbers(stages: usize, start: Option<u16>, rules: &[Rule]) -> Vec<usize> {
+    let mut numbers = match start {
+        None => vec![stages],
+        Some(start) => vec![0, stages, start.into()],
+    };
+    numbers.push(rules.len());
     for rule in rules {
         match *rule {
             Rule::Ends { from } => numbers.extend([0, from.into()]),
@@ -92,8 +123,8 @@ pub fn numbers_file(numbers: &[usize]) -> Vec<u8> {
 }
 
 /// The bytes of a grammar file.
-pub fn grammar_file(stages: usize, rules: &[Rule]) -> Vec<u8> {
-    numbers_file(&grammar_numbers(stages, rules))
+pub fn grammar_file(stages: usize, start: Option<u16>, rules: &[Rule]) -> Vec<u8> {
+    numbers_file(&grammar_numbers(stages, start, rules))
 }
 
 /// The bytes of a history file.
@@ -105,16 +136,14 @@ pub fn history_file(tokens: &[Token]) -> Vec<u8> {
 mod tests {
     use super::*;
 
-    #[test]
-    fn sample_of_document_01() {
-        let sample = include_bytes!("../../../samples/document_01/grammar.bin");
-        assert_eq!(&G, sample);
+    /// G's rules with other numbers for its three stages.
+    fn rules_of_g([top, one, two]: [u16; 3]) -> [Rule; 7] {
         let step = |inside| Rule::Steps {
-            from: 0,
+            from: top,
             open: 0,
             inside,
             close: 0,
-            then: 0,
+            then: top,
         };
         let mark = |stage| Rule::Marks {
             from: stage,
@@ -122,19 +151,40 @@ mod tests {
             then: stage,
         };
         let ends = |from| Rule::Ends { from };
-        let rules = [
-            ends(0),
-            step(1),
-            step(2),
-            mark(1),
-            ends(1),
-            mark(2),
-            ends(2),
-        ];
-        assert_eq!(grammar_file(3, &rules), G);
+        [
+            ends(top),
+            step(one),
+            step(two),
+            mark(one),
+            ends(one),
+            mark(two),
+            ends(two),
+        ]
+    }
+
+    #[test]
+    fn sample_of_document_01() {
+        let sample = include_bytes!("../../../samples/document_01/grammar.bin");
+        assert_eq!(&G, sample);
+        assert_eq!(grammar_file(3, None, &rules_of_g([0, 1, 2])), G);
         let tokens = [Token::Open(0), Token::Mark(0), Token::Close(0)];
         let sample = include_bytes!("../../../samples/document_01/history.bin");
         assert_eq!(history_file(&tokens), sample);
+    }
+
+    #[test]
+    fn both_beginnings() {
+        let rules = rules_of_g([0, 1, 2]);
+        let longer = |start| [&[0, 3, start, 7], &G[2..]].concat();
+        for start in 0..3 {
+            assert_eq!(g_from(start), longer(start));
+            assert_eq!(grammar_file(3, Some(start.into()), &rules), longer(start));
+        }
+        let exchanged = rules_of_g([1, 0, 2]);
+        assert_eq!(grammar_file(3, Some(1), &exchanged), G_EXCHANGED);
+        let new = [1, 0, 2];
+        let renumbered = rules.map(|rule| rule.renumbered(|stage| new[usize::from(stage)]));
+        assert_eq!(renumbered, exchanged);
     }
 
     #[test]

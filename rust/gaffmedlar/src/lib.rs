@@ -5,6 +5,9 @@
 //! [`Refused`], and then no element of a buffer changes. The bytes of one step, which need a history alone, and the writers,
 //! which make one file, are refused by the [`Refusal`] itself. README.md says what the two files hold.
 //!
+//! A grammar file says its start stage, behind a leading 0 and the stage count, or else starts at stage 0. Every function goes
+//! by that start; [`write_grammar`] always writes it out.
+//!
 //! A history of n tokens has positions 0 to n. A reading has one rule number for each of them, so it is n + 1 bytes.
 
 mod numbers;
@@ -131,7 +134,7 @@ pub const READING_MAX: usize = 1025;
 /// Words of the sets of such a history.
 pub const WORDS_MAX: usize = 4 * READING_MAX;
 /// Bytes of the longest grammar file that passes.
-pub const GRAMMAR_BYTES_MAX: usize = 771;
+pub const GRAMMAR_BYTES_MAX: usize = 773;
 /// Bytes of the longest history file that passes.
 pub const HISTORY_BYTES_MAX: usize = 2050;
 
@@ -415,7 +418,7 @@ pub mod raw {
 #[cfg(test)]
 mod tests {
     use super::*;
-    use frames::G;
+    use frames::{g_from, G, G_EXCHANGED};
 
     #[test]
     fn numbers_and_words() {
@@ -453,6 +456,94 @@ mod tests {
         let mut marks = [9; 5];
         assert_eq!(stop_marks(&G, &history, &mut marks), Ok(()));
         assert_eq!(marks, [1, 0, 0, 1, 9]);
+    }
+
+    /// A grammar, a history, all its readings and its stop marks.
+    type Example = (Vec<u8>, Vec<u8>, Vec<Vec<u8>>, Vec<u8>);
+
+    /// G from stage 0, unsaid and said, and from stage 1; G with these stages exchanged, with its start and without it.
+    fn examples_of_starts() -> Vec<Example> {
+        let step = vec![3, 1, 0, 2];
+        let two = vec![vec![1, 3, 4, 0], vec![2, 5, 6, 0]];
+        let unsaid = [&[3], &G_EXCHANGED[3..]].concat();
+        let mut examples = vec![
+            (g_from(1), vec![0], vec![vec![4]], vec![1]),
+            (g_from(1), vec![2, 0, 0], vec![vec![3, 3, 4]], vec![1; 3]),
+        ];
+        for same in [G.to_vec(), g_from(0), G_EXCHANGED.to_vec()] {
+            examples.push((same, step.clone(), two.clone(), vec![1, 0, 0, 1]));
+        }
+        for other in [g_from(1), g_from(2), unsaid] {
+            examples.push((other, step.clone(), vec![], vec![1, 0, 0, 0]));
+        }
+        examples
+    }
+
+    /// Every service on one of them.
+    fn goes_by_the_start(grammar: &[u8], history: &[u8], due: &[Vec<u8>], due_marks: &[u8]) {
+        let counts = grammar_check(grammar).unwrap();
+        assert_eq!((counts.stages, counts.rules), (3, 7));
+        let all: Vec<Vec<u8>> = readings(grammar, history).unwrap().collect();
+        assert_eq!(all, due);
+        let calls = [Call::First, Call::Next, Call::Next];
+        let written = [CallAnswer::Written; 2];
+        let not_one = CallAnswer::Refused(of_call(Refusal::NotAReading));
+        let answers = match due.len() {
+            0 => vec![CallAnswer::NoReading, not_one, not_one],
+            m => [&written[..m], &vec![CallAnswer::NoFurther; 3 - m]].concat(),
+        };
+        // 255 is no rule
+        let mut buffer = vec![255; history.len()];
+        assert_eq!(run_calls(grammar, history, &calls, &mut buffer), answers);
+        let sets = sets(grammar, history).unwrap();
+        let mut doubtful = 0;
+        for position in 0..history.len() {
+            let mut rules: Vec<u8> = due.iter().map(|reading| reading[position]).collect();
+            rules.dedup();
+            doubtful += usize::from(rules.len() > 1);
+            assert_eq!(sets.rules(position).collect::<Vec<_>>(), rules);
+        }
+        assert_eq!(doubtful_count(grammar, history), Ok(doubtful));
+        let mut marks = vec![9; history.len()];
+        assert_eq!(stop_marks(grammar, history, &mut marks), Ok(()));
+        assert_eq!(marks, due_marks);
+    }
+
+    /// The grammars as they are, and as the writer makes them of their numbers: these all say their start.
+    #[test]
+    fn starts() {
+        for (grammar, history, readings, marks) in examples_of_starts() {
+            goes_by_the_start(&grammar, &history, &readings, &marks);
+            let longer = write_grammar(&numbers(&grammar)).unwrap();
+            assert_eq!((longer.len(), longer[0]), (30, 0));
+            goes_by_the_start(&longer, &history, &readings, &marks);
+        }
+    }
+
+    /// Each number of a grammar's head is judged when it is read.
+    #[test]
+    fn refused_heads() {
+        let heads: [(&[u8], Refusal); 14] = [
+            (&[0], Refusal::BytesEnd),
+            (&[0, 0], Refusal::StageCount),
+            (&[0, 0, 0, 0], Refusal::StageCount),
+            (&[0, 33], Refusal::StageCount),
+            (&[0, 128, 0], Refusal::NumberForm),
+            (&[128, 0], Refusal::NumberForm),
+            (&[0, 1], Refusal::BytesEnd),
+            (&[0, 1, 1], Refusal::Stage),
+            (&[0, 1, 1, 0], Refusal::Stage),
+            (&[0, 1, 128], Refusal::BytesEnd),
+            (&[0, 1, 128, 1], Refusal::Stage),
+            (&[0, 1, 128, 0], Refusal::NumberForm),
+            (&[0, 1, 0], Refusal::BytesEnd),
+            (&[0, 1, 0, 0], Refusal::RuleCount),
+        ];
+        for (grammar, refusal) in heads {
+            assert_eq!(grammar_check(grammar), of_grammar(refusal));
+            let first = first_reading(grammar, &[0], &mut [0]);
+            assert_eq!(first, of_grammar(refusal));
+        }
     }
 
     #[test]

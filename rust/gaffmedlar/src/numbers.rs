@@ -2,7 +2,8 @@
 
 /// The numbers of a file in their order, one element each, as [`write_grammar`](crate::write_grammar) and
 /// [`write_history`](crate::write_history) take them. It is for a file that has passed its check: such a file, written again
-/// from its numbers, is the same byte for byte.
+/// from its numbers, is the same byte for byte. A grammar that doesn't say its start alone comes back two bytes longer, with
+/// the start written out and the same meaning.
 ///
 /// This function is outside what is proved. It takes any bytes and judges none: a number in a longer form than the shortest
 /// is that number, and one above [`u32::MAX`], or one inside which the bytes end, is given as [`u32::MAX`]. No writer takes
@@ -11,6 +12,8 @@
 /// ```
 /// assert_eq!(gaffmedlar::numbers(&[2, 161, 1, 134, 1]), [2, 161, 134]);
 /// assert_eq!(gaffmedlar::numbers(&[1, 0, 161]), [1, 0, u32::MAX]);
+/// // a grammar that says its start: two stages, from stage 1 on, one rule
+/// assert_eq!(gaffmedlar::numbers(&[0, 2, 1, 1, 0, 1]), [0, 2, 1, 1, 0, 1]);
 /// ```
 pub fn numbers(file: &[u8]) -> Vec<u32> {
     let groups_of_each = file.split_inclusive(|&group| group < 128);

@@ -2,9 +2,11 @@
 use crate::{refusal, wire, Refusal, GRAMMAR_BYTES_MAX, HISTORY_BYTES_MAX};
 
 /// Writes a grammar file from its numbers in their order, one element each: the stage count, the rule count, and the numbers
-/// of each rule. [`numbers`](crate::numbers) gives those of a file.
+/// of each rule; or a 0, the stage count, the start stage, the rule count, and the numbers of each rule.
+/// [`numbers`](crate::numbers) gives those of a file. The file has the longer form always: where the numbers don't say the
+/// start, it is 0.
 ///
-/// It is refused as the file would be, by the first fault: [`Refusal::BytesEnd`] stands for too few elements,
+/// It is refused as a file of these numbers would be, by the first fault: [`Refusal::BytesEnd`] stands for too few elements,
 /// [`Refusal::BytesFollow`] for too many. An element that is too large for every file is refused by what stands in its
 /// place, as a name by [`Refusal::Name`].
 ///
@@ -14,14 +16,17 @@ use crate::{refusal, wire, Refusal, GRAMMAR_BYTES_MAX, HISTORY_BYTES_MAX};
 /// let mut numbers = gaffmedlar::numbers(&grammar);
 /// numbers[1] += 1;
 /// numbers.extend([1, 0, 5, 0]);
-/// assert_eq!(gaffmedlar::write_grammar(&numbers), Ok(vec![1, 2, 0, 0, 1, 0, 5, 0]));
+/// let written = vec![0, 1, 0, 2, 0, 0, 1, 0, 5, 0];
+/// assert_eq!(gaffmedlar::write_grammar(&numbers), Ok(written.clone()));
+/// // a file that says its start is written again byte for byte
+/// assert_eq!(gaffmedlar::write_grammar(&gaffmedlar::numbers(&written)), Ok(written));
 /// ```
 pub fn write_grammar(numbers: &[u32]) -> Result<Vec<u8>, Refusal> {
     written(numbers, GRAMMAR_BYTES_MAX, write_grammar_into)
 }
 
 /// The same into the caller's buffer: gives the length of the file, which stands at the buffer's beginning. Bytes behind it
-/// stay. Where nothing is wrong with the numbers and the buffer is shorter than the file, it is refused by
+/// stay. Where nothing is wrong with the numbers and the buffer is shorter than the file, its start counted, it is refused by
 /// [`Refusal::BufferShort`]; [`GRAMMAR_BYTES_MAX`] bytes are enough for every grammar.
 pub fn write_grammar_into(numbers: &[u32], file: &mut [u8]) -> Result<usize, Refusal> {
     length(wire::write_grammar(numbers, file))
@@ -70,7 +75,7 @@ fn written(
 mod tests {
     use super::*;
     use crate::{grammar_check, history_check};
-    use frames::G;
+    use frames::{g_from, G, G_EXCHANGED};
 
     type Write = fn(&[u32]) -> Result<Vec<u8>, Refusal>;
     type WriteInto = fn(&[u32], &mut [u8]) -> Result<usize, Refusal>;
@@ -81,8 +86,9 @@ mod tests {
     #[test]
     fn replies() {
         let refused = |answer| wire::WriteReply { answer, length: 0 };
-        assert_eq!(wire::write_grammar(&[1], &mut [9; 3]), refused(1));
-        assert_eq!(wire::write_grammar(&[1, 1, 0, 0], &mut [9; 3]), refused(15));
+        assert_eq!(wire::write_grammar(&[1], &mut [9; 5]), refused(1));
+        assert_eq!(wire::write_grammar(&[0, 1, 1], &mut [9; 5]), refused(6));
+        assert_eq!(wire::write_grammar(&[1, 1, 0, 0], &mut [9; 5]), refused(15));
         assert_eq!(wire::write_history(&[1, 2], &mut [9; 3]), refused(12));
         assert_eq!(wire::write_history(&[0], &mut []), refused(15));
         let written = wire::write_history(&[1, 128], &mut [9; 3]);
@@ -93,21 +99,35 @@ mod tests {
         bytes.iter().map(|&byte| byte.into()).collect()
     }
 
-    /// The longest files: 128 rules of six numbers, and 1,024 tokens of two bytes; their numbers and their bytes.
-    fn longest() -> [(Vec<u32>, Vec<u8>); 2] {
+    /// A file's numbers, and its bytes as they are written.
+    type Example = (Vec<u32>, Vec<u8>);
+
+    /// 128 rules of six numbers, with both beginnings: no grammar file is longer than the second.
+    fn longest_grammars() -> [Example; 2] {
         let rules = (0..128).flat_map(|rule| [2, rule / 64, rule % 64, 31, 63, 0]);
         let rules: Vec<u8> = rules.collect();
-        let tokens = [161u32, 134].repeat(512);
+        let file = |start| [vec![0, 32, start, 128, 1], rules.clone()].concat();
         [
-            (
-                [vec![32, 128], elements(&rules)].concat(),
-                [vec![32, 128, 1], rules].concat(),
-            ),
-            (
-                [vec![1024], tokens].concat(),
-                [vec![128, 8], [161, 1, 134, 1].repeat(512)].concat(),
-            ),
+            ([vec![32, 128], elements(&rules)].concat(), file(0)),
+            ([vec![0, 32, 31, 128], elements(&rules)].concat(), file(31)),
         ]
+    }
+
+    /// 1,024 tokens of two bytes.
+    fn longest_history() -> Example {
+        (
+            [vec![1024], [161u32, 134].repeat(512)].concat(),
+            [vec![128, 8], [161, 1, 134, 1].repeat(512)].concat(),
+        )
+    }
+
+    /// G's numbers are written with the start 0; those of a grammar that says its start are written as they are.
+    fn short_grammars() -> Vec<Example> {
+        let longer = [&[0, 3, 0, 7], &G[2..]].concat();
+        assert_eq!(longer.len(), 30);
+        let says_start = [longer.clone(), g_from(1), g_from(2), G_EXCHANGED.to_vec()];
+        let as_it_is = says_start.map(|file| (elements(&file), file));
+        [vec![(elements(&G), longer)], as_it_is.to_vec()].concat()
     }
 
     /// A writer on a buffer of every length up to some bytes more than the file has, between bytes that are not its own.
@@ -128,17 +148,25 @@ mod tests {
     }
 
     #[test]
-    fn written_files() {
-        let [grammar, history] = longest();
-        assert_eq!(grammar.1.len(), GRAMMAR_BYTES_MAX);
-        assert_eq!(history.1.len(), HISTORY_BYTES_MAX);
-        for (numbers, file) in [(elements(&G), G.to_vec()), grammar] {
+    fn written_grammars() {
+        let longest = longest_grammars();
+        assert!(longest
+            .iter()
+            .all(|(_, file)| file.len() == GRAMMAR_BYTES_MAX));
+        for (numbers, file) in short_grammars().into_iter().chain(longest) {
             writes(GRAMMAR_WRITER, &numbers, &file);
             assert!(grammar_check(&file).is_ok());
-            assert_eq!(crate::numbers(&file), numbers);
+            // and again, from the numbers of what was written
+            writes(GRAMMAR_WRITER, &crate::numbers(&file), &file);
         }
+    }
+
+    #[test]
+    fn written_histories() {
+        let longest = longest_history();
+        assert_eq!(longest.1.len(), HISTORY_BYTES_MAX);
         let wide = (vec![2, 161, 134], vec![2, 161, 1, 134, 1]);
-        for (numbers, file) in [(vec![0], vec![0]), wide, history] {
+        for (numbers, file) in [(vec![0], vec![0]), wide, longest] {
             writes(HISTORY_WRITER, &numbers, &file);
             assert_eq!(history_check(&file), Ok(numbers.len() - 1));
             assert_eq!(crate::numbers(&file), numbers);
@@ -152,7 +180,6 @@ mod tests {
             (g[..27].to_vec(), Refusal::BytesEnd),
             ([&g[..], &[5]].concat(), Refusal::BytesFollow),
             (vec![1, 1, 1, 0, 70_000, 0], Refusal::Name),
-            (vec![0, 1, 0, 0], Refusal::StageCount),
             (vec![33, 1, 0, 0], Refusal::StageCount),
             (vec![257, 1, 0, 0], Refusal::StageCount),
             (vec![u32::MAX, 1, 0, 0], Refusal::StageCount),
@@ -166,6 +193,34 @@ mod tests {
             (vec![1, 1, 1, 0, 64, 0, 0], Refusal::Name),
             (vec![1, 2, 0, 0], Refusal::BytesEnd),
             (vec![], Refusal::BytesEnd),
+        ]
+    }
+
+    /// The same of numbers that begin with a 0: each is judged in its place, the start before the rule count.
+    fn refused_starts() -> Vec<(Vec<u32>, Refusal)> {
+        let longer = elements(&g_from(2));
+        vec![
+            (longer[..29].to_vec(), Refusal::BytesEnd),
+            ([&longer[..], &[5]].concat(), Refusal::BytesFollow),
+            (elements(&g_from(3)), Refusal::Stage),
+            ([&[0], &elements(&G)[..]].concat(), Refusal::Stage),
+            (vec![0], Refusal::BytesEnd),
+            (vec![0, 0], Refusal::StageCount),
+            (vec![0, 0, 0, 0], Refusal::StageCount),
+            (vec![0, 33], Refusal::StageCount),
+            (vec![0, 257, 0, 1, 0, 0], Refusal::StageCount),
+            (vec![0, 257, 300], Refusal::StageCount),
+            (vec![0, u32::MAX], Refusal::StageCount),
+            (vec![0, 1], Refusal::BytesEnd),
+            (vec![0, 1, 1], Refusal::Stage),
+            (vec![0, 1, 1, 0], Refusal::Stage),
+            (vec![0, 1, 128, 1, 0, 0], Refusal::Stage),
+            (vec![0, 1, 1 << 16, 1, 0, 0], Refusal::Stage),
+            (vec![0, 1, u32::MAX], Refusal::Stage),
+            (vec![0, 1, 0], Refusal::BytesEnd),
+            (vec![0, 1, 0, 0], Refusal::RuleCount),
+            (vec![0, 1, 0, 129], Refusal::RuleCount),
+            (vec![0, 1, 0, 1, 0, 1], Refusal::Stage),
         ]
     }
 
@@ -199,7 +254,7 @@ mod tests {
 
     #[test]
     fn refused_writers() {
-        for (numbers, refusal) in refused_grammars() {
+        for (numbers, refusal) in refused_grammars().into_iter().chain(refused_starts()) {
             refuses(GRAMMAR_WRITER, &numbers, refusal);
         }
         for (numbers, refusal) in refused_histories() {
@@ -210,12 +265,14 @@ mod tests {
     /// Elements behind the last one are too many, however many they are.
     #[test]
     fn far_too_many_elements() {
-        let [grammar, history] = longest();
+        let [short, long] = longest_grammars();
         for ((write, _), numbers) in [
             (GRAMMAR_WRITER, elements(&G)),
-            (GRAMMAR_WRITER, grammar.0),
+            (GRAMMAR_WRITER, elements(&G_EXCHANGED)),
+            (GRAMMAR_WRITER, short.0),
+            (GRAMMAR_WRITER, long.0),
             (HISTORY_WRITER, vec![0]),
-            (HISTORY_WRITER, history.0),
+            (HISTORY_WRITER, longest_history().0),
         ] {
             for more in [1, 2, 255, 256, 257, 5000] {
                 let longer = [numbers.clone(), vec![0; more]].concat();

@@ -107,7 +107,7 @@ impl Counter {
 
     /// How many readings the history has.
     pub fn total(&self) -> Rc<Big> {
-        self.ways(0, 0, self.tokens.len())
+        self.ways(self.grammar.start, 0, self.tokens.len())
     }
 
     /// Whether no part of the history has more derivations than `most` from any stage that was looked at for the total.
@@ -122,7 +122,8 @@ impl Counter {
     /// The reading at a place of the order, counted from 0 and below the total.
     pub fn reading_at(&self, place: &Big) -> Vec<u8> {
         let mut out = Vec::new();
-        self.write_at(0, 0, self.tokens.len(), place.clone(), &mut out);
+        let whole = self.tokens.len();
+        self.write_at(self.grammar.start, 0, whole, place.clone(), &mut out);
         out
     }
 
@@ -155,7 +156,7 @@ impl Counter {
         if reading.len() != self.tokens.len() + 1 {
             return None;
         }
-        self.place(0, 0, self.tokens.len(), reading)
+        self.place(self.grammar.start, 0, self.tokens.len(), reading)
     }
 
     fn place(&self, stage: u16, start: usize, end: usize, reading: &[u8]) -> Option<Big> {
@@ -180,11 +181,11 @@ impl Counter {
         Some(before.plus(&within))
     }
 
-    /// The set of rules at each position: those that a walk from the start over the parts of readings meets.
+    /// The set of rules at each position: those that a walk from the start stage over the parts of readings meets.
     pub fn sets(&self) -> Vec<HashSet<u8>> {
         let mut sets = vec![HashSet::new(); self.tokens.len() + 1];
         let mut met = HashSet::new();
-        let mut due = vec![(0u16, 0usize, self.tokens.len())];
+        let mut due = vec![(self.grammar.start, 0, self.tokens.len())];
         while let Some((stage, start, end)) = due.pop() {
             if !met.insert((stage, start)) {
                 continue;

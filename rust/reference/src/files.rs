@@ -4,7 +4,29 @@ use frames::{Rule, Token};
 #[derive(Clone, Debug, PartialEq, Eq)]
 pub struct Grammar {
     pub stages: u16,
+    /// The stage that a reading derives the history from.
+    pub start: u16,
     pub rules: Vec<Rule>,
+}
+
+impl Grammar {
+    /// The same with the numbers of its start and of stage 0 exchanged, so that it starts at stage 0.
+    pub fn from_stage_0(&self) -> Grammar {
+        let exchanged = |stage| match stage {
+            0 => self.start,
+            stage if stage == self.start => 0,
+            other => other,
+        };
+        Grammar {
+            stages: self.stages,
+            start: 0,
+            rules: self
+                .rules
+                .iter()
+                .map(|rule| rule.renumbered(exchanged))
+                .collect(),
+        }
+    }
 }
 
 /// The bytes that have not been read yet.
@@ -37,38 +59,54 @@ impl Rest<'_> {
             Err(otherwise)
         }
     }
+
+    /// The stage count and the start. Where the first number is a 0 both follow it, else it is the stage count itself and
+    /// stage 0 starts.
+    fn stages_and_start(&mut self) -> Result<(u16, u16), u8> {
+        match self.number()? {
+            0 => {
+                let stages = self.number_that(|n| (1..=32).contains(&n), 3)?;
+                let start = self.number_that(|n| n < stages, 6)?;
+                Ok((stages, start))
+            }
+            stages @ 1..=32 => Ok((stages, 0)),
+            _ => Err(3),
+        }
+    }
+
+    /// One rule of a grammar with so many stages.
+    fn rule(&mut self, stages: u16) -> Result<Rule, u8> {
+        let form = self.number_that(|n| n <= 2, 5)?;
+        let from = self.number_that(|n| n < stages, 6)?;
+        if form == 0 {
+            return Ok(Rule::Ends { from });
+        }
+        let name = self.number_that(|n| n <= 63, 7)?;
+        let stage = self.number_that(|n| n < stages, 6)?;
+        if form == 1 {
+            let (mark, then) = (name, stage);
+            return Ok(Rule::Marks { from, mark, then });
+        }
+        let close = self.number_that(|n| n <= 63, 7)?;
+        let then = self.number_that(|n| n < stages, 6)?;
+        Ok(Rule::Steps {
+            from,
+            open: name,
+            inside: stage,
+            close,
+            then,
+        })
+    }
 }
 
 /// The grammar that the bytes hold, or the number of the first fault.
 pub fn parse_grammar(bytes: &[u8]) -> Result<Grammar, u8> {
     let mut rest = Rest(bytes);
-    let stages = rest.number_that(|n| (1..=32).contains(&n), 3)?;
+    let (stages, start) = rest.stages_and_start()?;
     let count = rest.number_that(|n| (1..=128).contains(&n), 4)?;
     let mut rules: Vec<Rule> = Vec::new();
     for _ in 0..count {
-        let form = rest.number_that(|n| n <= 2, 5)?;
-        let from = rest.number_that(|n| n < stages, 6)?;
-        let rule = match form {
-            0 => Rule::Ends { from },
-            1 => {
-                let mark = rest.number_that(|n| n <= 63, 7)?;
-                let then = rest.number_that(|n| n < stages, 6)?;
-                Rule::Marks { from, mark, then }
-            }
-            _ => {
-                let open = rest.number_that(|n| n <= 63, 7)?;
-                let inside = rest.number_that(|n| n < stages, 6)?;
-                let close = rest.number_that(|n| n <= 63, 7)?;
-                let then = rest.number_that(|n| n < stages, 6)?;
-                Rule::Steps {
-                    from,
-                    open,
-                    inside,
-                    close,
-                    then,
-                }
-            }
-        };
+        let rule = rest.rule(stages)?;
         if rules.contains(&rule) {
             return Err(8);
         }
@@ -77,7 +115,11 @@ pub fn parse_grammar(bytes: &[u8]) -> Result<Grammar, u8> {
     if !rest.0.is_empty() {
         return Err(9);
     }
-    Ok(Grammar { stages, rules })
+    Ok(Grammar {
+        stages,
+        start,
+        rules,
+    })
 }
 
 /// The tokens that the bytes hold, or the number of the first fault.
@@ -132,4 +174,54 @@ pub fn partners(tokens: &[Token]) -> Vec<usize> {
         }
     }
     partner
+}
+
+#[cfg(test)]
+mod tests {
+    use super::*;
+    use frames::{g_from, G, G_EXCHANGED};
+
+    #[test]
+    fn heads_of_grammars() {
+        let refused: [(&[u8], u8); 17] = [
+            (&[0], 1),
+            (&[0, 0], 3),
+            (&[0, 0, 0, 0], 3),
+            (&[0, 33], 3),
+            (&[0, 1], 1),
+            (&[0, 1, 1], 6),
+            (&[0, 32, 32], 6),
+            (&[0, 1, 0], 1),
+            (&[0, 1, 0, 0], 4),
+            (&[0, 1, 0, 129, 1], 4),
+            (&[0, 1, 128, 1], 6),
+            (&[0, 1, 128, 0], 2),
+            (&[0, 1, 128], 1),
+            (&[0, 128, 0], 2),
+            (&[128, 0], 2),
+            (&[33], 3),
+            (&[32], 1),
+        ];
+        for (bytes, number) in refused {
+            assert_eq!(parse_grammar(bytes), Err(number), "{bytes:?}");
+        }
+    }
+
+    #[test]
+    fn both_beginnings() {
+        let short = parse_grammar(&G).unwrap();
+        assert_eq!((short.stages, short.start, short.rules.len()), (3, 0, 7));
+        for start in 0..3 {
+            let long = parse_grammar(&g_from(start)).unwrap();
+            assert_eq!((long.stages, long.start), (3, start.into()));
+            assert_eq!(long.rules, short.rules);
+        }
+        assert_eq!(parse_grammar(&g_from(3)), Err(6));
+        // a 0 in front of the short form: 7 stands where the start is due
+        assert_eq!(parse_grammar(&[&[0], &G[..]].concat()), Err(6));
+        let exchanged = parse_grammar(&G_EXCHANGED).unwrap();
+        assert_eq!(exchanged.start, 1);
+        assert_eq!(exchanged.from_stage_0(), short);
+        assert_eq!(short.from_stage_0(), short);
+    }
 }

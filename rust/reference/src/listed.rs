@@ -14,7 +14,7 @@ pub fn readings(grammar: &Grammar, tokens: &[Token]) -> Vec<Vec<u8>> {
         partner: partners(tokens),
         known: HashMap::new(),
     };
-    lister.from(0, 0, tokens.len()).to_vec()
+    lister.from(grammar.start, 0, tokens.len()).to_vec()
 }
 
 struct Lister<'a> {

@@ -55,9 +55,9 @@ struct Insides<'a> {
 }
 
 impl Insides<'_> {
-    /// Whether stage 0 derives the first `length` tokens, which are well matched.
+    /// Whether the start stage derives the first `length` tokens, which are well matched.
     fn beginning(&mut self, length: usize) -> bool {
-        self.level(0, 0, length)
+        self.level(self.grammar.start, 0, length)
     }
 
     fn inside(&mut self, stage: u16, open: usize) -> bool {

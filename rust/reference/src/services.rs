@@ -34,12 +34,8 @@ type Entry = Option<Big>;
 impl Work {
     pub fn new(grammar: &[u8], history: &[u8]) -> Work {
         Work(parse_grammar(grammar).and_then(|grammar| {
-            parse_history(history).map(|tokens| Served {
-                counter: Counter::new(grammar, tokens),
-                few: OnceCell::new(),
-                marks: OnceCell::new(),
-                sets: OnceCell::new(),
-            })
+            let tokens = parse_history(history)?;
+            Ok(Served::new(Counter::new(grammar, tokens)))
         }))
     }
 
@@ -172,21 +168,48 @@ impl Work {
         }
     }
 
-    /// Whether both ways agree on everything where readings are few. A fault here is one of the reference.
+    /// Whether both ways agree on everything where readings are few, and whether all stays as it is where the stages are
+    /// numbered so that stage 0 starts. A fault here is one of the reference.
     pub fn agrees_with_itself(&self) -> bool {
         let Ok(served) = &self.0 else { return true };
-        let Some(few) = served.few() else { return true };
-        let ordered = few.windows(2).all(|two| two[0] < two[1]);
-        let counted = few.iter().enumerate().all(|(place, reading)| {
-            let place = Big::new(place as u32);
-            served.counter.reading_at(&place) == *reading
-                && served.counter.place_of(reading) == Some(place)
-        });
-        ordered && counted && served.sets_counted() == served.sets_listed(few)
+        served.both_ways_agree() && served.goes_by_the_start()
     }
 }
 
 impl Served {
+    fn new(counter: Counter) -> Served {
+        Served {
+            counter,
+            few: OnceCell::new(),
+            marks: OnceCell::new(),
+            sets: OnceCell::new(),
+        }
+    }
+
+    fn both_ways_agree(&self) -> bool {
+        let Some(few) = self.few() else { return true };
+        let ordered = few.windows(2).all(|two| two[0] < two[1]);
+        let counted = few.iter().enumerate().all(|(place, reading)| {
+            let place = Big::new(place as u32);
+            self.counter.reading_at(&place) == *reading
+                && self.counter.place_of(reading) == Some(place)
+        });
+        ordered && counted && self.sets_counted() == self.sets_listed(few)
+    }
+
+    fn goes_by_the_start(&self) -> bool {
+        let grammar = self.counter.grammar();
+        if grammar.start == 0 {
+            return true;
+        }
+        let tokens = self.counter.tokens().to_vec();
+        let other = Served::new(Counter::new(grammar.from_stage_0(), tokens));
+        self.counter.total() == other.counter.total()
+            && self.few() == other.few()
+            && self.sets() == other.sets()
+            && self.marks() == other.marks()
+    }
+
     fn positions(&self) -> usize {
         self.counter.tokens().len() + 1
     }
@@ -258,10 +281,11 @@ impl Served {
 #[cfg(test)]
 mod tests {
     use super::*;
-    use frames::{history_file, Token, G};
+    use frames::{g_from, history_file, Token, G, G_EXCHANGED};
 
-    fn all(history: &[u8]) -> (Vec<Vec<u8>>, Vec<u8>, u32) {
-        let work = Work::new(&G, history);
+    /// Every reading, the stop marks and the doubtful count.
+    fn all(grammar: &[u8], history: &[u8]) -> (Vec<Vec<u8>>, Vec<u8>, u32) {
+        let work = Work::new(grammar, history);
         let mut readings = Vec::new();
         let mut place = Big::new(0);
         while place < work.total() {
@@ -276,18 +300,18 @@ mod tests {
 
     #[test]
     fn examples_of_document_01() {
-        assert_eq!(all(&[0]), (vec![vec![0]], vec![1], 0));
+        assert_eq!(all(&G, &[0]), (vec![vec![0]], vec![1], 0));
         assert_eq!(
-            all(&[3, 1, 0, 2]),
+            all(&G, &[3, 1, 0, 2]),
             (
                 vec![vec![1, 3, 4, 0], vec![2, 5, 6, 0]],
                 vec![1, 0, 0, 1],
                 3
             )
         );
-        assert_eq!(all(&[2, 1, 2]).0, vec![vec![1, 4, 0], vec![2, 6, 0]]);
+        assert_eq!(all(&G, &[2, 1, 2]).0, vec![vec![1, 4, 0], vec![2, 6, 0]]);
         assert_eq!(
-            all(&[4, 1, 2, 1, 2]).0,
+            all(&G, &[4, 1, 2, 1, 2]).0,
             vec![
                 vec![1, 4, 1, 4, 0],
                 vec![1, 4, 2, 6, 0],
@@ -295,7 +319,7 @@ mod tests {
                 vec![2, 6, 2, 6, 0]
             ]
         );
-        assert_eq!(all(&[1, 0]), (vec![], vec![1, 0], 0));
+        assert_eq!(all(&G, &[1, 0]), (vec![], vec![1, 0], 0));
         let work = Work::new(&G, &[4, 1, 2, 1, 2]);
         assert_eq!(work.next_reading(&mut [2, 6, 2, 6, 0]), NO_FURTHER);
         assert_eq!(work.next_reading(&mut [1, 4, 1, 4, 1]), 16);
@@ -303,6 +327,39 @@ mod tests {
             Work::new(&[1, 1, 1, 0, 0, 0], &[0]).first_reading(&mut [0]),
             NO_READING
         );
+    }
+
+    #[test]
+    fn examples_of_other_starts() {
+        let from_1 = g_from(1);
+        assert_eq!(all(&from_1, &[0]), (vec![vec![4]], vec![1], 0));
+        let marks = all(&from_1, &[2, 0, 0]);
+        assert_eq!(marks, (vec![vec![3, 3, 4]], vec![1, 1, 1], 0));
+        let step = all(&from_1, &[3, 1, 0, 2]);
+        assert_eq!(step, (vec![], vec![1, 0, 0, 0], 0));
+        for history in [&[0][..], &[1, 0], &[3, 1, 0, 2], &[4, 1, 2, 1, 2]] {
+            let due = all(&G, history);
+            assert_eq!(all(&g_from(0), history), due);
+            assert_eq!(all(&G_EXCHANGED, history), due);
+        }
+        // the exchanged rules by themselves start at another stage
+        let unsaid = [&[3], &G_EXCHANGED[3..]].concat();
+        let none = all(&unsaid, &[3, 1, 0, 2]);
+        assert_eq!(none, (vec![], vec![1, 0, 0, 0], 0));
+    }
+
+    /// 4 ends stage 1 and 0 ends stage 0: each is a reading of no token by its own start alone.
+    #[test]
+    fn next_by_the_start() {
+        let next = |grammar: &[u8], held| {
+            let mut buffer = [held];
+            let answer = Work::new(grammar, &[0]).next_reading(&mut buffer);
+            assert_eq!(buffer, [held]);
+            answer
+        };
+        assert_eq!([next(&G, 0), next(&G, 4)], [NO_FURTHER, 16]);
+        let from_1 = g_from(1);
+        assert_eq!([next(&from_1, 0), next(&from_1, 4)], [16, NO_FURTHER]);
     }
 
     #[test]

@@ -1,12 +1,12 @@
 //! The writers of both files, by document 02's words: the elements are judged one after the other by document 01's table,
-//! and then written. Nothing of the reader is used.
+//! and then written, a grammar always with its start. Nothing of the reader is used.
 use std::ops::RangeInclusive;
 use std::slice::Iter;
 
 /// Writes a grammar file into the buffer and gives its length, or the number of the refusal.
 pub fn write_grammar(elements: &[u32], buffer: &mut [u8]) -> Result<usize, u8> {
     judge_grammar(elements)?;
-    fill(elements, buffer)
+    fill(&with_start(elements), buffer)
 }
 
 /// Writes a history file into the buffer and gives its length, or the number of the refusal.
@@ -24,9 +24,30 @@ fn next(rest: &mut Iter<u32>, allowed: RangeInclusive<u32>, number: u8) -> Resul
     }
 }
 
+/// Whether the elements of a grammar say its start.
+fn says_start(elements: &[u32]) -> bool {
+    elements.first() == Some(&0)
+}
+
+/// A grammar's elements in the longer form: where they don't say the start, a 0 goes before the stage count and one behind it.
+fn with_start(elements: &[u32]) -> Vec<u32> {
+    let mut longer = elements.to_vec();
+    if !says_start(elements) {
+        longer.insert(1, 0);
+        longer.insert(0, 0);
+    }
+    longer
+}
+
 fn judge_grammar(elements: &[u32]) -> Result<(), u8> {
     let mut rest = elements.iter();
+    if says_start(elements) {
+        rest.next();
+    }
     let stages = next(&mut rest, 1..=32, 3)?;
+    if says_start(elements) {
+        next(&mut rest, 0..=stages - 1, 6)?;
+    }
     let count = next(&mut rest, 1..=128, 4)?;
     let mut earlier: Vec<&[u32]> = Vec::new();
     for _ in 0..count {
@@ -100,7 +121,7 @@ fn groups(number: u32) -> Vec<u8> {
 #[cfg(test)]
 mod tests {
     use super::*;
-    use frames::G;
+    use frames::{g_from, G, G_EXCHANGED};
 
     type Writer = fn(&[u32], &mut [u8]) -> Result<usize, u8>;
 
@@ -118,16 +139,49 @@ mod tests {
     #[test]
     fn examples_of_grammars() {
         let g = G.map(u32::from);
-        due(write_grammar, &g, 28, Ok(&G));
-        due(write_grammar, &g, 40, Ok(&G));
-        due(write_grammar, &g, 27, Err(15));
-        for room in [0, 28] {
+        let longer = [&[0, 3, 0, 7], &G[2..]].concat();
+        due(write_grammar, &g, 30, Ok(&longer));
+        due(write_grammar, &g, 40, Ok(&longer));
+        // the short form would have room
+        due(write_grammar, &g, 29, Err(15));
+        due(write_grammar, &g, 28, Err(15));
+        for room in [0, 28, 30] {
             due(write_grammar, &g[..27], room, Err(1));
             due(write_grammar, &[&g[..], &[5]].concat(), room, Err(9));
             due(write_grammar, &[1, 1, 1, 0, 70_000, 0], room, Err(7));
             due(write_grammar, &[1, 128, 0, 0, 0, 0], room, Err(8));
             due(write_grammar, &[], room, Err(1));
             due(write_grammar, &[u32::MAX], room, Err(3));
+        }
+    }
+
+    #[test]
+    fn examples_of_grammars_with_a_start() {
+        for file in [g_from(0), g_from(1), g_from(2), G_EXCHANGED.to_vec()] {
+            let elements: Vec<u32> = file.iter().map(|&number| number.into()).collect();
+            due(write_grammar, &elements, 30, Ok(&file));
+            due(write_grammar, &elements, 33, Ok(&file));
+            due(write_grammar, &elements, 29, Err(15));
+            due(write_grammar, &elements[..29], 30, Err(1));
+            due(write_grammar, &[&elements[..], &[0]].concat(), 30, Err(9));
+        }
+        let heads: [(&[u32], u8); 12] = [
+            (&[0], 1),
+            (&[0, 0], 3),
+            (&[0, 0, 0, 0], 3),
+            (&[0, 33, 0, 1, 0, 0], 3),
+            (&[0, 1 << 16, 0, 1, 0, 0], 3),
+            (&[0, 1], 1),
+            (&[0, 1, 1], 6),
+            (&[0, 32, 32, 0], 6),
+            (&[0, 32, 1 << 16, 1, 0, 0], 6),
+            (&[0, 1, u32::MAX, 129], 6),
+            (&[0, 1, 0], 1),
+            (&[0, 1, 0, 0], 4),
+        ];
+        for (elements, number) in heads {
+            due(write_grammar, elements, 0, Err(number));
+            due(write_grammar, elements, 30, Err(number));
         }
     }
 
@@ -161,11 +215,11 @@ mod tests {
         let rules: Vec<u8> = (0..128).flat_map(|k| [1, k / 64, k % 64, 0]).collect();
         let mut elements: Vec<u32> = rules.iter().map(|&number| number.into()).collect();
         elements.splice(0..0, [2, 128]);
-        let file = [vec![2, 128, 1], rules].concat();
-        due(write_grammar, &elements, 515, Ok(&file));
-        due(write_grammar, &elements, 514, Err(15));
+        let file = [vec![0, 2, 0, 128, 1], rules].concat();
+        due(write_grammar, &elements, 517, Ok(&file));
+        due(write_grammar, &elements, 516, Err(15));
         elements[1] = 129;
-        due(write_grammar, &elements, 515, Err(4));
+        due(write_grammar, &elements, 517, Err(4));
         assert_eq!(groups(127), [127]);
         assert_eq!(groups(128), [128, 1]);
         assert_eq!(groups(16383), [255, 127]);

@@ -1,4 +1,5 @@
 -- `writers::fill` meets its contract.
+use native.Mathlib.Nat.{zero-add}
 use borrow.Author.Needs.{needs}
 use borrow.Author.Tests.{lt-ltb, le-ltb}
 use Rattle.writers.proofs.fill.Statement.{statement}
@@ -16,7 +17,7 @@ same-length c = search needs
 returns-2 : tie.Need-returns-2
 returns-2 c =
     let d = c .before .before in
-    rw (le-ltb _ _ (d .before .before .if1 .left), d .copy .ensures)
+    rw (le-ltb _ _ (d .before .before .if1 .left), d .copy .ensures, zero-add)
 
 pub fill-spec : {M : Type 1} → statement M
 fill-spec = tie.close (tie.spec returns copy-requires same-length returns-2)

@@ -14,8 +14,15 @@ grammar-check-requires c κs = search needs
 grammar-passes-requires : tie.Need-grammar-passes-requires
 grammar-passes-requires c κs = search needs
 
-fill-requires : tie.Need-fill-requires
-fill-requires c κs = search needs
+fill-longer-requires : tie.Need-fill-longer-requires
+fill-longer-requires c κs =
+    let d = c .before in
+    let k = d .before .before in
+    let s = k .before .before in
+    let a = s .before .args in
+    let bytes = below-all 256 (a .file .now) (λ i. omega (arith, s .shared-slice-known .given i)) in
+    let p = ap passed (sym (k .grammar-check .ensures)) ∙ (sym (d .before .grammar-passes .ensures) ∙ d .if1 .taken) in
+    grammar-passes (a .file .now) (a .out .now) bytes p .1
 
 same-length : tie.Need-same-length
 same-length c = search needs
@@ -28,7 +35,7 @@ returns c =
     let a = s .before .args in
     let bytes = below-all 256 (a .file .now) (λ i. omega (arith, s .shared-slice-known .given i)) in
     let p = ap passed (sym (k .grammar-check .ensures)) ∙ (sym (d .before .grammar-passes .ensures) ∙ d .if1 .taken) in
-    c .before .before .fill .ensures ∙ sym (grammar-passes (a .file .now) (a .out .now) bytes p)
+    c .before .before .fill-longer .ensures ∙ sym (grammar-passes (a .file .now) (a .out .now) bytes p .0)
 
 grammar-number-requires : tie.Need-grammar-number-requires
 grammar-number-requires c κs = search needs
@@ -47,7 +54,7 @@ fill-grammar-spec =
     (tie.spec
     grammar-check-requires
     grammar-passes-requires
-    fill-requires
+    fill-longer-requires
     same-length
     returns
     grammar-number-requires

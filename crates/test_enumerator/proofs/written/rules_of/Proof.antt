@@ -7,13 +7,22 @@ use Rattle.test_enumerator.proofs.written.rules_of.Statement.{statement
 use Rattle.test_enumerator.proofs.written.rules_of.Tie as tie
 
 abbrev Inv-loop : tie.InvT-loop
-Inv-loop file rules₀ size p₀ to₀ rules p to = (to ≤ size + 5) × (p ≤ 3 + to) × (length rules ≡ 768)
+Inv-loop file rules₀ size p₀ to₀ rules p to = (to ≤ size + 5) × (p ≤ 4 + to) × (length rules ≡ 769)
 
 abbrev μ-loop : tie.MeasureT-loop
 μ-loop file rules₀ size p₀ to₀ rules p to = (size + 6) - to
 
+start-of-requires : tie.Need-start-of-requires Inv-loop μ-loop
+start-of-requires c κs = search needs
+
+array-write-rules : tie.Need-array-write-rules Inv-loop μ-loop
+array-write-rules c = search needs
+
 rule-bytes-requires : tie.Need-rule-bytes-requires Inv-loop μ-loop
 rule-bytes-requires c κs = search needs
+
+count-place-requires : tie.Need-count-place-requires Inv-loop μ-loop
+count-place-requires c κs = search needs
 
 behind-requires : tie.Need-behind-requires Inv-loop μ-loop
 behind-requires c κs = search needs
@@ -45,7 +54,10 @@ rules-of-spec =
     (tie.spec
     Inv-loop
     μ-loop
+    start-of-requires
+    array-write-rules
     rule-bytes-requires
+    count-place-requires
     behind-requires
     loop-holds
     slice-aggregate-copy-rule

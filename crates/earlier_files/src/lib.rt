@@ -1,0 +1,1 @@
+// What a file said before a request changed its reading; every file that passed then keeps its meaning. Theorems alone.
