@@ -1,6 +1,6 @@
 /* Checks what gaffmedlar.h does by itself: NULL for what has length 0, the words of the answers, the part of a file as a
  * struct, on the examples of one step's bytes, and the reply of a writer, on the examples of written files. Then the services
- * on grammars that say their start.
+ * on grammars that say their start, and on names of up to three bytes.
  *
  * Build, in the repository's root:
  *     tools/build library
@@ -35,14 +35,14 @@ static void due_step(const char *what, const uint8_t *history, size_t history_le
     due(what, gaffmedlar_step_refusal(history, history_len, position), number);
 }
 
-/* The file of 1,024 tokens, two bytes each: (161, 134) 512 times. */
-static size_t two_byte_steps(uint8_t *history)
+/* The file of 1,024 tokens, three bytes each: open 65,535 and close 65,534, 512 times. */
+static size_t three_byte_steps(uint8_t *history)
 {
     size_t at = 0;
     history[at++] = 128;
     history[at++] = 8;
     for (int step = 0; step < 512; step++) {
-        static const uint8_t tokens[] = {161, 1, 134, 1};
+        static const uint8_t tokens[] = {253, 255, 15, 250, 255, 15};
         memcpy(history + at, tokens, sizeof tokens);
         at += sizeof tokens;
     }
@@ -52,7 +52,7 @@ static size_t two_byte_steps(uint8_t *history)
 static void steps(void)
 {
     static const uint8_t one[] = {3, 1, 0, 2}, inside[] = {6, 1, 1, 2, 1, 2, 2}, wide[] = {5, 0, 161, 1, 252, 1, 134, 1, 0},
-                         still_open[] = {1, 1};
+                         wider[] = {3, 129, 226, 9, 172, 2, 254, 255, 15}, still_open[] = {1, 1};
     static const size_t beside[] = {1, 2, 3, 4, (size_t)1 << 31, SIZE_MAX / 2 + 1, SIZE_MAX};
     static uint8_t full[GAFFMEDLAR_HISTORY_BYTES_MAX];
 
@@ -64,11 +64,12 @@ static void steps(void)
     due_step("steps inside", inside, sizeof inside, 2, 0, 0, GAFFMEDLAR_REFUSED_NOT_AN_OPEN);
     due_step("steps inside", inside, sizeof inside, 3, 4, 2, GAFFMEDLAR_OK);
     due_step("two bytes", wide, sizeof wide, 1, 2, 6, GAFFMEDLAR_OK);
+    due_step("three bytes", wider, sizeof wider, 0, 1, 8, GAFFMEDLAR_OK);
     due_step("still open", still_open, sizeof still_open, 5, 0, 0, GAFFMEDLAR_REFUSED_STILL_OPEN);
     due_step("no history", NULL, 0, 0, 0, 0, GAFFMEDLAR_REFUSED_BYTES_END);
-    size_t full_len = two_byte_steps(full);
+    size_t full_len = three_byte_steps(full);
     for (size_t step = 0; step < 512; step++)
-        due_step("full", full, full_len, 2 * step, 2 + 4 * step, 4, GAFFMEDLAR_OK);
+        due_step("full", full, full_len, 2 * step, 2 + 6 * step, 6, GAFFMEDLAR_OK);
     due_step("full", full, full_len, 1024, 0, 0, GAFFMEDLAR_REFUSED_NOT_AN_OPEN);
 }
 
@@ -123,13 +124,14 @@ static void written_with_the_start(void)
 {
     static const uint32_t g[29] = {3, 7, RULES_OF_G, 5};
     static const uint8_t file[30] = {0, 3, 0, 7, RULES_OF_G};
-    static const uint32_t large_name[] = {1, 1, 1, 0, 70000, 0}, twice[] = {1, 128, 0, 0, 0, 0},
-                          large_count[] = {4294967295u, 1, 0, 0};
+    static const uint32_t large_name[] = {1, 1, 1, 0, 65536, 0}, large_close[] = {1, 1, 2, 0, 0, 0, 2097157, 0},
+                          twice[] = {1, 128, 0, 0, 0, 0}, large_count[] = {4294967295u, 1, 0, 0};
 
     due_at_all_lengths("G", gaffmedlar_write_grammar, g, 28, file, sizeof file);
     refused("G without its last number", gaffmedlar_write_grammar, g, 27, GAFFMEDLAR_REFUSED_BYTES_END);
     refused("G and a number behind it", gaffmedlar_write_grammar, g, 29, GAFFMEDLAR_REFUSED_BYTES_FOLLOW);
     refused("a large name", gaffmedlar_write_grammar, large_name, 6, GAFFMEDLAR_REFUSED_NAME);
+    refused("a large close", gaffmedlar_write_grammar, large_close, 8, GAFFMEDLAR_REFUSED_NAME);
     refused("a rule twice", gaffmedlar_write_grammar, twice, 6, GAFFMEDLAR_REFUSED_RULE_TWICE);
     refused("a large stage count", gaffmedlar_write_grammar, large_count, 4, GAFFMEDLAR_REFUSED_STAGE_COUNT);
     refused("no element", gaffmedlar_write_grammar, NULL, 0, GAFFMEDLAR_REFUSED_BYTES_END);
@@ -153,17 +155,17 @@ static void written_as_they_are(void)
     refused("no rule", gaffmedlar_write_grammar, no_rule, 4, GAFFMEDLAR_REFUSED_RULE_COUNT);
 }
 
-/* 128 rules of six numbers, which differ in their open's name and in their first stage: with the start, and without it. */
+/* 128 rules of ten bytes, with opens from 65,535 down and close 65,535: with the start, and without it. */
 static void longest_grammars(void)
 {
     static uint32_t numbers[GAFFMEDLAR_GRAMMAR_NUMBERS_MAX] = {0, 32, 31, 128};
     static uint8_t file[GAFFMEDLAR_GRAMMAR_BYTES_MAX] = {0, 32, 31, 128, 1};
 
     for (uint8_t rule = 0; rule < 128; rule++) {
-        const uint8_t six[6] = {2, rule / 64, rule % 64, 31, 63, 0};
-        memcpy(file + 5 + 6 * rule, six, sizeof six);
-        for (size_t i = 0; i < 6; i++)
-            numbers[4 + 6 * rule + i] = six[i];
+        const uint32_t six[6] = {2, rule % 32, 65535u - rule, 31, 65535, 0};
+        const uint8_t ten[10] = {2, rule % 32, 255 - rule, 255, 3, 31, 255, 255, 3, 0};
+        memcpy(numbers + 4 + 6 * rule, six, sizeof six);
+        memcpy(file + 5 + 10 * rule, ten, sizeof ten);
     }
     due_at_all_lengths("the longest grammar", gaffmedlar_write_grammar, numbers, GAFFMEDLAR_GRAMMAR_NUMBERS_MAX, file,
                        sizeof file);
@@ -176,22 +178,23 @@ static void longest_grammars(void)
 
 static void written_histories(void)
 {
-    static const uint32_t wide[] = {2, 161, 134}, still_open[] = {2, 1, 1, 0}, behind[] = {1, 0, 0}, large[] = {1, 16384},
-                          none[] = {0};
-    static const uint8_t wide_file[] = {2, 161, 1, 134, 1}, none_file[] = {0};
+    static const uint32_t wide[] = {3, 161, 16384, 262142}, still_open[] = {2, 1, 1, 0}, behind[] = {1, 0, 0},
+                          large[] = {1, 262144}, larger[] = {1, 4294967292u}, none[] = {0};
+    static const uint8_t wide_file[] = {3, 161, 1, 128, 128, 1, 254, 255, 15}, none_file[] = {0};
     static uint32_t full[GAFFMEDLAR_HISTORY_NUMBERS_MAX] = {1024};
     static uint8_t full_file[GAFFMEDLAR_HISTORY_BYTES_MAX];
 
-    due_at_all_lengths("two bytes each", gaffmedlar_write_history, wide, 3, wide_file, sizeof wide_file);
+    due_at_all_lengths("two and three bytes", gaffmedlar_write_history, wide, 4, wide_file, sizeof wide_file);
     due_at_all_lengths("no token", gaffmedlar_write_history, none, 1, none_file, sizeof none_file);
     refused("still open and a number behind", gaffmedlar_write_history, still_open, 4, GAFFMEDLAR_REFUSED_STILL_OPEN);
     refused("a number behind", gaffmedlar_write_history, behind, 3, GAFFMEDLAR_REFUSED_BYTES_FOLLOW);
     refused("a large token", gaffmedlar_write_history, large, 2, GAFFMEDLAR_REFUSED_TOKEN);
+    refused("a larger token", gaffmedlar_write_history, larger, 2, GAFFMEDLAR_REFUSED_TOKEN);
     refused("no element", gaffmedlar_write_history, NULL, 0, GAFFMEDLAR_REFUSED_BYTES_END);
     for (size_t i = 1; i < GAFFMEDLAR_HISTORY_NUMBERS_MAX; i++)
-        full[i] = i % 2 == 1 ? 161 : 134;
+        full[i] = i % 2 == 1 ? 262141 : 262138;
     due_at_all_lengths("the longest history", gaffmedlar_write_history, full, GAFFMEDLAR_HISTORY_NUMBERS_MAX, full_file,
-                       two_byte_steps(full_file));
+                       three_byte_steps(full_file));
 }
 
 static void due_count(const char *what, uint32_t count, uint32_t is_due)
@@ -269,7 +272,110 @@ static void starts(void)
     due("a 0 alone", gaffmedlar_grammar_check(heads[0], 1).answer, GAFFMEDLAR_REFUSED_BYTES_END);
 }
 
-int main(void)
+/* Bytes that are both a grammar and a history, each refused by this number. */
+static void refused_numbers(void)
+{
+    static const struct {
+        uint8_t bytes[4];
+        size_t length;
+        int number;
+    } all[] = {{{128}, 1, GAFFMEDLAR_REFUSED_BYTES_END},
+               {{128, 0}, 2, GAFFMEDLAR_REFUSED_NUMBER_FORM},
+               {{128, 128}, 2, GAFFMEDLAR_REFUSED_BYTES_END},
+               {{128, 128, 0}, 3, GAFFMEDLAR_REFUSED_NUMBER_FORM},
+               {{128, 128, 128}, 3, GAFFMEDLAR_REFUSED_NUMBER_FORM},
+               {{128, 128, 128, 1}, 4, GAFFMEDLAR_REFUSED_NUMBER_FORM}};
+
+    for (size_t i = 0; i < sizeof all / sizeof all[0]; i++) {
+        due("a grammar's number", gaffmedlar_grammar_check(all[i].bytes, all[i].length).answer, all[i].number);
+        due("a history's number", gaffmedlar_history_check(all[i].bytes, all[i].length).answer, all[i].number);
+    }
+}
+
+/* Names and tokens at their limits and above. */
+static void wide_limits(void)
+{
+    static const uint8_t largest[] = {1, 1, 1, 0, 255, 255, 3, 0}, above[] = {1, 1, 1, 0, 128, 128, 4, 0},
+                         above_close[] = {1, 1, 2, 0, 255, 255, 3, 0, 128, 128, 4, 0}, mark[] = {1, 252, 255, 15},
+                         step[] = {2, 253, 255, 15, 254, 255, 15}, kind_3[] = {1, 255, 255, 15},
+                         token[] = {1, 128, 128, 16}, count[] = {128, 128, 1};
+
+    due("the largest name", gaffmedlar_grammar_check(largest, sizeof largest).answer, GAFFMEDLAR_OK);
+    due("a name above", gaffmedlar_grammar_check(above, sizeof above).answer, GAFFMEDLAR_REFUSED_NAME);
+    due("a close above", gaffmedlar_grammar_check(above_close, sizeof above_close).answer, GAFFMEDLAR_REFUSED_NAME);
+    due("the largest mark", gaffmedlar_history_check(mark, sizeof mark).answer, GAFFMEDLAR_OK);
+    due("the largest step", gaffmedlar_history_check(step, sizeof step).answer, GAFFMEDLAR_OK);
+    due("a kind of 3", gaffmedlar_history_check(kind_3, sizeof kind_3).answer, GAFFMEDLAR_REFUSED_TOKEN);
+    due("a token above", gaffmedlar_history_check(token, sizeof token).answer, GAFFMEDLAR_REFUSED_TOKEN);
+    due("a token count of three bytes", gaffmedlar_history_check(count, sizeof count).answer,
+        GAFFMEDLAR_REFUSED_TOKEN_COUNT);
+}
+
+/* What is due for a grammar of one stage, whose rule 0 ends it and whose rules 1 and 2 go on, and for a history: one reading,
+ * with the rule at position 0 and rule 0 at the others; or none, with rule 0. */
+static void due_rule(const char *what, const uint8_t *grammar, size_t grammar_len, const uint8_t *history,
+                     size_t history_len, uint8_t rule)
+{
+    uint8_t reading[3] = {9, 9, 9}, marks[3] = {9, 9, 9}, answer = 9;
+    const uint8_t call = 1;
+    uint32_t words[12] = {9};
+    size_t n = gaffmedlar_history_check(history, history_len).tokens;
+    int first = rule == 0 ? GAFFMEDLAR_NO_READING : GAFFMEDLAR_OK;
+
+    due(what, gaffmedlar_first_reading(grammar, grammar_len, history, history_len, reading, 3), first);
+    due_count(what, reading[0], rule == 0 ? 9 : rule);
+    for (uint8_t other = 1; other <= 2; other++) {
+        uint8_t held[3] = {other, 0, 0};
+        int next = other == rule ? GAFFMEDLAR_NO_FURTHER : GAFFMEDLAR_REFUSED_NOT_A_READING;
+        due(what, gaffmedlar_next_reading(grammar, grammar_len, history, history_len, held, 3), next);
+        due(what,
+            gaffmedlar_run_calls(grammar, grammar_len, history, history_len, &call, 1, &answer, 1, held, sizeof held),
+            GAFFMEDLAR_OK);
+        due(what, answer, next);
+    }
+    due(what, gaffmedlar_sets(grammar, grammar_len, history, history_len, words, 12), GAFFMEDLAR_OK);
+    due_count(what, words[0], rule == 0 ? 0 : 1u << rule);
+    due_count(what, gaffmedlar_doubtful_count(grammar, grammar_len, history, history_len).count, 0);
+    due(what, gaffmedlar_stop_marks(grammar, grammar_len, history, history_len, marks, 3), GAFFMEDLAR_OK);
+    due_count(what, marks[n], rule != 0);
+}
+
+#define DUE_RULE(what, grammar, history, rule) due_rule(what, grammar, sizeof grammar, history, sizeof history, rule)
+
+/* Names that differ above bit 8 or above bit 14 alone: marks 1 and 257, marks 40,000 and 7,232, opens 1 and 16,385, closes 65,535
+ * and 32,767. */
+static void wide_names(void)
+{
+    static const uint8_t marks[] = {1, 3, 0, 0, 1, 0, 1, 0, 1, 0, 129, 2, 0},
+                         wide_marks[] = {1, 3, 0, 0, 1, 0, 192, 184, 2, 0, 1, 0, 192, 56, 0},
+                         opens[] = {1, 3, 0, 0, 2, 0, 1, 0, 0, 0, 2, 0, 129, 128, 1, 0, 0, 0},
+                         closes[] = {1, 3, 0, 0, 2, 0, 192, 184, 2, 0, 255, 255, 3, 0,
+                                     2, 0, 192, 184, 2, 0, 255, 255, 1, 0};
+    static const uint8_t mark_1[] = {1, 4}, mark_257[] = {1, 132, 8}, mark_16385[] = {1, 132, 128, 4},
+                         mark_65281[] = {1, 132, 248, 15}, mark_40000[] = {1, 128, 226, 9}, mark_7232[] = {1, 128, 226, 1};
+    static const uint8_t open_1[] = {2, 5, 2}, open_16385[] = {2, 133, 128, 4, 2}, open_257[] = {2, 133, 8, 2},
+                         open_32769[] = {2, 133, 128, 8, 2};
+    static const uint8_t close_65535[] = {2, 129, 226, 9, 254, 255, 15}, close_32767[] = {2, 129, 226, 9, 254, 255, 7},
+                         close_65279[] = {2, 129, 226, 9, 254, 247, 15}, close_16383[] = {2, 129, 226, 9, 254, 255, 3};
+
+    DUE_RULE("mark 1", marks, mark_1, 1);
+    DUE_RULE("mark 257", marks, mark_257, 2);
+    DUE_RULE("mark 16,385", marks, mark_16385, 0);
+    DUE_RULE("mark 65,281", marks, mark_65281, 0);
+    DUE_RULE("mark 40,000", wide_marks, mark_40000, 1);
+    DUE_RULE("mark 7,232", wide_marks, mark_7232, 2);
+    DUE_RULE("open 1", opens, open_1, 1);
+    DUE_RULE("open 16,385", opens, open_16385, 2);
+    DUE_RULE("open 257", opens, open_257, 0);
+    DUE_RULE("open 32,769", opens, open_32769, 0);
+    DUE_RULE("close 65,535", closes, close_65535, 1);
+    DUE_RULE("close 32,767", closes, close_32767, 2);
+    DUE_RULE("close 65,279", closes, close_65279, 0);
+    DUE_RULE("close 16,383", closes, close_16383, 0);
+}
+
+/* NULL for what has length 0. */
+static void without_pointers(void)
 {
     static const uint8_t grammar[] = {1, 1, 0, 0}, history[] = {0};
     static const uint8_t calls[] = {0, 1};
@@ -300,13 +406,20 @@ int main(void)
     due("first of the calls", answers[0], GAFFMEDLAR_OK);
     due("second of the calls", answers[1], GAFFMEDLAR_NO_FURTHER);
     due("the reading", reading[0], 0);
+}
 
+int main(void)
+{
+    without_pointers();
     steps();
     written_with_the_start();
     written_as_they_are();
     longest_grammars();
     written_histories();
     starts();
+    refused_numbers();
+    wide_limits();
+    wide_names();
 
     int said = 0;
     for (int answer = 0; answer < 256; answer++)

@@ -1,6 +1,6 @@
 /* Measures how much stack each function uses: it is called on a stack of its own that was painted before, on files at
- * every limit, and the deepest byte that changed is looked for. Fails where more is used than gaffmedlar.h states. Then
- * each function is called in a thread with the stack that gaffmedlar.h says is enough.
+ * every limit, and the deepest byte that changed is looked for. Fails where less than 1 KiB is left of what gaffmedlar.h
+ * states. Then each function is called in a thread with the stack that gaffmedlar.h says is enough.
  *
  * Build, in the repository's root:
  *     tools/build library
@@ -18,6 +18,7 @@
 #define STACK (4u << 20)
 #define THREAD (64u << 10)
 #define PAINT 0xa7
+#define LEFT 1024 /* bytes of what is stated that are never used */
 
 static uint8_t *stack;
 static ucontext_t here, there;
@@ -100,69 +101,63 @@ static int in_thread(void (*function)(void))
            pthread_create(&thread, &attributes, call, &function) == 0 && pthread_join(thread, NULL) == 0;
 }
 
-/* 32 stages and 128 rules: each stage ends, goes on by mark 0 to two stages, and makes a step. The last one starts where the
- * file says its start. */
-static void full_grammar(int says_start)
+/* Puts a number at the end of a file. */
+static size_t put(uint8_t *bytes, size_t at, uint32_t number)
 {
-    size_t at = 0;
-    if (says_start)
-        grammar[at++] = 0;
-    grammar[at++] = 32;
-    if (says_start)
-        grammar[at++] = 31;
-    grammar[at++] = 128;
-    grammar[at++] = 1;
-    for (int stage = 0; stage < 32; stage++) {
-        uint8_t later = (stage + 1) % 32, other = (stage + 7) % 32;
-        uint8_t rules[] = {0, stage, 1, stage, 0, later, 1, stage, 0, other, 2, stage, 0, later, 0, other};
-        memcpy(grammar + at, rules, sizeof rules);
-        at += sizeof rules;
+    while (number >= 128) {
+        bytes[at++] = number % 128 + 128;
+        number /= 128;
     }
-    grammar_len = at;
+    bytes[at++] = number;
+    return at;
 }
 
-/* 1,024 tokens by a pattern: marks, steps in a row, or 128 deep steps one behind the other. */
-static void full_history(int pattern)
+static size_t put_all(uint8_t *bytes, size_t at, const uint32_t *numbers, size_t count)
 {
-    size_t at = 0;
-    history[at++] = 128;
-    history[at++] = 8;
+    for (size_t i = 0; i < count; i++)
+        at = put(bytes, at, numbers[i]);
+    return at;
+}
+
+/* 32 stages and 128 rules: each stage ends, goes on by a mark to two stages, and makes a step, all of one name. The last one
+ * starts where the file says its start. */
+static void full_grammar(int says_start, uint32_t name)
+{
+    static const uint32_t heads[][4] = {{32, 128}, {0, 32, 31, 128}};
+    size_t count = says_start ? 4 : 2;
+    memcpy(grammar_numbers, heads[says_start], count * sizeof heads[0][0]);
+    for (uint32_t stage = 0; stage < 32; stage++) {
+        const uint32_t later = (stage + 1) % 32, other = (stage + 7) % 32;
+        const uint32_t rules[] = {0, stage, 1, stage, name, later, 1, stage, name, other, 2, stage, name, later, name, other};
+        memcpy(grammar_numbers + count, rules, sizeof rules);
+        count += sizeof rules / sizeof rules[0];
+    }
+    grammar_numbers_len = count;
+    grammar_len = put_all(grammar, 0, grammar_numbers, count);
+}
+
+/* 1,024 tokens of one name by a pattern: marks, steps in a row, or 128 deep steps one behind the other. */
+static void full_history(int pattern, uint32_t name)
+{
+    history_numbers[0] = 1024;
     for (int token = 0; token < 1024; token++) {
-        switch (pattern) {
-        case 0:
-            history[at++] = 0;
-            break;
-        case 1:
-            history[at++] = token % 2 == 0 ? 1 : 2;
-            break;
-        default:
-            history[at++] = token % 256 < 128 ? 1 : 2;
-        }
+        int opens = pattern == 1 ? token % 2 == 0 : token % 256 < 128;
+        uint32_t kind = pattern == 0 ? 0 : opens ? 1 : 2;
+        history_numbers[1 + token] = 4 * name + kind;
     }
-    history_len = at;
+    history_numbers_len = GAFFMEDLAR_HISTORY_NUMBERS_MAX;
+    history_len = put_all(history, 0, history_numbers, history_numbers_len);
 }
 
-/* The numbers of a file of one and two bytes each. */
-static size_t numbers_of(const uint8_t *bytes, size_t length, uint32_t *numbers)
-{
-    size_t count = 0;
-    for (size_t at = 0; at < length; count++) {
-        numbers[count] = bytes[at] % 128;
-        if (bytes[at++] >= 128)
-            numbers[count] += 128u * bytes[at++];
-    }
-    return count;
-}
-
-/* The most that the function uses on the files of both beginnings and all patterns; 0 where a thread could not be made. */
+/* The most that the function uses on the files of both beginnings, all patterns, and names of one byte and of three; 0 where a
+ * thread could not be made. */
 static size_t most_used(void (*function)(void))
 {
+    static const uint32_t names[] = {0, 65535};
     size_t most = 0;
-    for (int files = 0; files < 6; files++) {
-        full_grammar(files % 2);
-        full_history(files / 2);
-        grammar_numbers_len = numbers_of(grammar, grammar_len, grammar_numbers);
-        history_numbers_len = numbers_of(history, history_len, history_numbers);
+    for (int files = 0; files < 12; files++) {
+        full_grammar(files % 2, names[files / 6]);
+        full_history(files / 2 % 3, names[files / 6]);
         first();
         size_t bytes = used(function);
         if (bytes > most)
@@ -184,7 +179,7 @@ int main(void)
                {"gaffmedlar_run_calls", run_calls, 48},        {"gaffmedlar_sets", sets, 32},
                {"gaffmedlar_doubtful_count", doubtful, 32},    {"gaffmedlar_stop_marks", stop_marks, 28},
                {"gaffmedlar_step_bytes", step_bytes, 8},       {"gaffmedlar_step_refusal", step_refusal, 8},
-               {"gaffmedlar_write_grammar", write_grammar, 8}, {"gaffmedlar_write_history", write_history, 8}};
+               {"gaffmedlar_write_grammar", write_grammar, 8}, {"gaffmedlar_write_history", write_history, 12}};
     int faults = 0;
     stack = malloc(STACK);
     if (stack == NULL)
@@ -192,7 +187,7 @@ int main(void)
     for (size_t i = 0; i < sizeof all / sizeof all[0]; i++) {
         size_t most = most_used(all[i].function);
         printf("%-26s %6zu bytes of stack, stated %zu KiB\n", all[i].name, most, all[i].stated);
-        if (most == 0 || most > all[i].stated << 10)
+        if (most == 0 || most + LEFT > all[i].stated << 10)
             faults = 1;
     }
     printf("each of them in a thread of %u KiB\n", THREAD >> 10);

@@ -25,6 +25,11 @@
  * Every function reads both and goes by the start. gaffmedlar_write_grammar takes the numbers of both and always writes the
  * longer form.
  *
+ * Names
+ *
+ * The names of marks, opens and closes are numbers from 0 to 65,535. A history file has a token as 4 x name + kind, which is
+ * below 262,144. In both files a number takes one byte, two or three, as few as it can.
+ *
  * Readings
  *
  * n is the number of tokens of the history. It has positions 0 to n: those of its tokens, and n behind the last one. A
@@ -61,7 +66,8 @@
  *
  * "Stack" below is what the function itself uses at most: measured on files at every limit, at least 1 KiB more, and
  * rounded up to 4 KiB. A thread needs some for its own start beside that: 64 KiB are enough for a thread that calls any
- * of the functions. examples/stack.c measures both, and the gate fails where a number stated here is exceeded.
+ * of the functions. examples/stack.c measures both, and the gate fails where less than 1 KiB is left of a number stated
+ * here.
  */
 #ifndef GAFFMEDLAR_H
 #define GAFFMEDLAR_H
@@ -83,16 +89,16 @@ extern "C" {
 /* The numbers of the refusals. Before the words stands whose fault it is: that of the grammar file, of the history file,
  * of one of them (both), or of the call. */
 #define GAFFMEDLAR_REFUSED_BYTES_END 1           /* both: the bytes end inside a number or before one that is due */
-#define GAFFMEDLAR_REFUSED_NUMBER_FORM 2         /* both: a two-byte number whose second byte is 0 or has its top bit set */
+#define GAFFMEDLAR_REFUSED_NUMBER_FORM 2         /* both: a last byte of 0 after another byte, or a third byte with its top bit set */
 #define GAFFMEDLAR_REFUSED_STAGE_COUNT 3         /* grammar: stage count not 1 to 32 */
 #define GAFFMEDLAR_REFUSED_RULE_COUNT 4          /* grammar: rule count not 1 to 128 */
 #define GAFFMEDLAR_REFUSED_FORM 5                /* grammar: form above 2 */
 #define GAFFMEDLAR_REFUSED_STAGE 6               /* grammar: a stage number not below the stage count */
-#define GAFFMEDLAR_REFUSED_NAME 7                /* grammar: a name above 63 */
+#define GAFFMEDLAR_REFUSED_NAME 7                /* grammar: a name above 65,535 */
 #define GAFFMEDLAR_REFUSED_RULE_TWICE 8          /* grammar: a rule equal in form and all fields to an earlier rule */
 #define GAFFMEDLAR_REFUSED_BYTES_FOLLOW 9        /* both: bytes follow the last rule or token */
 #define GAFFMEDLAR_REFUSED_TOKEN_COUNT 10        /* history: token count above 1,024 */
-#define GAFFMEDLAR_REFUSED_TOKEN 11              /* history: a token number above 255, or one that leaves 3 when divided by 4 */
+#define GAFFMEDLAR_REFUSED_TOKEN 11              /* history: a token number with a name above 65,535, or one that leaves 3 when divided by 4 */
 #define GAFFMEDLAR_REFUSED_CLOSE_WITHOUT_OPEN 12 /* history: a close with no step open */
 #define GAFFMEDLAR_REFUSED_STILL_OPEN 13         /* history: a step still open after the last token */
 #define GAFFMEDLAR_REFUSED_TOO_DEEP 14           /* history: an open while 128 steps are open */
@@ -106,8 +112,8 @@ extern "C" {
 #define GAFFMEDLAR_TOKENS_MAX 1024
 #define GAFFMEDLAR_READING_MAX 1025         /* bytes of a reading, and of the stop marks */
 #define GAFFMEDLAR_WORDS_MAX 4100           /* words of the sets */
-#define GAFFMEDLAR_GRAMMAR_BYTES_MAX 773    /* bytes of a grammar file */
-#define GAFFMEDLAR_HISTORY_BYTES_MAX 2050   /* bytes of a history file */
+#define GAFFMEDLAR_GRAMMAR_BYTES_MAX 1285   /* bytes of a grammar file */
+#define GAFFMEDLAR_HISTORY_BYTES_MAX 3074   /* bytes of a history file */
 #define GAFFMEDLAR_GRAMMAR_NUMBERS_MAX 772  /* numbers of a grammar file */
 #define GAFFMEDLAR_HISTORY_NUMBERS_MAX 1025 /* numbers of a history file */
 
@@ -215,7 +221,7 @@ struct gaffmedlar_written gaffmedlar_write_grammar(const uint32_t *numbers, size
  * few elements), 9 (elements follow the last token) or 10 to 14, never 2; and where nothing is wrong with the numbers, 15
  * (file_len below the length of the file). An element may be any number: one that is too large for every file gets 10 as
  * the token count, 11 as a token.
- * Writes file[0] to file[length - 1], with answer 0 alone. Stack: 8 KiB. */
+ * Writes file[0] to file[length - 1], with answer 0 alone. Stack: 12 KiB. */
 struct gaffmedlar_written gaffmedlar_write_history(const uint32_t *numbers, size_t numbers_len, uint8_t *file,
                                                    size_t file_len);
 
@@ -228,7 +234,7 @@ static inline const char *gaffmedlar_words(uint8_t answer)
     case GAFFMEDLAR_REFUSED_BYTES_END:
         return "the bytes end inside a number or before one that is due";
     case GAFFMEDLAR_REFUSED_NUMBER_FORM:
-        return "a two-byte number whose second byte is 0 or has its top bit set";
+        return "a last byte of 0 after another byte, or a third byte with its top bit set";
     case GAFFMEDLAR_REFUSED_STAGE_COUNT:
         return "stage count not 1 to 32";
     case GAFFMEDLAR_REFUSED_RULE_COUNT:
@@ -238,7 +244,7 @@ static inline const char *gaffmedlar_words(uint8_t answer)
     case GAFFMEDLAR_REFUSED_STAGE:
         return "a stage number not below the stage count";
     case GAFFMEDLAR_REFUSED_NAME:
-        return "a name above 63";
+        return "a name above 65,535";
     case GAFFMEDLAR_REFUSED_RULE_TWICE:
         return "a rule equal in form and all fields to an earlier rule";
     case GAFFMEDLAR_REFUSED_BYTES_FOLLOW:
@@ -246,7 +252,7 @@ static inline const char *gaffmedlar_words(uint8_t answer)
     case GAFFMEDLAR_REFUSED_TOKEN_COUNT:
         return "token count above 1,024";
     case GAFFMEDLAR_REFUSED_TOKEN:
-        return "a token number above 255, or one that leaves 3 when divided by 4";
+        return "a token number with a name above 65,535, or one that leaves 3 when divided by 4";
     case GAFFMEDLAR_REFUSED_CLOSE_WITHOUT_OPEN:
         return "a close with no step open";
     case GAFFMEDLAR_REFUSED_STILL_OPEN:

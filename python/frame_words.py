@@ -26,7 +26,7 @@ class Notes(NamedTuple):
 
 def notes_beside(path, kind, data):
     """Those of the text that has the file's name but .txt at its end, where it is there and says the same."""
-    text, fault = text_beside(path, kind, data, os.path.basename)
+    text, fault = text_beside(path, kind, data, len(data), os.path.basename)
     if text is None:
         return Notes("", [], fault)
     return Notes(text.name, [Note(item.line, printable(item.comment.replace("\t", " "))) for item in text.items], None)
@@ -95,13 +95,13 @@ class FrameWords:
         return token
 
     def token_brief(self, position):
-        """The same in few words, indented by its depth."""
+        """The same in few words, moved in by its depth; never so far that the kind and the name take two lines of a table."""
         kind, token = self.kind(position), self.token(position)
         if kind == "end":
             return "the end"
         partner = {"open": ", to %s", "close": ", from %s", "mark": "%.0s"}[kind] % self.partner[position]
         comment = self.token_comment(position)
-        return "  " * min(self.depth[position], 8) + token + partner + (": " + comment if comment else "")
+        return "  " * min(self.depth[position], 6) + token + partner + (": " + comment if comment else "")
 
     # ---- rules
     def rule_comment(self, rule):

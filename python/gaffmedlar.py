@@ -41,9 +41,9 @@ READING_MAX = 1025
 """Bytes of the longest reading: of a history of 1,024 tokens."""
 WORDS_MAX = 4 * READING_MAX
 """Words of the sets of such a history."""
-GRAMMAR_BYTES_MAX = 773
+GRAMMAR_BYTES_MAX = 1285
 """Bytes of the longest grammar file that passes, which is one with its start written out."""
-HISTORY_BYTES_MAX = 2050
+HISTORY_BYTES_MAX = 3074
 """Bytes of the longest history file that passes."""
 
 
@@ -58,16 +58,16 @@ class RefusalRow(NamedTuple):
 
 REFUSALS = tuple(RefusalRow(*row) for row in (
     (1, "BYTES_END", "both", "the bytes end inside a number or before one that is due"),
-    (2, "NUMBER_FORM", "both", "a two-byte number whose second byte is 0 or has its top bit set"),
+    (2, "NUMBER_FORM", "both", "a last byte of 0 after another byte, or a third byte with its top bit set"),
     (3, "STAGE_COUNT", "grammar", "stage count not 1 to 32"),
     (4, "RULE_COUNT", "grammar", "rule count not 1 to 128"),
     (5, "FORM", "grammar", "form above 2"),
     (6, "STAGE", "grammar", "a stage number not below the stage count"),
-    (7, "NAME", "grammar", "a name above 63"),
+    (7, "NAME", "grammar", "a name above 65,535"),
     (8, "RULE_TWICE", "grammar", "a rule equal in form and all fields to an earlier rule"),
     (9, "BYTES_FOLLOW", "both", "bytes follow the last rule or token"),
     (10, "TOKEN_COUNT", "history", "token count above 1,024"),
-    (11, "TOKEN", "history", "a token number above 255, or one that leaves 3 when divided by 4"),
+    (11, "TOKEN", "history", "a token number with a name above 65,535, or one that leaves 3 when divided by 4"),
     (12, "CLOSE_WITHOUT_OPEN", "history", "a close with no step open"),
     (13, "STILL_OPEN", "history", "a step still open after the last token"),
     (14, "TOO_DEEP", "history", "an open while 128 steps are open"),

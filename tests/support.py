@@ -20,6 +20,29 @@ LONG_G, G_FROM_1, NOT_EXCHANGED = bytes([0, 3, 0]) + G[1:], bytes([0, 3, 1]) + G
 FAULTY_BEGINNINGS = [([0], 1), ([0, 0], 3), ([0, 0, 0, 0], 3), ([128, 0], 2), ([0, 1], 1), ([0, 1, 1], 6), ([0, 33], 3), ([0, 128, 0], 2),
                      ([0, 1, 0, 0], 4), ([0, 1, 0], 1), ([0, 1, 1, 0], 6), ([0, 3, 3] + list(G[1:]), 6)]
 
+# Pairs of names: small ones, and such as differ in a single high bit, or in all above the lowest eight.
+NAME_PAIRS = [(0, 1), (0, 1), (1, 257), (1, 16385), (65535, 32767), (40000, 7232), (1, 65281), (65280, 0)]
+# Marks 1 and 257; then steps that open by 40,000 and close by 65,535 or by 32,767.
+WIDE_MARKS = bytes([1, 3, 0, 0, 1, 0, 1, 0, 1, 0, 129, 2, 0])
+WIDE_STEPS = bytes([1, 3, 0, 0, 2, 0, 192, 184, 2, 0, 255, 255, 3, 0, 2, 0, 192, 184, 2, 0, 255, 255, 1, 0])
+# Grammar, history and listing of frames with wide names, by hand. Where there is none, a name is another than that of each rule: mark
+# 16,385 and 65,281, close 65,279, open 7,232 and 65,344.
+WIDE_FRAMES = [
+    (WIDE_MARKS, [1, 4], "tokens 1\ndoubtful 0\n1: 1 0\nend 1\n"),
+    (WIDE_MARKS, [1, 132, 8], "tokens 1\ndoubtful 0\n1: 2 0\nend 1\n"),
+    (WIDE_MARKS, [3, 132, 8, 4, 132, 8], "tokens 3\ndoubtful 0\n1: 2 1 2 0\nend 1\n"),
+    (WIDE_MARKS, [1, 132, 128, 4], "tokens 1\nnone\n"),
+    (WIDE_MARKS, [1, 132, 248, 15], "tokens 1\nnone\n"),
+    (WIDE_STEPS, [2, 129, 226, 9, 254, 255, 15], "tokens 2\ndoubtful 0\n1: 1 0 0\nend 1\n"),
+    (WIDE_STEPS, [2, 129, 226, 9, 254, 255, 7], "tokens 2\ndoubtful 0\n1: 2 0 0\nend 1\n"),
+    (WIDE_STEPS, [2, 129, 226, 9, 254, 247, 15], "tokens 2\nnone\n"),
+    (WIDE_STEPS, [2, 129, 226, 1, 254, 255, 15], "tokens 2\nnone\n"),
+    (WIDE_STEPS, [2, 129, 250, 15, 254, 255, 15], "tokens 2\nnone\n"),
+    (WIDE_STEPS, [4, 129, 226, 9, 129, 226, 9, 254, 255, 7, 254, 255, 15], "tokens 4\ndoubtful 0\n1: 1 2 0 0 0\nend 1\n"),
+]
+# First numbers of a file at fault, whichever file it is, and the number of each.
+FAULTY_NUMBERS = [([128], 1), ([128, 128], 1), ([128, 0], 2), ([128, 128, 0], 2), ([128, 128, 128], 2), ([128, 128, 128, 1], 2), ([255, 255, 255], 2)]
+
 LIBRARY = os.path.join(ROOT, "target", "shared", "libgaffmedlar.so")
 # The library that has just been made; so nothing has to look whether it is new.
 os.environ["GAFFMEDLAR_LIBRARY"] = LIBRARY
@@ -33,34 +56,36 @@ def sample(name, file):
         return f.read()
 
 
-def random_tokens(draw, length):
-    """A well-matched row of tokens with names 0 and 1."""
+def random_tokens(draw, length, names=(0, 1)):
+    """A well-matched row of tokens with these two names."""
     tokens, opens = [], 0
     while len(tokens) + opens < length:
         kind = draw.choice((0, 0, 1, 2))
         if kind == 2 and opens == 0:
             continue
         opens += (kind == 1) - (kind == 2)
-        tokens.append(4 * draw.randrange(2) + kind)
-    return tokens + [2] * opens
+        tokens.append(4 * draw.choice(names) + kind)
+    return tokens + [4 * names[0] + 2] * opens
 
 
 def random_frame(draw):
-    """A grammar of either beginning, with any start, and a history; both pass, and most of these have readings."""
-    stages = draw.randint(1, 3)
+    """A grammar of either beginning, with any start, and a history; both pass, and most of these have readings. All names are two."""
+    stages, names = draw.randint(1, 3), draw.choice(NAME_PAIRS)
     def stage():
         return draw.randrange(stages)
+    def name():
+        return draw.choice(names)
     def rule():
         form = draw.choice((1, 1, 2, 2, 2))
         if form == 1:
-            return (1, stage(), draw.randrange(2), stage())
-        return (2, stage(), draw.randrange(2), stage(), draw.randrange(2), stage())
+            return (1, stage(), name(), stage())
+        return (2, stage(), name(), stage(), name(), stage())
     rules = {(0, k): None for k in range(stages)}
     rules.update((rule(), None) for _ in range(draw.randint(4, 24)))
     rules = list(rules)
     draw.shuffle(rules)
     start = draw.choice((None, 0, stage(), stage()))
-    return grammar_bytes(stages, rules, start), history_bytes(random_tokens(draw, draw.randint(0, 12)))
+    return grammar_bytes(stages, rules, start), history_bytes(random_tokens(draw, draw.randint(0, 12), names))
 
 
 def long_form(grammar):
@@ -73,7 +98,7 @@ def damaged(draw, data):
     """A file with a few bytes changed, left out, put in, or with its end cut off."""
     data = bytearray(data)
     for _ in range(draw.randint(1, 3)):
-        at, byte = draw.randint(0, len(data)), draw.choice((0, 1, 2, 3, 31, 32, 33, 63, 64, 127, 128, 129, 255, draw.randrange(256)))
+        at, byte = draw.randint(0, len(data)), draw.choice((0, 1, 2, 3, 4, 15, 16, 31, 32, 33, 127, 128, 129, 255, draw.randrange(256)))
         what = draw.randrange(4)
         if what == 0:
             data[at:at + 1] = [byte]

@@ -5,7 +5,7 @@ The fault is the one that the reader of frames.py finds; the refusal's words and
 import os
 
 from frame_text import PARSE, TextFault, decoded, rule_text
-from frames import FIELDS, Reader, Refused, read_grammar, read_history, token_words
+from frames import FIELDS, NAME_MOST, Reader, Refused, number_bytes, number_from, read_grammar, read_history, token_words
 from refusal_table import table
 from streams import CouldNotRun, printable, read_text, why
 
@@ -51,8 +51,9 @@ class Text:
         return "%s: %s" % (self.named(line), said if len(said) <= SHOWN_LINE else said[:SHOWN_LINE] + " ..")
 
 
-def text_beside(path, kind, data, name_of=str):
-    """The readable form beside a file where it says the same, and a word where it doesn't; its path is told by name_of."""
+def text_beside(path, kind, data, size, name_of=str):
+    """The readable form beside a file where it says the same, and a word where it doesn't; its path is told by name_of. `data` are the
+    file's bytes, or as many as have to be looked at, and `size` is its length."""
     beside = os.path.splitext(path)[0] + ".txt"
     if path == "-" or beside == path or not os.path.isfile(beside):
         return None, None
@@ -61,7 +62,7 @@ def text_beside(path, kind, data, name_of=str):
         text = Text(kind, read_text(beside), name)
     except (CouldNotRun, TextFault):
         return None, "%s lies beside it and can't be read as a %s" % (name, kind)
-    if data not in text.files:
+    if not any(len(same) == size and same.startswith(data) for same in text.files):
         return None, "%s lies beside it and says something else" % name
     return text, None
 
@@ -135,19 +136,21 @@ def cut_off(file, refused):
     if refused.at == refused.end:
         yield "%s is due at byte %d, %s" % (what, refused.at, there)
     else:
-        yield "%s: byte %d says that another follows, %s" % (what, refused.at, there)
+        yield "%s: byte %d says that another follows, %s" % (what, refused.end - 1, there)
         yield from file.place(refused)
     if refused.item is not None:
         yield "%ss due by the count: %d; there, and whole: %d" % (ITEM[file.kind], refused.due, refused.item)
 
 
 def number_form(file, refused):
-    """2: what is wrong with the second byte."""
-    first, second = file.data[refused.at:refused.end]
-    if second == 0:
-        said = "its second byte is 0; in the shortest form it is the one byte %d" % (first - 128)
+    """2: what is wrong with the last byte, which is the second or the third."""
+    groups = file.data[refused.at:refused.end]
+    said = "its %s byte is %d" % ("second" if len(groups) == 2 else "third", groups[-1])
+    if groups[-1] == 0:
+        shortest = number_bytes(number_from(groups))
+        said += "; in the shortest form it is the %s %s" % ("one byte" if len(shortest) == 1 else "two bytes", " ".join(map(str, shortest)))
     else:
-        said = "its second byte is %d, which says that a third follows, and two are the most" % second
+        said += ", which says that a fourth follows, and three are the most"
     yield "%s: %s" % (field_words(file, refused), said)
     yield from file.place(refused)
 
@@ -181,13 +184,13 @@ def bytes_follow(file, refused):
 
 
 def no_token(file, refused):
-    """11: above 255, or of kind 3."""
-    item, value = refused.item, refused.value
-    if value > 255:
-        words = " (%s)" % token_words(value) if value % 4 < 3 else ""
-        yield "token %d%s: %s, which is above 255; names 0 to 63 are allowed" % (item, words, "{:,}".format(value))
+    """11: with a name that is too large, or of kind 3."""
+    token, value, name, most = "token %d" % refused.item, refused.value, refused.value // 4, NAME_MOST
+    if name > most:
+        token += " (%s)" % token_words(value) if value % 4 < 3 else ""
+        yield "{}: {:,}, which is above {:,}; names 0 to {:,} are allowed".format(token, value, 4 * most + 3, most)
     else:
-        yield "token %d: %d, which is 4 × %d + 3: name %d and kind 3, where kinds 0, 1 and 2 are allowed" % (item, value, value // 4, value // 4)
+        yield "{}: {:,}, which is 4 × {:,} + 3: name {:,} and kind 3, where kinds 0, 1 and 2 are allowed".format(token, value, name, name)
     yield from file.place(refused)
 
 

@@ -14,7 +14,8 @@ With a line 'start N' the file has the long form, which begins with a 0. Without
 A history: 'mark N', 'open N' or 'close N' for each token, any number of them to a line.
 
 A text is UTF-8, with or without a byte order mark, its lines ended by LF or CR LF. Only what can't be written as numbers is a fault
-here; whether the numbers are in their ranges is told by the reader of frames.py.
+here; whether the numbers are in their ranges is told by the reader of frames.py. There are never too many rules or tokens to be counted
+by a number of a file: a text that had so many is longer than the commands read (streams.py).
 """
 import re
 from typing import List, NamedTuple, Optional
@@ -110,7 +111,7 @@ def number_of(word, line, what, most=MOST):
         raise TextFault(line, "%s is no number, and %s is due, in the digits 0 to 9" % (quoted(word), what))
     digits = word.lstrip("0") or "0"
     if len(digits) > len(str(most)) or int(digits) > most:
-        raise TextFault(line, "%s is too large for %s: a file can hold no more than %d there" % (quoted(word), what, most))
+        raise TextFault(line, "%s is too large for %s: a file can hold no more than %s there" % (quoted(word), what, "{:,}".format(most)))
     return int(digits)
 
 
@@ -150,8 +151,6 @@ def parse_grammar(text):
         if words[0] == "start":
             start, start_line = start_stage(line, words, start_line, rules), line
             continue
-        if len(rules) == MOST:
-            raise TextFault(line, "a file can hold no more than %d rules" % MOST)
         rules.append(rule_numbers(line, words))
         rule_lines.append(RuleLine(line, words, comment))
     # 0 stages in the short form would be read as the 0 of the long one
@@ -168,8 +167,6 @@ def parse_history(text):
                 raise TextFault(line, "no kind of token: %s; %s" % (quoted(kind), TOKEN_HELP))
             if not name:
                 raise TextFault(line, "the line ends behind %s; %s" % (quoted(kind), TOKEN_HELP))
-            if len(tokens) == MOST:
-                raise TextFault(line, "a file can hold no more than %d tokens" % MOST)
             numbers.append(4 * number_of(name[0], line, "the %s's name" % kind, MOST // 4) + KINDS.index(kind))
             tokens.append(TokenLine(line, comment))
     return HistoryText(numbers, tokens)
@@ -189,14 +186,15 @@ def grammar_text(stages, rules, start=None):
     """The start is told where the file records it."""
     lines = ["stages %d" % stages] + ([] if start is None else ["start %d" % start])
     for number, rule in enumerate(rules):
-        lines.append(rule_text(rule).ljust(36) + "# rule %d" % number)
+        lines.append("%-35s # rule %d" % (rule_text(rule), number))
     return "\n".join(lines) + "\n"
 
 
 def history_text(tokens):
+    """A line for each token, moved in by the steps around it, of which no history that passes has more than 128."""
     lines, depth = [], 0
     for token in tokens:
         depth -= token % 4 == 2
-        lines.append("  " * max(depth, 0) + token_words(token))
+        lines.append("  " * min(max(depth, 0), 128) + token_words(token))
         depth += token % 4 == 1
     return "\n".join(lines) + "\n"

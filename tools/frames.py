@@ -25,8 +25,13 @@ FIELDS = [
 ]
 NAMES = ["c", "a", "b"]
 
-# The largest number that two bytes can hold.
-MOST = (1 << 14) - 1
+# The most bytes of a number, and the largest number that they can hold.
+NUMBER_BYTES = 3
+MOST = (1 << 7 * NUMBER_BYTES) - 1
+
+# The largest name of a mark, an open or a close, and the largest token: the close of that name.
+NAME_MOST = 65535
+TOKEN_MOST = 4 * NAME_MOST + 2
 
 
 class Grammar(NamedTuple):
@@ -75,10 +80,10 @@ class Refused(Exception):
 
 # ---- to bytes
 def number_bytes(n):
-    """A number below 128 is its own byte; from 128 on two bytes, low group first."""
+    """A number below 128 is its own byte; otherwise its low group with 128 added, and behind it the bytes of the number above it."""
     if not 0 <= n <= MOST:
-        raise ValueError("%d does not fit in two bytes of seven bits" % n)
-    return bytes([n]) if n < 128 else bytes([n % 128 + 128, n // 128])
+        raise ValueError("%d does not fit in three bytes of seven bits" % n)
+    return bytes([n]) if n < 128 else bytes([n % 128 + 128]) + number_bytes(n // 128)
 
 
 def numbers_bytes(numbers):
@@ -96,6 +101,11 @@ def history_bytes(tokens):
 
 
 # ---- from bytes, with the refusals in document 01's order
+def number_from(groups):
+    """The number that these bytes are: groups of seven bits, the lowest first, whatever their top bits."""
+    return sum(group % 128 << 7 * place for place, group in enumerate(groups))
+
+
 class Reader:
     """The numbers of a file one behind the other, and where the next one begins.
 
@@ -114,15 +124,18 @@ class Reader:
             raise Refused(number, at, self.at, (self.item, self.first, self.form, self.due), **more)
 
     def number(self, field):
-        """A number below 128 is its own byte; a byte from 128 on is the low group, and a byte from 1 to 127 follows it."""
-        at = self.at
-        groups = self.data[at:at + 1] if self.data[at:at + 1] < b"\x80" else self.data[at:at + 2]
+        """One to three groups of seven bits, the lowest first: 128 is added to each but the last, which is 0 only where it is alone."""
+        at, before = self.at, 0
+        there = self.data[at:at + NUMBER_BYTES]
+        while before < len(there) and there[before] >= 128:
+            before += 1
+        groups = there[:before + 1]
         self.at += len(groups)
-        if not groups or len(groups) == 1 and groups[0] >= 128:
-            self.refuse(1, at, must=True, field=field)
-        if len(groups) == 2 and not 1 <= groups[1] < 128:
+        if before == len(groups):
+            self.refuse(2 if before == NUMBER_BYTES else 1, at, must=True, field=field)
+        if before and groups[-1] == 0:
             self.refuse(2, at, must=True, field=field)
-        return groups[0] if len(groups) == 1 else groups[0] - 128 + 128 * groups[1]
+        return number_from(groups)
 
     def within(self, field, least, most, refusal, must=False, others=()):
         """A number that has to be one from least to most."""
@@ -145,7 +158,7 @@ def read_rule(reader, stages, before):
     reader.form = form
     rule = [form]
     for field in FIELDS[form]:
-        rule.append(reader.within(field, 0, 63, 7) if field in NAMES else reader.within(field, 0, stages - 1, 6))
+        rule.append(reader.within(field, 0, NAME_MOST, 7) if field in NAMES else reader.within(field, 0, stages - 1, 6))
     return rule
 
 
@@ -185,10 +198,10 @@ def read_history(data, lax=False):
     tokens, opens = [], []
     for item in range(reader.due):
         reader.begin(item)
-        t = reader.within("token", 0, 255, 11)
+        t = reader.within("token", 0, TOKEN_MOST, 11)
         at = reader.first
         if t % 4 == 3:
-            reader.refuse(11, at, must=True, field="token", value=t, allowed=(0, 255))
+            reader.refuse(11, at, must=True, field="token", value=t, allowed=(0, TOKEN_MOST))
         if t % 4 == 1:
             if len(opens) == 128:
                 reader.refuse(14, at, field="token", value=t, others=opens)

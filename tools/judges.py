@@ -4,8 +4,9 @@ The scripts that make cases find answers by these judges and hold them to the an
 go by, has a reader of its own.
 """
 
-# Every token number that there is.
-TOKENS = {4 * name + kind for name in range(64) for kind in range(3)}
+# Every name and every token number that there is.
+NAMES = range(65536)
+TOKENS = {4 * name + kind for name in NAMES for kind in range(3)}
 
 
 class Refused(Exception):
@@ -39,16 +40,21 @@ class Elements:
 
 
 class Bytes(Elements):
-    """The numbers of a file: 1 where the bytes end, 2 for "a second byte that is 0 or has its top bit set"."""
+    """The numbers of a file: 1 where the bytes end, 2 for "a last byte of 0 after another byte, or a third byte with its top bit set"."""
 
     def due(self):
-        low = super().due()
-        if low < 128:
-            return low
-        high = super().due()
-        if high == 0 or high >= 128:
+        first = super().due()
+        if first < 128:
+            return first
+        second = super().due()
+        if second == 0:
             raise Refused(2)
-        return low - 128 + 128 * high
+        if second < 128:
+            return first - 128 + 128 * second
+        third = super().due()
+        if third == 0 or third >= 128:
+            raise Refused(2)
+        return first - 128 + 128 * (second - 128) + 16384 * third
 
 
 def judge_grammar(source):
@@ -63,7 +69,7 @@ def judge_grammar(source):
         form = source.number(range(3), 5)
         rule = [form]
         for field in ["L", "L c L1", "L a L1 b L2"][form].split():
-            rule.append(source.number(range(64), 7) if field in "abc" else source.number(range(stages), 6))
+            rule.append(source.number(NAMES, 7) if field in "abc" else source.number(range(stages), 6))
         if rule in rules:
             raise Refused(8)
         rules.append(rule)

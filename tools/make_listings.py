@@ -4,14 +4,16 @@
 Run from the repository's root, when the cases change. A case in cases.bin is four bytes (the grammar's length and the
 history's, low byte first), then both files. random.bin beside it has 1,500 more in the same form, drawn once, every other
 one of them with its stages in another order and its start recorded; this tool only lists them. No part of the library is
-run: the checks (frames.py) and the search below are written from documents 01 and 02 alone, and the search tries every rule
-at every token, with no table of what can follow.
+run: the checks (frames.py), which are held to judges.py, and the search below are written from documents 01 and 02 alone,
+and the search tries every rule at every token, with no table of what can follow.
 """
 import itertools
 import os
 import sys
 
+import judges
 from frames import CLOSE, EXCHANGED, G, MARK, OPEN, Refused, grammar_bytes, history_bytes, read_grammar, read_history
+from wide_names import chains, lost, masks
 
 
 # ---- readings: from a stage at a position, what is still due being a chain of (close name, stage after it)
@@ -72,6 +74,11 @@ def listing(grammar, history):
         tokens = read_history(history)
     except Refused as e:
         return "refused history %d\n" % e.args[0]
+    return listing_of(read, tokens)
+
+
+def listing_of(read, tokens):
+    """The listing of files that pass."""
     out = ["tokens %d" % len(tokens)]
     every = list(itertools.islice(readings(read, tokens), 200000))
     if len(every) == 200000:
@@ -130,21 +137,72 @@ def recorded_starts():
     ends = [[0, k] for k in range(32)]
     for start in range(32):
         case(grammar_bytes(32, ends, start), [0])
-    # 773 bytes, with no rule that ends a stage; and all but the last of them
-    longest = grammar_bytes(32, [[2, 31, k // 64, 31, k % 64, 31] for k in range(128)], 31)
-    case(longest, history_bytes(OPEN + CLOSE))
+    # 1,285 bytes, with no rule that ends a stage; and all but the last of them
+    longest = grammar_bytes(32, [[2, 31, 49152 + k // 64, 31, 49152 + k % 64, 31] for k in range(128)], 31)
+    case(longest, history_bytes([4 * 49152 + 1, 4 * 49152 + 2]))
     case(longest[:-1], history_bytes(OPEN + CLOSE))
+
+
+def wide_names():
+    # document 02's examples of names above 63
+    marks = [1, 3, 0, 0, 1, 0, 1, 0, 1, 0, 129, 2, 0]
+    for token in ([4], [132, 8], [132, 128, 4], [132, 248, 15]):
+        case(marks, [1] + token)
+    closes = [1, 3, 0, 0, 2, 0, 192, 184, 2, 0, 255, 255, 3, 0, 2, 0, 192, 184, 2, 0, 255, 255, 1, 0]
+    for close in ([254, 255, 15], [254, 255, 7], [254, 247, 15]):
+        case(closes, [2, 129, 226, 9] + close)
+    for h in ([1, 128, 128, 1], [2, 253, 255, 15, 254, 255, 15], [3, 129, 226, 9, 172, 2, 254, 255, 15], [1, 252, 255, 15]):
+        case(G, h)
+    # 3,074 bytes
+    case(grammar_bytes(1, [[0, 0], [1, 0, 65535, 0]]), history_bytes([262140] * 1024))
+
+
+def told_apart():
+    """The listing would be another one if the program lost a bit of a name, in the grammar, in the history or in both."""
+    for label, kind, names, grammar, tokens, _ in chains():
+        text = listing_of(grammar, tokens)
+        for mask in masks(names):
+            for where, other_grammar, other_tokens in lost(kind, grammar, tokens, mask):
+                if listing_of(other_grammar, other_tokens) == text:
+                    sys.exit("make_listings: %s, cut to %x in %s: the same listing" % (label, mask, where))
+        case(grammar_bytes(*grammar), history_bytes(tokens))
+
+
+def with_names(grammar, tokens, name):
+    """The two files with each name n as name(n)."""
+    places = [set(), {2}, {2, 4}]
+    rules = [[name(n) if i in places[rule[0]] else n for i, n in enumerate(rule)] for rule in grammar.rules]
+    return grammar_bytes(grammar.stages, rules, grammar.recorded), history_bytes([4 * name(t // 4) + t % 4 for t in tokens])
+
+
+def renamed():
+    """Every twentieth of the pairs that were drawn, with names that differ above bit 8 alone or above bit 10 alone: the same listing."""
+    for k, (g, h) in enumerate(itertools.islice(written("random.bin"), 0, None, 20)):
+        text = listing(g, h)
+        if text.startswith("refused"):
+            continue
+        # each n up to 63 has a name of its own
+        files = with_names(read_grammar(g), read_history(h), [lambda n: 1 + 256 * (n % 64), lambda n: 65535 - 1024 * (n % 64)][k % 2])
+        if listing(*files) != text:
+            sys.exit("make_listings: drawn pair %d: another listing with other names" % (20 * k))
+        case(*files)
 
 
 def refusals():
     fine = [1]
-    for g in [[], [128], [0], [33, 1], [1], [1, 0], [1, 129, 1], [1, 1], [1, 1, 3], [1, 1, 0, 1], [1, 1, 1, 0, 64, 0], [1, 1, 2, 0, 64], [1, 1, 2, 0, 0, 0, 64, 0], [1, 1, 0, 128, 0], [1, 1, 0, 0, 0], [2, 3, 0, 0, 0, 1, 0, 0]]:
+    files = [[], [128], [0], [33, 1], [1], [1, 0], [1, 129, 1], [1, 1], [1, 1, 3], [1, 1, 0, 1], [1, 1, 0, 128, 0], [1, 1, 0, 0, 0], [2, 3, 0, 0, 0, 1, 0, 0]]
+    files += [[1, 1, 1, 0, 128, 128, 4, 0], [1, 1, 2, 0, 128, 128, 4], [1, 1, 2, 0, 0, 0, 128, 128, 4, 0]]
+    files += [[1, 1, 1, 0, 128, 128], [1, 1, 1, 0, 128, 128, 0, 0], [1, 1, 1, 0, 128, 128, 128, 0]]
+    for g in files:
         case(g, fine)
         case(g, [0])
     # the head of a grammar with its start
-    for g in [[0, 0], [0, 0, 0, 0], [128, 0], [0, 1, 1], [0, 1], [0, 33], [0, 128, 0], [0, 1, 0, 0], [0, 1, 0], [0, 3, 129, 0, 1, 0, 0], [0, 3, 3, 0], [0, 2, 1, 1], [0, 2, 1, 1, 0, 2], [0] + list(G), [0, 2, 1, 1, 0, 1, 0]]:
+    heads = [[0, 0], [0, 0, 0, 0], [128, 0], [128, 128], [128, 128, 0], [128, 128, 128], [0, 1, 1], [0, 1], [0, 33], [0, 128, 0], [0, 1, 0, 0], [0, 1, 0]]
+    heads += [[0, 3, 129, 0, 1, 0, 0], [0, 3, 3, 0], [0, 2, 1, 1], [0, 2, 1, 1, 0, 2], [0] + list(G), [0, 2, 1, 1, 0, 1, 0]]
+    for g in heads:
         case(g, fine)
-    for h in [[], [128], [128, 128], [129, 8], [1], [1, 128, 2], [1, 255, 1], [1, 3], [1, 7], [1, 2], [1, 1], [0, 0], [2, 1, 2, 0], [3, 1, 2, 2]]:
+    numbers = [[], [128], [128, 128], [128, 128, 0], [128, 128, 128], [128, 128, 1], [129, 8], [1], [1, 128, 128, 16], [1, 255, 255, 15]]
+    for h in numbers + [[1, 255, 1], [1, 3], [1, 7], [1, 2], [1, 1], [0, 0], [2, 1, 2, 0], [3, 1, 2, 2]]:
         case(G, h)
     case(G, history_bytes(OPEN * 129 + CLOSE * 129))
     case([], [])
@@ -185,15 +243,30 @@ def written(name):
         at += 4 + g + h
 
 
+def judged(grammar, history):
+    """The refusal by the judges, as a listing has it; None where both files pass."""
+    for word, judge, file in [("grammar", judges.judge_grammar, grammar), ("history", judges.judge_history, history)]:
+        try:
+            judge(judges.Bytes(file))
+        except judges.Refused as e:
+            return "refused %s %d\n" % (word, e.args[0])
+    return None
+
+
+def listing_held(grammar, history):
+    """The listing, whose refusal has to be that of the judges."""
+    text = listing(grammar, history)
+    if (text if text.startswith("refused") else None) != judged(grammar, history):
+        sys.exit("make_listings: %s %s: %s, and by the judges %s" % (list(grammar), list(history), text, judged(grammar, history)))
+    return text
+
+
 if __name__ == "__main__":
-    samples()
-    of_document_01()
-    recorded_starts()
-    refusals()
-    many_readings()
+    for part in (samples, of_document_01, recorded_starts, wide_names, told_apart, renamed, refusals, many_readings):
+        part()
     with open("crates/test_listings/data/cases.bin", "wb") as f:
         for g, h in CASES:
             f.write(bytes([len(g) % 256, len(g) // 256, len(h) % 256, len(h) // 256]) + g + h)
     with open("crates/test_listings/stdout", "w") as f:
         for g, h in itertools.chain(written("cases.bin"), written("random.bin")):
-            f.write(listing(g, h))
+            f.write(listing_held(g, h))

@@ -6,6 +6,7 @@ out by hand; the others are found by the search below, which goes by documents 0
 the library is run. A case: what it is, the history's bytes, the position, the answer. An answer: the number of the refusal or 0,
 the first byte of the part, how many there are.
 """
+import itertools
 import random
 import sys
 
@@ -84,32 +85,52 @@ def examples():
     by_hand("5 0 161 1 252 1 134 1 0", [5, 0, 161, 1, 252, 1, 134, 1, 0], 1, (2, 8))
     by_hand("1 1", [1, 1], 5, 13)
     by_hand("1,024 tokens, 512 steps", [128, 8] + [161, 1, 134, 1] * 512, 1022, (2046, 2050))
+    by_hand("3 129 226 9 172 2 254 255 15", [3, 129, 226, 9, 172, 2, 254, 255, 15], 0, (1, 9))
+    for position in [1, 2, 3, HALF]:
+        by_hand("3 129 226 9 172 2 254 255 15", [3, 129, 226, 9, 172, 2, 254, 255, 15], position, 17)
+    by_hand("2 253 255 15 254 255 15", [2, 253, 255, 15, 254, 255, 15], 0, (1, 7))
+    by_hand("1 128 128 1", [1, 128, 128, 1], 0, 17)
+    by_hand("4 128 128 1 129 226 9 254 255 15 0", [4, 128, 128, 1, 129, 226, 9, 254, 255, 15, 0], 1, (4, 10))
 
 
 # ---- the history's own refusals, before 17: at an open's position, at others, and behind the tokens
-def refusals():
-    def refused(label, file, number, positions):
-        for position in list(positions) + [HALF, LAST]:
-            by_hand("%s: %d" % (label, number), file, position, number)
+def refused(label, file, number, positions):
+    for position in list(positions) + [HALF, LAST]:
+        by_hand("%s: %d" % (label, number), file, position, number)
 
+
+def refused_numbers():
     refused("no byte", [], 1, [0, 1])
     refused("128 alone", [128], 1, [0, 1])
     refused("ends before the close", [3, 1, 0], 1, [0, 1, 2, 3, 4])
     refused("ends inside the close", [3, 1, 0, 130], 1, [0, 1, 2, 3, 4])
     refused("ends behind a step", [3, 1, 2], 1, [0, 1, 2, 3])
     refused("count 3 in two bytes", [131, 0, 1, 0, 2], 2, [0, 1, 2, 3])
-    refused("128 128", [128, 128], 2, [0, 1])
+    refused("128 128", [128, 128], 1, [0, 1])
+    refused("128 128 0", [128, 128, 0], 2, [0, 1])
+    refused("128 128 128", [128, 128, 128], 2, [0, 1])
     refused("the open in two bytes", [3, 129, 0, 0, 2], 2, [0, 1, 2, 3])
-    refused("a mark 128 128 behind a step", [3, 1, 2, 128, 128], 2, [0, 1, 2, 3])
+    refused("the open in three bytes", [3, 129, 128, 0, 0, 2], 2, [0, 1, 2, 3])
+    refused("the close in three bytes", [3, 1, 0, 130, 128, 0], 2, [0, 1, 2, 3])
+    refused("the close in four bytes", [3, 1, 0, 130, 128, 128, 1], 2, [0, 1, 2, 3])
+    refused("ends inside the close, behind two bytes", [3, 1, 0, 254, 255], 1, [0, 1, 2, 3])
+    refused("a mark 128 128 behind a step", [3, 1, 2, 128, 128], 1, [0, 1, 2, 3])
+    refused("a mark 128 128 128 behind a step", [3, 1, 2, 128, 128, 128], 2, [0, 1, 2, 3])
+
+
+def refused_tokens():
     refused("a byte behind 3 1 0 2", [3, 1, 0, 2, 0], 9, [0, 1, 2, 3, 4])
     refused("a step behind a step", [2, 1, 2, 1, 2], 9, [0, 1, 2, 3, 4])
     refused("a byte behind no token", [0, 1], 9, [0, 1])
     refused("1,025 tokens", [129, 8] + MARK + (OPEN + CLOSE) * 512, 10, [0, 1, 1023, 1024, 1025])
     refused("16,383 tokens", [255, 127], 10, [0, 16382, 16383])
+    refused("16,384 tokens", [128, 128, 1], 10, [0, 16383, 16384])
     refused("kind 3", [1, 3], 11, [0, 1])
     refused("kind 3 inside a step", [3, 1, 3, 2], 11, [0, 1, 2, 3])
-    refused("257 behind a step", [3, 1, 2, 129, 2], 11, [0, 1, 2, 3])
-    refused("257 for an open", [2, 129, 2, 2], 11, [0, 1, 2])
+    refused("262,145 behind a step", [3, 1, 2, 129, 128, 16], 11, [0, 1, 2, 3])
+    refused("262,145 for an open", [2, 129, 128, 16, 2], 11, [0, 1, 2])
+    refused("262,146 for a close", [2, 1, 130, 128, 16], 11, [0, 1, 2])
+    refused("262,143 in a step", [3, 1, 255, 255, 15, 2], 11, [0, 1, 2, 3])
     refused("a close alone", [1, 2], 12, [0, 1])
     refused("a close behind a step", [3, 1, 2, 2], 12, [0, 1, 2, 3])
     refused("a close before a step", [3, 2, 1, 2], 12, [0, 1, 2, 3])
@@ -130,8 +151,21 @@ def step(open_name, inside, close_name):
     return [4 * open_name + 1] + inside + [4 * close_name + 2]
 
 
+# A name below 32 makes a token of one byte, one below 4,096 a token of two, any other a token of three.
+ONE, TWO, THREE = (0, 31), (32, 4095), (4096, 65535)
+
+
+def widths():
+    """Tokens of one, two and three bytes before a step, as its open, in it, as its close and behind it: every combination of these."""
+    for sizes in itertools.product((1, 2, 3), repeat=5):
+        before, a, c, b, behind = ([ONE, TWO, THREE][size - 1][place % 2] for place, size in enumerate(sizes))
+        file = history_bytes(mark(before) + step(a, mark(c), b) + mark(behind))
+        start = 1 + sizes[0]
+        by_hand("names %d %d %d %d %d" % (before, a, c, b, behind), file, 1, (start, start + sum(sizes[1:4])))
+
+
 def whole():
-    """Small histories, at every position. A name from 32 on takes two bytes."""
+    """Small histories, at every position."""
 
     def asked(label, tokens):
         every(label, history_bytes(tokens), around(len(tokens)))
@@ -139,16 +173,17 @@ def whole():
     asked("no token", [])
     asked("a mark", mark(0))
     asked("a mark of two bytes", mark(63))
+    asked("a mark of three bytes", mark(65535))
     asked("a step with nothing inside", step(0, [], 0))
     asked("a step of other names", step(5, [], 9))
-    for a in (31, 32):
-        for c in (31, 32):
-            for b in (31, 32):
-                asked("names %d %d %d" % (a, c, b), mark(33) + step(a, mark(c), b) + mark(34))
+    for a, b in [(31, 32), (32, 31), (4095, 4096), (4096, 4095), (31, 4096), (65535, 0)]:
+        asked("names %d and %d" % (a, b), mark(b) + step(a, mark(b), b) + mark(a))
     asked("neighbours", step(1, [], 2) + step(3, [], 4) + step(40, [], 41) + step(5, [], 6))
+    asked("neighbours of three bytes", step(65535, [], 4096) + step(1, [], 65279) + step(16385, [], 2) + step(32767, [], 40000))
     asked("neighbours, all alike", step(0, [], 0) * 4)
     asked("marks between neighbours", mark(1) + step(2, mark(50), 3) + mark(4) + mark(51) + step(52, [], 5) + mark(6))
     asked("three nested", step(1, step(40, step(3, [], 41), 5), 6))
+    asked("three nested, of three bytes, two and one", step(40000, step(300, step(3, [], 301), 5), 65535))
     asked("nested with marks between", mark(7) + step(1, mark(8) + step(40, mark(42) + step(3, mark(9), 41) + mark(43), 5) + mark(10), 6) + mark(44))
     asked("neighbours in a step", step(33, step(1, [], 34) + mark(2) + step(35, [], 3) + step(36, step(4, [], 5), 37), 38))
     asked("a step behind deep ones", step(1, step(2, step(3, step(4, [], 60), 61), 62), 63) + step(5, [], 6))
@@ -170,9 +205,12 @@ def large():
     every("128 nested steps", history_bytes(nested), list(range(129)) + [255, 256, 257] + like(127))
 
     # 1,024 tokens
-    every("1,024 tokens, 512 steps", history_bytes(step(40, [], 33) * 512), [0, 2, 510, 512, 1020, 1021, 1023, 1024, 1025, HALF, LAST])
+    every("1,024 tokens, 512 steps", history_bytes(step(40, [], 33) * 512), [0, 512, 1021, 1024, HALF, LAST])
+    every("1,024 tokens of three bytes, 512 steps", history_bytes(step(65535, [], 4096) * 512), [510, 1023])
+    by_hand("1,024 tokens of three bytes", [128, 8] + [253, 255, 15, 254, 255, 15] * 512, 1022, (3068, 3074))
     every("1,024 tokens, all marks", history_bytes(mark(0) * 1024), [0, 1023, 1024])
     every("1,024 tokens, one step", history_bytes(step(1, mark(63) * 1022, 63)), [0, 1, 1023, 1024])
+    every("1,024 tokens of three bytes, one step", history_bytes(step(16384, mark(65535) * 1022, 65535)), [0, 1023])
     every("1,024 tokens, the last step", history_bytes(mark(31) * 1022 + step(32, [], 31)), [1021, 1022, 1023, 1024])
     every("1,024 tokens, 128 nested steps", history_bytes(mark(50) * 384 + nested + mark(51) * 384), [383, 384, 448, 511, 512, 639, 640])
 
@@ -181,10 +219,10 @@ def large():
 class Draw:
     def __init__(self, seed):
         self.r = random.Random(seed)
-        self.limit = self.r.choice([4, 32, 64])
+        self.names = self.r.choice([range(4), range(32), range(64), range(65536), [31, 32, 63, 64, 4095, 4096, 65535]])
 
     def name(self):
-        return self.r.randrange(self.limit)
+        return self.r.choice(self.names)
 
     def level(self, left):
         """A level of at most so many tokens."""
@@ -206,7 +244,7 @@ class Draw:
     def other_tokens(self, tokens):
         """One token fewer, more or changed; the count fits."""
         i = self.r.randrange(len(tokens) + 1)
-        put = [self.r.randrange(260) for _ in range(self.r.randrange(2))]
+        put = [self.r.choice([self.r.randrange(260), self.r.randrange(262140, 262150)]) for _ in range(self.r.randrange(2))]
         return tokens[:i] + put + tokens[i + self.r.randrange(2):]
 
     def other_bytes(self, file):
@@ -243,7 +281,9 @@ def packed(label, file, position, answer):
 
 def main():
     examples()
-    refusals()
+    refused_numbers()
+    refused_tokens()
+    widths()
     whole()
     large()
     drawn()

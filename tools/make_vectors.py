@@ -1,15 +1,16 @@
 #!/usr/bin/env python3
 """Writes crates/test_vectors/data/cases.bin and crates/test_vectors/stdout: cases for the services, and the line due for each.
 
-Run from the repository's root, when the cases change. The readings of document 01's examples, and of those with a recorded start, are
-written out by hand; those of the others are found by the search of make_listings.py. No part of the library is run.
+Run from the repository's root, when the cases change. The readings of document 01's examples, of those with a recorded start and of those
+with names above 63 are written out by hand; those of the others are found by the search of make_listings.py. No part of the library is run.
 """
 import itertools
 import random
 import sys
 
 from frames import CLOSE, EXCHANGED, G, MARK, OPEN, Refused, grammar_bytes, history_bytes, read_grammar, read_history
-from make_listings import readings
+from make_listings import doubtful, readings
+from wide_names import PAIRS, chains, lost, masks
 
 SHOW, MARKS = 1, 2
 ALL = 65535
@@ -128,6 +129,70 @@ def recorded_starts():
         passed("a circle of 32 stages, start %d" % start, g, history_bytes(MARK * n), SHOW | MARKS, ALL, reading, [1, 0], ([reading], [0] * n + [1]))
 
 
+def wide_names():
+    """Document 02's examples of names above 63, and others like them."""
+    marks = [1, 3, 0, 0, 1, 0, 1, 0, 1, 0, 129, 2, 0]
+    shown("marks 1 and 257", marks, [1, 4], [[1, 0]], [1, 1], [1, 0], [1, 0])
+    shown("marks 1 and 257", marks, [1, 132, 8], [[2, 0]], [1, 1], [1, 0], [1, 0])
+    opens = [1, 3, 0, 0, 2, 0, 1, 0, 0, 0, 2, 0, 129, 2, 0, 0, 0]
+    shown("opens 1 and 257", opens, [2, 5, 2], [[1, 0, 0]], [1, 0, 1], [1, 0, 0], [1, 0])
+    shown("opens 1 and 257", opens, [2, 133, 8, 2], [[2, 0, 0]], [1, 0, 1], [1, 0, 0], [1, 0])
+    # 16,385 and 65,281 are 1 to a reader who drops high bits
+    for high in ([128, 4], [248, 15]):
+        shown("marks 1 and 257", marks, [1, 132] + high, [], [1, 0], [1, 0], [1, 0])
+        shown("opens 1 and 257", opens, [2, 133] + high + [2], [], [1, 0, 0], [1, 0, 0], [1, 0])
+    closes = [1, 3, 0, 0, 2, 0, 192, 184, 2, 0, 255, 255, 3, 0, 2, 0, 192, 184, 2, 0, 255, 255, 1, 0]
+    for close, entries in [([254, 255, 15], [[1, 0, 0]]), ([254, 255, 7], [[2, 0, 0]]), ([254, 247, 15], [])]:
+        shown("closes 65,535 and 32,767", closes, [2, 129, 226, 9] + close, entries, [1, 0, len(entries)], [1, 0, 0], [1, 0])
+    # a mark, an open and a close of one name have nothing to do with each other
+    three = grammar_bytes(1, [[0, 0], [1, 0, 65535, 0], [2, 0, 65535, 0, 65535, 0]])
+    mark, step_open, step_close = [252, 255, 15], [253, 255, 15], [254, 255, 15]
+    shown("all of name 65,535", three, [4] + mark + step_open + mark + step_close, [[1, 2, 1, 0, 0]], [1, 1, 0, 0, 1], [9] * 5, [0, 1])
+
+
+def refused_names():
+    """Numbers of three bytes and names that are turned down, in the grammar and in the history."""
+    histories = [([128, 128], 1), ([128, 128, 0], 2), ([128, 128, 128], 2), ([128, 128, 1], 10)]
+    for h, due in histories + [([1, 255, 255, 15], 11), ([1, 128, 128, 16], 11), ([1, 251, 255, 15], 11)]:
+        refused("G, %s: %d" % (words(h), due), G, h, due)
+    for n, due in [([128, 128], 1), ([128, 128, 0], 2), ([128, 128, 128], 2), ([128, 128, 4], 7), ([255, 255, 127], 7)]:
+        rest = [] if due == 1 else [0]
+        for g in ([1, 1, 1, 0] + n + rest, [1, 1, 2, 0] + n + rest * 3, [1, 1, 2, 0, 0, 0] + n + rest):
+            refused("grammar %s: %d" % (words(g), due), g, [0], due)
+    for g, due in [([128, 128], 1), ([128, 128, 0], 2), ([128, 128, 128], 2), ([128, 128, 1], 3), ([0, 1, 128, 128, 1], 6)]:
+        refused("grammar %s: %d" % (words(g), due), g, [0], due)
+
+
+# ---- names that differ in one bit, or above a bit alone
+def answers(grammar, tokens, right, calls):
+    """What each service gives: next reading after each of the right ones, a list of calls on the first of them."""
+    found = list(readings(grammar, tokens))
+    size = len(tokens) + 1
+    return {
+        "first reading": found[:1],
+        "next reading": [found[found.index(entry) + 1:][:1] if entry in found else 16 for entry in right],
+        "list of calls": plain_listing(found, size, right[0], calls),
+        "sets": [set(column) for column in zip(*found)],
+        "doubtful count": doubtful(found),
+        "stop marks": [int(any(True for _ in readings(grammar, tokens[:i]))) for i in range(size)],
+    }
+
+
+def told_apart():
+    """Each service would answer otherwise if it lost a bit of a name, in the grammar, in the history or in both."""
+    calls = [1, 1, 0, 1]
+    for label, kind, names, grammar, tokens, entries in chains():
+        due = answers(grammar, tokens, entries, calls)
+        for mask in masks(names):
+            for where, other_grammar, other_tokens in lost(kind, grammar, tokens, mask):
+                other = answers(other_grammar, other_tokens, entries, calls)
+                same = [service for service in due if due[service] == other[service]]
+                if same:
+                    sys.exit("make_vectors: %s, cut to %x in %s: the same %s" % (label, mask, where, same))
+        marks = [0] * len(tokens) + [1]
+        passed(label, grammar_bytes(*grammar), history_bytes(tokens), SHOW | MARKS, ALL, entries[0], calls, (entries, marks))
+
+
 def heads():
     """Faults before the rules, with a history that passes and with one that doesn't."""
     heads = [([0], 1), ([0, 0], 3), ([0, 0, 0, 0], 3), ([128, 0], 2), ([0, 1, 1], 6), ([0, 1], 1), ([0, 33], 3), ([0, 128, 0], 2), ([0, 1, 0, 0], 4), ([0, 1, 0], 1)]
@@ -140,14 +205,19 @@ def heads():
 
 
 def largest():
-    # 773 bytes: no stage can end, so there is no reading
-    endless = grammar_bytes(32, [[2, 31, k // 64, 31, k % 64, 31] for k in range(128)], 31)
-    passed("128 rules of six numbers, start 31", endless, history_bytes(OPEN + CLOSE), SHOW | MARKS, ALL, [9] * 3, [0, 1], ([], [0, 0, 0]))
+    # 1,285 bytes: no stage can end, so there is no reading
+    steps = [[2, 31, 49152 + k // 64, 31, 49152 + k % 64, 31] for k in range(128)]
+    tokens = [4 * 49152 + 1, 4 * (49152 + 62) + 2, 4 * 49153 + 1, 4 * (49152 + 61) + 2, 4 * 49152 + 1, 4 * 49152 + 2]
+    endless = grammar_bytes(32, steps, 31)
+    passed("128 rules of ten bytes, start 31", endless, history_bytes(tokens[4:]), SHOW | MARKS, ALL, [9] * 3, [0, 1], ([], [0, 0, 0]))
     # as large but for one rule: a step of two names by its own rule, and the start can end
-    ended = [[2, 31, k // 64, 31, k % 64, 31] for k in range(127)] + [[0, 31]]
-    tokens = [1, 4 * 62 + 2, 5, 4 * 61 + 2, 1, 2]
+    ended = steps[:127] + [[0, 31]]
     reading = [62, 127, 125, 127, 0, 127, 127]
     passed("127 steps, start 31", grammar_bytes(32, ended, 31), history_bytes(tokens), SHOW | MARKS, ALL, reading, [1, 0], ([reading], [1, 0, 1, 0, 1, 0, 1]))
+    # 3,074 bytes
+    wide = [[0, 0], [1, 0, 65535, 0], [2, 0, 65535, 0, 65535, 0]]
+    tokens = [262140, 262141, 262142, 262140] * 256
+    passed("1,024 tokens of three bytes", grammar_bytes(1, wide), history_bytes(tokens), 0, ALL, [1, 2, 0, 1] * 256 + [0], [1, 0, 1])
     # 31 ways through every step, behind 64 rules that no reading has
     ways = [[1, 0, k, 0] for k in range(64)] + [[2, 31, 0, k, 0, 31] for k in range(31)] + [[0, 31 - k] for k in range(32)]
     for start in (31, 0):
@@ -184,6 +254,7 @@ class Draw:
 
     def __init__(self, seed, with_start=False):
         self.r = random.Random(seed)
+        self.names = ([(0, 1)] + PAIRS)[seed % (1 + len(PAIRS))]
         self.stages = self.r.randint(1, 4)
         self.start = self.r.randrange(self.stages) if with_start else None
         self.rules = []
@@ -195,13 +266,16 @@ class Draw:
     def stage(self):
         return self.r.randrange(self.stages)
 
+    def name(self):
+        return self.names[self.r.randrange(2)]
+
     def rule(self):
         form = self.r.choice([0, 1, 1, 2, 2])
         if form == 0:
             return [0, self.stage()]
         if form == 1:
-            return [1, self.stage(), self.r.randrange(2), self.stage()]
-        return [2, self.stage(), self.r.randrange(2), self.stage(), self.r.randrange(2), self.stage()]
+            return [1, self.stage(), self.name(), self.stage()]
+        return [2, self.stage(), self.name(), self.stage(), self.name(), self.stage()]
 
     def tokens(self, stage, left):
         """Tokens that a stage derives, or nearly: where no rule ends it the level just stops."""
@@ -220,7 +294,8 @@ class Draw:
         """Now and then one token has another name."""
         if tokens and self.r.random() < 0.2:
             i = self.r.randrange(len(tokens))
-            tokens[i] ^= 4
+            name, kind = tokens[i] // 4, tokens[i] % 4
+            tokens[i] = 4 * self.names[name == self.names[0]] + kind
         return tokens
 
     def buffer(self, entries, size):
@@ -232,7 +307,6 @@ class Draw:
             near[self.r.randrange(size)] = self.r.randrange(len(self.rules))
             return near
         return [self.r.randrange(len(self.rules)) for _ in range(self.r.randrange(size + 4))]
-
 
     def calls(self):
         return [self.r.choice([0, 1, 1, 1, 2]) for _ in range(self.r.randrange(30))]
@@ -290,6 +364,9 @@ if __name__ == "__main__":
     of_document_01()
     limits_of_document_01()
     recorded_starts()
+    wide_names()
+    refused_names()
+    told_apart()
     heads()
     largest()
     wrong_turns()

@@ -1,1 +1,4 @@
 pub mod Grammars
+pub mod Kept
+pub mod WideGrammars
+pub mod WideHistories

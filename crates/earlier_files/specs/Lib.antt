@@ -1,1 +1,4 @@
 pub mod GrammarBefore
+pub mod NarrowGrammar
+pub mod NarrowHistory
+pub mod TwoBytes

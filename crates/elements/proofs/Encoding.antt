@@ -10,36 +10,42 @@ use lib.Dec.{ltb}
 use lib.ListN.{length, getD, take, drop, length-append, length-drop}
 use lib.Seq.{take-suc, take-all, take-at, drop-append-add, drop-drop, length-take-le}
 use Rattle.numbers.specs.Written.{shortest, written}
-use Rattle.numbers.proofs.Written.{one-byte, two-bytes, shortest-most, written-append}
+use Rattle.numbers.proofs.Written.{one-byte, two-bytes, three-bytes, shortest-most, written-append}
 use Rattle.elements.specs.Encoded.{writable, encoded}
 
 -- ── a number that can be written ──
 
-pub writable-large : (n : ℕ) → 16383 < n → writable n ≡ 16383
+pub writable-large : (n : ℕ) → 2097151 < n → writable n ≡ 2097151
 unfolding writable
-writable-large n h = rw (lt-ltb 16383 n h)
+writable-large n h = rw (lt-ltb 2097151 n h)
 
-pub writable-same : (n : ℕ) → n ≤ 16383 → writable n ≡ n
+pub writable-same : (n : ℕ) → n ≤ 2097151 → writable n ≡ n
 unfolding writable
-writable-same n h = rw (le-ltb 16383 n h)
+writable-same n h = rw (le-ltb 2097151 n h)
 
-pub writable-small : (n : ℕ) → writable n < 16384
-writable-small n = go (ltb 16383 n) refl
+pub writable-small : (n : ℕ) → writable n < 2097152
+writable-small n = go (ltb 2097151 n) refl
   where
-    go : (b : Bool) → ltb 16383 n ≡ b → writable n < 16384
-    go true e = rw (writable-large n (ltb-true 16383 n e)) (omega arith)
-    go false e = let h = ltb-false 16383 n e in rw (writable-same n h) (omega arith)
+    go : (b : Bool) → ltb 2097151 n ≡ b → writable n < 2097152
+    go true e = rw (writable-large n (ltb-true 2097151 n e)) (omega arith)
+    go false e = let h = ltb-false 2097151 n e in rw (writable-same n h) (omega arith)
 
--- a number below 128 is its own byte, a larger one has two
+-- a number below 128 is its own byte, one below 128 × 128 has two bytes, a larger one three
 pub one-byte-of : (n : ℕ) → n < 128 → shortest (writable n) ≡ n ∷ []
 one-byte-of n h = rw (writable-same n (omega arith)) (one-byte n h)
 
-pub two-bytes-of : (n : ℕ) → 128 ≤ n → shortest (writable n) ≡ (writable n % 128 + 128) ∷ (writable n / 128) ∷ []
-two-bytes-of n h = two-bytes (writable n) (go (ltb 16383 n) refl)
+pub two-bytes-of : (n : ℕ) → 128 ≤ n → n < 16384 → shortest (writable n) ≡ (n % 128 + 128) ∷ (n / 128) ∷ []
+two-bytes-of n h m = rw (writable-same n (omega arith)) (two-bytes n h m)
+
+pub three-bytes-of : (n : ℕ) → 16384 ≤ n → shortest (writable n) ≡ (writable n % 128 + 128) ∷ (writable n / 128 % 128 + 128) ∷ (writable n / 16384) ∷ []
+three-bytes-of n h = three-bytes (writable n) (go (ltb 2097151 n) refl) ∙ rw (halves (writable n))
   where
-    go : (b : Bool) → ltb 16383 n ≡ b → 128 ≤ writable n
-    go true e = rw (writable-large n (ltb-true 16383 n e)) (omega arith)
-    go false e = rw (writable-same n (ltb-false 16383 n e)) h
+    go : (b : Bool) → ltb 2097151 n ≡ b → 16384 ≤ writable n
+    go true e = rw (writable-large n (ltb-true 2097151 n e)) (omega arith)
+    go false e = rw (writable-same n (ltb-false 2097151 n e)) h
+
+    halves : (m : ℕ) → m / 128 / 128 ≡ m / 16384
+    halves m = omega arith
 
 module _ (es : List ℕ) where
   -- the bytes of the first i elements
@@ -72,7 +78,7 @@ module _ (es : List ℕ) where
     -- the first i elements are encoded, up to a place
     pub record EncodedTo (file : List ℕ) (at i : ℕ) : Type 0 where
       pub at-is : at ≡ length (bytesTo i)
-      pub room : at ≤ 2 * i
+      pub room : at ≤ 3 * i
       pub file-is : file ≡ bytesTo i ++ drop at file₀
 
     -- the file keeps its size

@@ -7,9 +7,9 @@ use lib.Dec.{ltb}
 use lib.ListN.{take}
 use Rattle.numbers.specs.Written.{written}
 
--- the number, or the largest of two bytes
+-- the number, or the largest of three bytes
 unfoldable pub writable : ℕ → ℕ
-writable n = cond (ltb 16383 n) 16383 n
+writable n = cond (ltb 2097151 n) 2097151 n
 
 -- of as many elements as the longest file has numbers, and one more
 unfoldable pub encoded : List ℕ → List ℕ

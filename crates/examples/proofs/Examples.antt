@@ -1,6 +1,6 @@
 -- Document 01's checked examples hold, each by computing what the definition gives.
 use mathlib.Core.Path.{refl}
-use Rattle.numbers.specs.believed.Number.{numberAt}
+use Rattle.numbers.specs.believed.Number.{numberWithin, numberAt}
 use Rattle.numbers.specs.believed.Field.{fieldAt, countAt}
 use Rattle.rules.specs.believed.Rule.{pairAt, stepAt, bodyAt, ruleAt}
 use Rattle.tables.specs.Table.{sameRule, earlier}
@@ -12,7 +12,7 @@ use Rattle.sets_theory.specs.believed.Sets.{count, doubtful, doubtfulCount, sto
 use Rattle.examples.specs.Examples.{Examples}
 
 pub examples : Examples
-unfolding numberAt fieldAt countAt pairAt stepAt bodyAt ruleAt sameRule earlier rulesFrom grammarFrom tokenJudged tokenAt depthAfter tokensFrom historyFrom tokenOf tokenWith runs kept count doubtful doubtfulCount stopMark stopMarks
+unfolding numberWithin numberAt fieldAt countAt pairAt stepAt bodyAt ruleAt sameRule earlier rulesFrom grammarFrom tokenJudged tokenAt depthAfter tokensFrom historyFrom tokenOf tokenWith runs kept count doubtful doubtfulCount stopMark stopMarks
 examples = record {
   G-is = refl;
   history-3-1-0-2 = refl;

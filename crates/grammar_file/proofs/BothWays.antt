@@ -16,26 +16,25 @@ use Rattle.grammar_file.specs.believed.GrammarFile.{accepted, grammarOf}
 use Rattle.grammar_file.specs.Wellformed.{Wellformed, rulesNumbers, numbersOf, numbersWithoutStart}
 use Rattle.grammar_file.proofs.Accepted.{Said, grammar-is}
 
--- the numbers of rules are below every limit that is above their names and nonterminals
-rule-small : (limit n : ℕ) (r : Rule) → 64 ≤ limit → n ≤ limit → Fits n r → AllBelow limit (ruleNumbers r)
-rule-small limit n (Rule.Empty l) k h f = omega arith
-rule-small limit n (Rule.Mark l c l1) k h f = omega arith
-rule-small limit n (Rule.Step l a l1 b l2) k h f = omega arith
+-- every number of a well-formed grammar has three bytes at most
+rule-small : (n : ℕ) (r : Rule) → n ≤ 32 → Fits n r → AllBelow 2097152 (ruleNumbers r)
+rule-small n (Rule.Empty l) h f = omega arith
+rule-small n (Rule.Mark l c l1) h f = omega arith
+rule-small n (Rule.Step l a l1 b l2) h f = omega arith
 
-pub rules-small : (limit n : ℕ) (rs : List Rule) → 64 ≤ limit → n ≤ limit → ((r : Rule) → List·Memᴰ r rs → Fits n r) → AllBelow limit (rulesNumbers rs)
-rules-small limit n [] k h f = tt
-rules-small limit n (r ∷ rs) k h f =
-    below-append limit (ruleNumbers r) (rulesNumbers rs) (rule-small limit n r k h (f r (List·Memᴰ·head refl)))
-    (rules-small limit n rs k h (λ x m. f x (List·Memᴰ·tail m)))
+rules-small : (n : ℕ) (rs : List Rule) → n ≤ 32 → ((r : Rule) → List·Memᴰ r rs → Fits n r) → AllBelow 2097152 (rulesNumbers rs)
+rules-small n [] h f = tt
+rules-small n (r ∷ rs) h f =
+    below-append 2097152 (ruleNumbers r) (rulesNumbers rs) (rule-small n r h (f r (List·Memᴰ·head refl)))
+    (rules-small n rs h (λ x m. f x (List·Memᴰ·tail m)))
 
--- every number of a well-formed grammar has two bytes at most
-rest-small : (g : Grammar) → Wellformed g → AllBelow 16384 (length (g .rules) ∷ rulesNumbers (g .rules))
-rest-small g w = (omega (arith, w .rules-most), rules-small 16384 (g .nonterminals) (g .rules) (omega arith) (omega (arith, w .nonterminals-most)) (w .fits))
+rest-small : (g : Grammar) → Wellformed g → AllBelow 2097152 (length (g .rules) ∷ rulesNumbers (g .rules))
+rest-small g w = (omega (arith, w .rules-most), rules-small (g .nonterminals) (g .rules) (w .nonterminals-most) (w .fits))
 
-pub numbers-small : (g : Grammar) → Wellformed g → AllBelow 16384 (numbersOf g)
+pub numbers-small : (g : Grammar) → Wellformed g → AllBelow 2097152 (numbersOf g)
 numbers-small g w = (omega arith, (omega (arith, w .nonterminals-most), (omega (arith, w .start-below, w .nonterminals-most), rest-small g w)))
 
-short-small : (g : Grammar) → Wellformed g → AllBelow 16384 (numbersWithoutStart g)
+short-small : (g : Grammar) → Wellformed g → AllBelow 2097152 (numbersWithoutStart g)
 short-small g w = (omega (arith, w .nonterminals-most), rest-small g w)
 
 -- the bytes of a grammar's file, with or without its start

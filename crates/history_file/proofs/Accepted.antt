@@ -22,7 +22,7 @@ use Rattle.history_file.specs.believed.HistoryFile.{HistoryFile, accepte
 use Rattle.history_file.specs.Wellformed.{TokenNumber, Nested, Wellformed}
 use Rattle.history_file.proofs.Tokens.{Judged, token-read, token-reads}
 
-apart : {e : ℕ} {ts : List ℕ} → refused e ≢ accepted ts
+pub apart : {e : ℕ} {ts : List ℕ} → refused e ≢ accepted ts
 apart h = let z : _≡_ {A = ℕ} 0 1 = cc in omega arith
 
 after-token : (f : TokenRead) (rest : ℕ → ℕ → HistoryFile) {ts : List ℕ} → afterToken f rest ≡ accepted ts → (t p : ℕ) × (f ≡ TokenIs t p) × (rest t p ≡ accepted ts)

@@ -12,14 +12,14 @@ use Rattle.history_file.specs.believed.HistoryFile.{accepted, historyOf}
 use Rattle.history_file.specs.Wellformed.{TokenNumber, Wellformed}
 use Rattle.history_file.proofs.Accepted.{history-is}
 
--- every number of well-formed tokens has two bytes at most
-tokens-small : (ts : List ℕ) → ((t : ℕ) → List·Memᴰ t ts → TokenNumber t) → AllBelow 16384 ts
+-- every number of well-formed tokens has three bytes at most
+tokens-small : (ts : List ℕ) → ((t : ℕ) → List·Memᴰ t ts → TokenNumber t) → AllBelow 2097152 ts
 tokens-small [] h = tt
 tokens-small (t ∷ ts) h =
     let k = h t (List·Memᴰ·head refl) in
     (omega arith, tokens-small ts (λ u m. h u (List·Memᴰ·tail m)))
 
-pub numbers-small : (ts : List ℕ) → Wellformed ts → AllBelow 16384 (length ts ∷ ts)
+pub numbers-small : (ts : List ℕ) → Wellformed ts → AllBelow 2097152 (length ts ∷ ts)
 numbers-small ts w = (omega arith, tokens-small ts (w .tokens))
 
 pub history-both-ways : (s : List ℕ) → AllBelow 256 s → (ts : List ℕ) → (historyOf s ≡ accepted ts) ↔ ((s ≡ written (length ts ∷ ts)) × Wellformed ts)

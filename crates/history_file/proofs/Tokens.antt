@@ -1,13 +1,13 @@
 -- What a caller learns of a token that was read, and one turn of the loop over the tokens, of which k of n are read.
-use Prim.Native.Nat.{ℕ, _+_, _-_, _<_, _≤_}
+use Prim.Native.Nat.{ℕ, _+_, _-_, _/_, _<_, _≤_}
 use mathlib.Core.Path.{_≡_, refl}
 use mathlib.Core.Logic.{_≢_}
 use mathlib.Core.Bool.{Bool, true, false, cond, _&&_, _||_}
 use mathlib.Core.List.{List, [], _∷_, _++_}
 use native.Mathlib.Nat.{mod-lt}
 use native.Mathlib.Omega.{arith}
-use lib.Dec.{eqb, leb, lit<}
-use borrow.Author.Tests.{leb-false, lt-leb, eqb-false, eqb-true, eq-eqb, ne-eqb}
+use lib.Dec.{eqb, ltb, leb, lit<}
+use borrow.Author.Tests.{ltb-false, le-ltb, leb-false, lt-leb, eqb-false, eqb-true, eq-eqb, ne-eqb}
 use Rattle.numbers.specs.declared.NumberRead.{NumberRead}
 use Rattle.numbers.specs.declared.NumberRead.the-variants.{Number, Refused as NumberRefused}
 use Rattle.numbers.specs.believed.Number.{Source}
@@ -19,7 +19,7 @@ use Rattle.history_file.specs.believed.HistoryFile.{kind, tokenJudged, j
 -- the number at a place is the token t, which may stand where so many steps are open
 pub record Judged (r : NumberRead) (depth t next : ℕ) : Type 0 where
   pub read : r ≡ Number t next
-  pub small : t < 256
+  pub small : t < 262144
   pub kinds : kind t < 3
   pub closes : kind t ≡ 2 → 0 < depth
   pub opens : kind t ≡ 1 → depth < 128
@@ -42,16 +42,16 @@ pub judged-read : (r : NumberRead) (depth t next : ℕ) → judged r depth ≡ T
 unfolding tokenJudged
 judged-read (NumberRefused e) depth t next h = absurd (let z : _≡_ {A = ℕ} 0 1 = cc in omega arith)
 judged-read (Number u at) depth t next h =
-    let p = chose-second (leb 256 u || eqb (kind u) 3) _ _ apart h in
+    let p = chose-second (ltb 65535 (u / 4) || eqb (kind u) 3) _ _ apart h in
     let q = chose-second (eqb (kind u) 2 && eqb depth 0) _ _ apart (p .1) in
     let s = chose-second (eqb (kind u) 1 && leb 128 depth) _ _ apart (q .1) in
-    let n = neither (leb 256 u) (eqb (kind u) 3) (p .0) in
+    let n = neither (ltb 65535 (u / 4)) (eqb (kind u) 3) (p .0) in
     let ne = eqb-false (kind u) 3 (n .1) in
     let z : u ≡ t = cc in
     rw (← z)
     (record {
       read = cc;
-      small = leb-false 256 u (n .0);
+      small = let l = ltb-false 65535 (u / 4) (n .0) in omega arith;
       kinds = omega (arith, mod-lt u four);
       closes = λ k. let d = eqb-false depth 0 (not-both (eqb (kind u) 2) _ (q .0) (eq-eqb _ _ k)) in omega arith;
       opens = λ k. leb-false 128 depth (not-both (eqb (kind u) 1) _ (s .0) (eq-eqb _ _ k));
@@ -62,7 +62,7 @@ unfolding tokenJudged
 judged-reads r {depth} {t} {next} j =
     rw (
       j .read,
-      lt-leb 256 t (j .small),
+      le-ltb 65535 (t / 4) (omega (arith, j .small)),
       ne-eqb (kind t) 3 (omega (arith, j .kinds)),
       neither-holds (eqb (kind t) 2) (eqb depth 0) (λ k. let l = j .closes (eqb-true _ _ k) in ne-eqb depth 0 (omega arith)),
       neither-holds (eqb (kind t) 1) (leb 128 depth) (λ k. lt-leb 128 depth (j .opens (eqb-true _ _ k))),

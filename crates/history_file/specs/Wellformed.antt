@@ -6,9 +6,9 @@ use mathlib.Core.List.{List, [], _∷_, List·Memᴰ}
 use lib.ListN.{length}
 use Rattle.history_file.specs.believed.HistoryFile.{kind, depthAfter}
 
--- no "token number above 255, or one that leaves 3 when divided by 4"
+-- no "names above 65,535" (document 02, 2.4), so no number from 4 × 65,536 on, and none "that leaves 3 when divided by 4"
 pub record TokenNumber (t : ℕ) : Type 0 where
-  pub small : t < 256
+  pub small : t < 262144
   pub kinds : kind t < 3
 
 -- with so many steps open before the tokens: no "close with no step open", no "open while 128 steps are open", no

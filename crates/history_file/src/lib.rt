@@ -7,7 +7,7 @@ use vpg::OpenName;
 use vpg::Token;
 ghost use mathlib.Core.Path.{_≡_};
 ghost use mathlib.Core.List.{[]};
-ghost use Prim.Native.Nat.{_≤_, _<_, _%_};
+ghost use Prim.Native.Nat.{_≤_, _<_, _/_, _%_};
 ghost use lib.ListN.{replicate};
 ghost use Rattle.numbers.specs.believed.Number.{numberAt, bytes};
 ghost use Rattle.history_file.specs.Refusals.{refusalOfToken};
@@ -20,8 +20,8 @@ const TOKENS: u32 = 1024;
 
 const OPEN_STEPS: u32 = 128;
 
-// Token numbers are below this (refusal 11).
-const TOKEN_NUMBERS: u32 = 256;
+// Token numbers are below this, so that names are below 65,536 (refusal 11).
+const TOKEN_NUMBERS: u32 = 262144;
 
 // A token number and the place after it, or document 01's number of the refusal.
 pub enum TokenRead {
@@ -42,12 +42,20 @@ pub fn token_with(kind: u32, name: u16) -> Token
     Token::Close(CloseName(name))
 }
 
+// The name in a token number: the one place where it is taken out, with all its bits.
+pub fn name_of(t: u32) -> u16
+    requires { ⌜ t < 262144 ⌝ }
+    ensures { λ r. ⌜ r ≡ t / 4 ⌝ }
+{
+    (t / 4) as u16
+}
+
 // The token of a number.
 pub fn token_of(t: u32) -> Token
     requires { ⌜ t < 262144 ⌝ }
     ensures { λ r. ⌜ r ≡ tokenOf t ⌝ }
 {
-    token_with(t % 4, (t / 4) as u16)
+    token_with(t % 4, name_of(t))
 }
 
 // The token numbers of a history; at most 1,024.

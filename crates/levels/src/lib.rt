@@ -68,7 +68,7 @@ fn close_name(t: u32) -> CloseName
     requires { ⌜ t < 262144 ⌝ }
     ensures { λ r. ⌜ r .0 ≡ t / 4 ⌝ }
 {
-    CloseName((t / 4) as u16)
+    CloseName(history_file::name_of(t))
 }
 
 // What stands at position p, from the levels of the positions behind it.
@@ -83,7 +83,7 @@ pub fn context_at(tokens: &[u32], closes: &Closes, masks: &Masks, p: usize) -> C
     }
     let t = tokens[p];
     let kind = t % 4;
-    let name = (t / 4) as u16;
+    let name = history_file::name_of(t);
     let inside = masks[p + 1];
     let j = closes[p];
     if j < tokens.len() {

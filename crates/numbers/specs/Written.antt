@@ -1,6 +1,6 @@
--- How numbers are written as bytes, and what it is that numbers stand in a file (document 01, "The two files").
+-- How numbers are written as bytes, and what it is that numbers stand in a file (document 01, "The two files"; document 02, 2.4).
 -- Law: numbers-read, numbers-reads (numbers/proofs/Written.antt)
-use Prim.Native.Nat.{ℕ, _+_, _<_, _/_, _%_}
+use Prim.Native.Nat.{ℕ, zero, suc, _+_, _<_, _/_, _%_}
 use mathlib.Core.Path.{_≡_}
 use mathlib.Core.Bool.{false, cond}
 use mathlib.Core.List.{List, [], _∷_, _++_}
@@ -14,10 +14,15 @@ abbrev pub AllBelow : ℕ → List ℕ → Type 0
 AllBelow limit [] = Unit {0}
 AllBelow limit (n ∷ ns) = (n < limit) × AllBelow limit ns
 
--- "groups of seven bits, lowest group first. Each byte but the last has its top bit (128) set. Shortest form only, two bytes at most":
--- the bytes of a number below 128 × 128
+-- "groups of seven bits, lowest group first. Each byte but the last has its top bit (128) set. Shortest form only": with so many bytes at
+-- most behind the first
+unfoldable pub shortestWith : ℕ → ℕ → List ℕ
+shortestWith zero n = n ∷ []
+shortestWith (suc more) n = cond (ltb n 128) (n ∷ []) ((n % 128 + 128) ∷ shortestWith more (n / 128))
+
+-- "three bytes": the bytes of a number below 128 × 128 × 128
 unfoldable pub shortest : ℕ → List ℕ
-shortest n = cond (ltb n 128) (n ∷ []) ((n % 128 + 128) ∷ (n / 128) ∷ [])
+shortest n = shortestWith 2 n
 
 -- the bytes of numbers, one after another
 unfoldable pub written : List ℕ → List ℕ

@@ -1,8 +1,8 @@
-// Bytes to numbers: one number at a place of a file, and a number that must stay below a limit.
+// Bytes to numbers: one number at a place of a file, of three bytes at most, and a number that must stay below a limit.
 ghost use mathlib.Core.Path.{_≡_};
-ghost use Prim.Native.Nat.{_≤_};
+ghost use Prim.Native.Nat.{_<_, _≤_, _/_, _%_};
 ghost use lib.ListN.{length};
-ghost use Rattle.numbers.specs.believed.Number.{numberAt};
+ghost use Rattle.numbers.specs.believed.Number.{withGroup, numberWithin, numberAt};
 ghost use Rattle.numbers.specs.Written.{shortest};
 ghost use Rattle.numbers.specs.Refusals.{refusalOfNumber, refusalOfField};
 ghost use Rattle.numbers.specs.believed.Field.{fieldAt, countAt};
@@ -26,7 +26,48 @@ pub fn size_of(n: u32) -> usize
     if n < 128 {
         return 1;
     }
-    2
+    if n < 16384 {
+        return 2;
+    }
+    3
+}
+
+// The third byte of a number, behind two groups that are worth `low`. It is the last that is allowed.
+fn third_at(s: &[u8], last: usize, low: u32) -> NumberRead
+    requires { ⌜ low < 16384 ⌝ }
+    ensures { λ r. ⌜ r ≡ withGroup (low % 128) (withGroup (low / 128) (numberWithin 1 (now (s .entry)) last)) ⌝ }
+{
+    if s.len() <= last {
+        return NumberRead::Refused(1);
+    }
+    let high = s[last] as u32;
+    if high == 0 {
+        return NumberRead::Refused(2);
+    }
+    if 128 <= high {
+        return NumberRead::Refused(2);
+    }
+    NumberRead::Number(low + high * 16384, last + 1)
+}
+
+// The second byte of a number, behind one group, and a third where there is one.
+fn second_at(s: &[u8], next: usize, low: u32) -> NumberRead
+    requires { ⌜ low < 128 ⌝ }
+    ensures { λ r. ⌜ r ≡ withGroup low (numberWithin 2 (now (s .entry)) next) ⌝ }
+{
+    if s.len() <= next {
+        return NumberRead::Refused(1);
+    }
+    let middle = s[next] as u32;
+    if middle == 0 {
+        return NumberRead::Refused(2);
+    }
+    // Worked out once for both lengths: what a rule's reader takes in of this has to stay small (docs/SPEED.md).
+    let both = low + middle % 128 * 128;
+    if middle < 128 {
+        return NumberRead::Number(both, next + 1);
+    }
+    third_at(s, next + 1, both)
 }
 
 pub fn number_at(s: &[u8], at: usize) -> NumberRead
@@ -36,21 +77,10 @@ pub fn number_at(s: &[u8], at: usize) -> NumberRead
         return NumberRead::Refused(1);
     }
     let low = s[at] as u32;
-    let next = at + 1;
     if low < 128 {
-        return NumberRead::Number(low, next);
+        return NumberRead::Number(low, at + 1);
     }
-    if s.len() <= next {
-        return NumberRead::Refused(1);
-    }
-    let high = s[next] as u32;
-    if high == 0 {
-        return NumberRead::Refused(2);
-    }
-    if 128 <= high {
-        return NumberRead::Refused(2);
-    }
-    NumberRead::Number(low - 128 + high * 128, next + 1)
+    second_at(s, at + 1, low - 128)
 }
 
 // The number of the refusal; 0 where there is none.
@@ -72,6 +102,14 @@ pub fn field_refusal(r: FieldRead) -> u8
     }
 }
 
+// A number of 16 bits as one, with all its bits.
+fn narrow(n: u32) -> u16
+    requires { ⌜ n < 65536 ⌝ }
+    ensures { λ r. ⌜ r ≡ n ⌝ }
+{
+    n as u16
+}
+
 // The number at a place, which must be below the limit.
 pub fn field_at(s: &[u8], at: usize, limit: u32, refusal: u8) -> FieldRead
     requires { ⌜ limit ≤ 65536 ⌝ }
@@ -82,7 +120,7 @@ pub fn field_at(s: &[u8], at: usize, limit: u32, refusal: u8) -> FieldRead
         return FieldRead::Refused(number_refusal(read));
     };
     if n < limit {
-        FieldRead::Field(n as u16, next)
+        FieldRead::Field(narrow(n), next)
     } else {
         FieldRead::Refused(refusal)
     }

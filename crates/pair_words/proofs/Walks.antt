@@ -1,5 +1,5 @@
 -- The rules looked for are of one class, so that a walk of that class gives the words that all rules give.
-use Prim.Native.Nat.{ℕ, suc, _+_, _*_, _%_, _<_, _≤_}
+use Prim.Native.Nat.{ℕ, suc, _+_, _*_, _<_, _≤_}
 use native.Mathlib.Numerals.{add-one}
 use mathlib.Core.Path.{_≡_, refl, sym, _∙_, ap}
 use mathlib.Core.Bool.{Bool, true, false, cond, false≢true}
@@ -12,7 +12,7 @@ use Rattle.vpg.specs.declared.Rule.{Rule}
 use Rattle.vpg.specs.Steps.{left}
 use Rattle.tables.specs.declared.Head.{Head}
 use Rattle.tables.specs.Table.{ruleIn}
-use Rattle.rule_index.specs.Classes.{classOf}
+use Rattle.rule_index.specs.Classes.{spread, classOf}
 use Rattle.rule_index.specs.Index.{Indexed, firstIn, nextIn}
 use Rattle.rule_index.proofs.Chains.{passed}
 use Rattle.rule_index.proofs.Classes.{class-small}
@@ -21,12 +21,12 @@ use Rattle.pair_words.specs.Words.{matchesBy, followsBy, contextsBy, tok
 
 matches-class : (p : Pattern) (done : ℕ) (R : Rule) → matchesBy p done R ≡ true → classOf R ≡ classBy p
 matches-class p done (Rule.Empty L) e = absurd (false≢true e)
-matches-class (Pattern.Mark c′) done (Rule.Mark L c L₁) e = ap (λ (n : ℕ). 4 * (n % 64)) (eqb-true (c .0) (c′ .0) e)
+matches-class (Pattern.Mark c′) done (Rule.Mark L c L₁) e = ap (λ (n : ℕ). 4 * spread n) (eqb-true (c .0) (c′ .0) e)
 matches-class (Pattern.Open a) done (Rule.Mark L c L₁) e = absurd (false≢true e)
 matches-class (Pattern.Step a b) done (Rule.Mark L c L₁) e = absurd (false≢true e)
 matches-class (Pattern.Mark c) done (Rule.Step L a L₁ b L₂) e = absurd (false≢true e)
-matches-class (Pattern.Open a′) done (Rule.Step L a L₁ b L₂) e = ap (λ (n : ℕ). 4 * (n % 64) + 1) (eqb-true (a .0) (a′ .0) e)
-matches-class (Pattern.Step a′ b′) done (Rule.Step L a L₁ b L₂) e = ap (λ (n : ℕ). 4 * (n % 64) + 1) (eqb-true (a .0) (a′ .0) (and-left _ _ e))
+matches-class (Pattern.Open a′) done (Rule.Step L a L₁ b L₂) e = ap (λ (n : ℕ). 4 * spread n + 1) (eqb-true (a .0) (a′ .0) e)
+matches-class (Pattern.Step a′ b′) done (Rule.Step L a L₁ b L₂) e = ap (λ (n : ℕ). 4 * spread n + 1) (eqb-true (a .0) (a′ .0) (and-left _ _ e))
 
 -- a rule of another class adds nothing
 apart : (p : Pattern) (from : List ℕ) (done : ℕ) (out : List ℕ) (R : Rule) → classOf R ≢ classBy p → gained p from done out R ≡ out

@@ -1,5 +1,5 @@
 -- What every refusal of a reader has in common: a property of the numbers that the reader itself gives holds of each of its refusals.
-use Prim.Native.Nat.{ℕ, zero, suc, _+_, _-_}
+use Prim.Native.Nat.{ℕ, zero, suc, _+_, _-_, _/_}
 use mathlib.Core.Bool.{Bool, true, false, cond, _&&_, _||_}
 use mathlib.Core.List.{List, [], _∷_, _++_}
 use lib.Dec.{eqb, ltb, leb}
@@ -9,7 +9,7 @@ use Rattle.numbers.specs.declared.NumberRead.{NumberRead}
 use Rattle.numbers.specs.declared.NumberRead.the-variants.{Number, Refused as NumberRefused}
 use Rattle.numbers.specs.declared.FieldRead.{FieldRead}
 use Rattle.numbers.specs.declared.FieldRead.the-variants.{Field, Refused as FieldRefused}
-use Rattle.numbers.specs.believed.Number.{numberAt, Source, bytes}
+use Rattle.numbers.specs.believed.Number.{withGroup, numberWithin, numberAt, Source, bytes}
 use Rattle.numbers.specs.believed.Field.{limited, fieldAt, positive, countAt}
 use Rattle.rules.specs.declared.PairRead.{PairRead}
 use Rattle.rules.specs.declared.PairRead.the-variants.{Pair, Refused as PairRefused}
@@ -60,16 +60,22 @@ module _ (P : ℕ → Type 0) where
 
   -- ── numbers ──
 
-  number-of : P 1 → P 2 → (s : List ℕ) (at : ℕ) → OfNumber (numberAt s at)
-  unfolding numberAt
-  number-of one two s at =
+  group-of : (low : ℕ) (r : NumberRead) → P 2 → OfNumber r → OfNumber (withGroup low r)
+  group-of low (Number high next) two h = chosen OfNumber (eqb high 0) two tt
+  group-of low (NumberRefused e) two h = h
+
+  within-of : P 1 → P 2 → (most : ℕ) (s : List ℕ) (at : ℕ) → OfNumber (numberWithin most s at)
+  unfolding numberWithin
+  within-of one two zero s at = two
+  within-of one two (suc most) s at =
       chosen OfNumber (ltb at (length s))
       (chosen OfNumber (ltb (getD s at 0) 128) tt
-      (chosen OfNumber (ltb (at + 1) (length s))
-      (chosen OfNumber (eqb (getD s (at + 1) 0) 0) two
-      (chosen OfNumber (ltb (getD s (at + 1) 0) 128) tt two))
-      one))
+      (group-of (getD s at 0 - 128) (numberWithin most s (at + 1)) two (within-of one two most s (at + 1))))
       one
+
+  number-of : P 1 → P 2 → (s : List ℕ) (at : ℕ) → OfNumber (numberAt s at)
+  unfolding numberAt
+  number-of one two s at = within-of one two 3 s at
 
   module _ (number : ℕ → NumberRead) (of : (at : ℕ) → OfNumber (number at)) where
     limited-of : (r : NumberRead) → OfNumber r → (limit k : ℕ) → P k → OfField (limited r limit k)
@@ -127,7 +133,7 @@ module _ (P : ℕ → Type 0) where
     judged-of : P 11 → P 12 → P 14 → (r : NumberRead) → OfNumber r → (depth : ℕ) → OfToken (judged r depth)
     unfolding tokenJudged
     judged-of eleven twelve fourteen (Number t next) h depth =
-        chosen OfToken (leb 256 t || eqb (kind t) 3) eleven
+        chosen OfToken (ltb 65535 (t / 4) || eqb (kind t) 3) eleven
         (chosen OfToken (eqb (kind t) 2 && eqb depth 0) twelve
         (chosen OfToken (eqb (kind t) 1 && leb 128 depth) fourteen tt))
     judged-of eleven twelve fourteen (NumberRefused e) h depth = h

@@ -71,7 +71,7 @@ Again writer s buffer = Made writer s s buffer
 
 -- a file says an A where it holds the numbers that are written for it, and it is good
 module _ {F A : Type 0} (accepted : A → F) (from : Source → F) (numbersOf : A → List ℕ) (Good : A → Type 0)
-    (says : (x : Source) (a : A) → Holds x (numbersOf a) → Good a → from x ≡ accepted a) (small : (a : A) → Good a → AllBelow 16384 (numbersOf a)) where
+    (says : (x : Source) (a : A) → Holds x (numbersOf a) → Good a → from x ≡ accepted a) (small : (a : A) → Good a → AllBelow 2097152 (numbersOf a)) where
   held : (a : A) → Good a → Holds (bytes (written (numbersOf a))) (numbersOf a)
   held a w = let ns = numbersOf a in holds-is (written ns) (bytes-below ns (small a w)) ns (small a w) .1 refl
 

@@ -1,5 +1,5 @@
 -- A rule stands only at tokens of its class, and at a close if it is empty.
-use Prim.Native.Nat.{ℕ, _+_, _*_, _%_, _<_}
+use Prim.Native.Nat.{ℕ, _+_, _*_, _/_, _<_}
 use native.Mathlib.Nat.{mod-lt}
 use native.Mathlib.Omega.{arith}
 use mathlib.Core.Path.{_≡_, refl, sym, _∙_, ap}
@@ -13,17 +13,20 @@ use Rattle.vpg.specs.declared.Token.{Token}
 use Rattle.vpg.specs.Steps.{left}
 use Rattle.vpg.specs.Tests.{anyClose}
 use Rattle.level_theory.specs.Masks.{Nonterminals, stands}
-use Rattle.rule_index.specs.Classes.{classAt, emptyClass, classOf}
+use Rattle.rule_index.specs.Classes.{spread, classAt, emptyClass, classOf}
+
+spread-small : (name : ℕ) → spread name < 64
+spread-small name = mod-lt (name + name / 64 + name / 4096) {m = 64} (omega arith)
 
 pub class-small : (t : Token) → classAt t < 256
-class-small (Token.Mark c) = omega (arith, mod-lt (c .0) {m = 64} (omega arith))
-class-small (Token.Open a) = omega (arith, mod-lt (a .0) {m = 64} (omega arith))
+class-small (Token.Mark c) = omega (arith, spread-small (c .0))
+class-small (Token.Open a) = omega (arith, spread-small (a .0))
 class-small (Token.Close b) = omega arith
 
 pub rule-class-small : (R : Rule) → left R < 32 → classOf R < 256
 rule-class-small (Rule.Empty L) l = omega arith
-rule-class-small (Rule.Mark L c L₁) l = omega (arith, mod-lt (c .0) {m = 64} (omega arith))
-rule-class-small (Rule.Step L a L₁ b L₂) l = omega (arith, mod-lt (a .0) {m = 64} (omega arith))
+rule-class-small (Rule.Mark L c L₁) l = omega (arith, spread-small (c .0))
+rule-class-small (Rule.Step L a L₁ b L₂) l = omega (arith, spread-small (a .0))
 
 -- no other rule is of the class of the empty rules of L
 pub empty-class : (R : Rule) (L : ℕ) → classOf R ≡ emptyClass L → R ≡ Rule.Empty L
@@ -35,9 +38,9 @@ module _ (inside : Nonterminals) (after : CloseName → Nonterminals) where
   stands-class : (t : Token) → anyClose t ≡ false → (R : Rule) → stands inside after t R ≡ true → classOf R ≡ classAt t
   stands-class (Token.Mark c) o (Rule.Empty M) e = absurd (false≢true e)
   stands-class (Token.Open a) o (Rule.Empty M) e = absurd (false≢true e)
-  stands-class (Token.Mark c′) o (Rule.Mark M c M₁) e = ap (λ (n : ℕ). 4 * (n % 64)) (eqb-true (c .0) (c′ .0) (and-left _ _ e))
+  stands-class (Token.Mark c′) o (Rule.Mark M c M₁) e = ap (λ (n : ℕ). 4 * spread n) (eqb-true (c .0) (c′ .0) (and-left _ _ e))
   stands-class (Token.Open a) o (Rule.Mark M c M₁) e = absurd (false≢true e)
-  stands-class (Token.Open a′) o (Rule.Step M a M₁ b M₂) e = ap (λ (n : ℕ). 4 * (n % 64) + 1) (eqb-true (a .0) (a′ .0) (and-left _ _ e))
+  stands-class (Token.Open a′) o (Rule.Step M a M₁ b M₂) e = ap (λ (n : ℕ). 4 * spread n + 1) (eqb-true (a .0) (a′ .0) (and-left _ _ e))
   stands-class (Token.Mark c) o (Rule.Step M a M₁ b M₂) e = absurd (false≢true e)
   stands-class (Token.Close b) o R e = absurd (false≢true (sym o))
 

@@ -10,17 +10,25 @@ ghost use lib.ListN.{length, take};
 ghost use Rattle.vpg.specs.Steps.{left};
 ghost use Rattle.tables.specs.Table.{ruleIn};
 ghost use Rattle.tables.specs.Ready.{Ready};
-ghost use Rattle.rule_index.specs.Classes.{classAt, classOf};
+ghost use Rattle.rule_index.specs.Classes.{spread, classAt, classOf};
 ghost use Rattle.rule_index.specs.Index.{firstIn, nextIn, endIn, endsIn, Indexed};
 ghost use Rattle.rule_index.specs.Building.{SameRules, IndexedFrom, EndsBelow, linked, withEnd, withEnds};
+
+// A number below 64 that goes by all digits of a name: names of 16 bits that agree in their lowest six don't all meet in one class.
+fn spread_of(name: u16) -> usize
+    ensures { λ r. ⌜ (r ≡ spread name) × (r < 64) ⌝ }
+{
+    let n = number(name);
+    (n + n / 64 + n / 4096) % 64
+}
 
 // The class of a token; that of a close is no rule's.
 pub fn class_at(token: Token) -> usize
     ensures { λ r. ⌜ r ≡ classAt token ⌝ }
 {
     match token {
-        Token::Mark(c) => 4 * (number(c.0) % 64),
-        Token::Open(a) => 4 * (number(a.0) % 64) + 1,
+        Token::Mark(c) => 4 * spread_of(c.0),
+        Token::Open(a) => 4 * spread_of(a.0) + 1,
         Token::Close(_) => 3,
     }
 }
@@ -31,8 +39,8 @@ pub fn class_of(rule: Rule) -> usize
 {
     match rule {
         Rule::Empty(nonterminal) => 4 * number(nonterminal) + 2,
-        Rule::Mark(_, c, _) => 4 * (number(c.0) % 64),
-        Rule::Step(_, a, _, _, _) => 4 * (number(a.0) % 64) + 1,
+        Rule::Mark(_, c, _) => 4 * spread_of(c.0),
+        Rule::Step(_, a, _, _, _) => 4 * spread_of(a.0) + 1,
     }
 }
 

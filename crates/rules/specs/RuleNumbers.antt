@@ -1,4 +1,4 @@
--- The numbers of a rule in a grammar file, and their ranges (document 01, "The two files" and refusals 6 and 7).
+-- The numbers of a rule in a grammar file, and their ranges (document 01, "The two files" and refusals 6 and 7; document 02, 2.4).
 -- Law: grammar-both-ways (grammar_file/proofs/BothWays.antt)
 use Prim.Native.Nat.{ℕ, _<_}
 use mathlib.Core.List.{List, [], _∷_}
@@ -10,9 +10,9 @@ ruleNumbers (Rule.Empty l) = 0 ∷ l ∷ []
 ruleNumbers (Rule.Mark l c l1) = 1 ∷ l ∷ c .0 ∷ l1 ∷ []
 ruleNumbers (Rule.Step l a l1 b l2) = 2 ∷ l ∷ a .0 ∷ l1 ∷ b .0 ∷ l2 ∷ []
 
--- no "stage number not below the stage count" and no "name above 63"
+-- no "stage number not below the stage count" and no "names above 65,535"
 abbrev pub Fits : ℕ → Rule → Type 0
 Fits nonterminals (Rule.Empty l) = l < nonterminals
-Fits nonterminals (Rule.Mark l c l1) = (l < nonterminals) × (c .0 < 64) × (l1 < nonterminals)
+Fits nonterminals (Rule.Mark l c l1) = (l < nonterminals) × (c .0 < 65536) × (l1 < nonterminals)
 Fits nonterminals (Rule.Step l a l1 b l2) =
-    (l < nonterminals) × (a .0 < 64) × (l1 < nonterminals) × (b .0 < 64) × (l2 < nonterminals)
+    (l < nonterminals) × (a .0 < 65536) × (l1 < nonterminals) × (b .0 < 65536) × (l2 < nonterminals)

@@ -11,7 +11,7 @@ ghost use Rattle.rules.specs.Refusals.{refusalOfPair, refusalOfRule};
 ghost use Rattle.rules.specs.believed.Rule.{pairAt, stepAt, bodyAt, ruleAt};
 
 // Names are below this (refusal 7).
-const NAMES: u32 = 64;
+const NAMES: u32 = 65536;
 
 // Forms are below this (refusal 5).
 const FORMS: u32 = 3;

@@ -1,6 +1,6 @@
 -- A file's elements say what their bytes say: of more elements than the longest file has numbers the rest is never reached, and a number
 -- too large to be written is above every range, as is the one in its place. Elements that can be written are judged as their file is.
-use Prim.Native.Nat.{ℕ, suc, _+_, _/_, _%_, _<_, _≤_}
+use Prim.Native.Nat.{ℕ, zero, suc, _+_, _/_, _%_, _<_, _≤_}
 use mathlib.Core.Path.{_≡_, refl, sym, ap, _∙_}
 use mathlib.Core.Logic.{inl, inr}
 use mathlib.Core.Bool.{Bool, true, false, cond}
@@ -11,9 +11,9 @@ use lib.Dec.{ltb}
 use lib.ListN.{length, getD, take, drop, length-append, length-take}
 use lib.Seq.{take-all, take-take, getD-take, split-at}
 use Rattle.numbers.specs.declared.NumberRead.the-variants.{Number, Refused}
-use Rattle.numbers.specs.believed.Number.{numberAt, bytes}
-use Rattle.numbers.specs.Written.{AllBelow, shortest, written}
-use Rattle.numbers.proofs.Written.{below-append, number-written, written-append, shortest-some}
+use Rattle.numbers.specs.believed.Number.{numberWithin, numberAt, bytes}
+use Rattle.numbers.specs.Written.{AllBelow, shortestWith, shortest, written}
+use Rattle.numbers.proofs.Written.{limitWith, below-append, number-written, written-append, shortest-some}
 use Rattle.elements.specs.believed.Elements.{elementAt, elements}
 use Rattle.elements.specs.Encoded.{writable, encoded}
 use Rattle.elements.proofs.Encoding.{bytesTo, bytes-next, writable-large, writable-same, writable-small}
@@ -23,27 +23,28 @@ use Rattle.sources.proofs.Alike.{SameBelow, SameNumber, both, neither, 
 use Rattle.sources.proofs.Grammars.{grammar-alike}
 use Rattle.sources.proofs.Histories.{history-alike}
 
-same-writable : (n : ℕ) → SameBelow 16383 n (writable n)
-same-writable n = go (ltb 16383 n) refl
+same-writable : (n : ℕ) → SameBelow 2097151 n (writable n)
+same-writable n = go (ltb 2097151 n) refl
   where
-    go : (b : Bool) → ltb 16383 n ≡ b → SameBelow 16383 n (writable n)
-    go true e = let h = ltb-true 16383 n e in inr (omega arith, rw (writable-large n h) (omega arith))
-    go false e = inl (sym (writable-same n (ltb-false 16383 n e)))
+    go : (b : Bool) → ltb 2097151 n ≡ b → SameBelow 2097151 n (writable n)
+    go true e = let h = ltb-true 2097151 n e in inr (omega arith, rw (writable-large n h) (omega arith))
+    go false e = inl (sym (writable-same n (ltb-false 2097151 n e)))
 
 -- ── the bytes are bytes ──
 
-shortest-bytes : (n : ℕ) → n < 16384 → AllBelow 256 (shortest n)
-unfolding shortest
-shortest-bytes n h = go (ltb n 128) refl
+shortest-bytes : (more n : ℕ) → n < limitWith more → AllBelow 256 (shortestWith more n)
+unfolding shortestWith
+shortest-bytes zero n h = (omega arith, tt)
+shortest-bytes (suc more) n h = go (ltb n 128) refl (shortest-bytes more (n / 128) (omega arith))
   where
-    go : (b : Bool) → ltb n 128 ≡ b → AllBelow 256 (cond b (n ∷ []) ((n % 128 + 128) ∷ (n / 128) ∷ []))
-    go true e = let l = ltb-true n 128 e in (omega arith, tt)
-    go false e = (omega arith, (omega arith, tt))
+    go : (b : Bool) → ltb n 128 ≡ b → AllBelow 256 (shortestWith more (n / 128)) → AllBelow 256 (cond b (n ∷ []) ((n % 128 + 128) ∷ shortestWith more (n / 128)))
+    go true e rest = let l = ltb-true n 128 e in (omega arith, tt)
+    go false e rest = (omega arith, rest)
 
-pub bytes-below : (ns : List ℕ) → AllBelow 16384 ns → AllBelow 256 (written ns)
-unfolding written
+pub bytes-below : (ns : List ℕ) → AllBelow 2097152 ns → AllBelow 256 (written ns)
+unfolding written shortest
 bytes-below [] h = tt
-bytes-below (n ∷ ns) h = below-append 256 (shortest n) (written ns) (shortest-bytes n (h .0)) (bytes-below ns (h .1))
+bytes-below (n ∷ ns) h = below-append 256 (shortest n) (written ns) (shortest-bytes 2 n (h .0)) (bytes-below ns (h .1))
 
 -- ── the places of elements and bytes ──
 
@@ -91,7 +92,7 @@ module _ (es : List ℕ) (most : ℕ) where
       end-is = ap (λ l. length (written (map writable l))) (take-all p es behind ∙ sym (take-all most es (omega arith)))
 
       byte-none : numberAt (bytesTo es most) (length (bytesTo es p)) ≡ Refused 1
-      unfolding numberAt
+      unfolding numberAt numberWithin
       byte-none = rw (end-is, le-ltb (length (bytesTo es most)) (length (bytesTo es most)) (omega arith))
 
       element-none : elementAt es p ≡ Refused 1
@@ -101,10 +102,10 @@ module _ (es : List ℕ) (most : ℕ) where
       byte-end : ltb (length (bytesTo es p)) (length (bytesTo es most)) ≡ false
       byte-end = le-ltb (length (bytesTo es p)) (length (bytesTo es most)) (omega (arith, end-is))
 
-  number-together : (k p q : ℕ) → Together (suc k) p q → SameNumber 16383 (Together k) (elementAt es p) (numberAt (bytesTo es most) q)
+  number-together : (k p q : ℕ) → Together (suc k) p q → SameNumber 2097151 (Together k) (elementAt es p) (numberAt (bytesTo es most) q)
   number-together k p q t = rw (t .place) (go (ltb p (length es)) refl)
     where
-      go : (b : Bool) → ltb p (length es) ≡ b → SameNumber 16383 (Together k) (elementAt es p) (numberAt (bytesTo es most) (length (bytesTo es p)))
+      go : (b : Bool) → ltb p (length es) ≡ b → SameNumber 2097151 (Together k) (elementAt es p) (numberAt (bytesTo es most) (length (bytesTo es p)))
       go true e =
           let h = ltb-true p (length es) e in
           let f : p < most = omega (arith, t .few) in
@@ -122,7 +123,7 @@ module _ (es : List ℕ) (most : ℕ) where
       go true e = e ∙ sym (byte-more p (omega (arith, t .few)) (ltb-true p (length es) e))
       go false e = e ∙ sym (byte-end p (omega (arith, t .few)) (ltb-false p (length es) e))
 
-  together : Alike (elements es) (bytes (bytesTo es most)) 16383 Together
+  together : Alike (elements es) (bytes (bytesTo es most)) 2097151 Together
   together = record {
     number = number-together;
     more = more-together;
@@ -152,11 +153,11 @@ module _ (es : List ℕ) where
 
 -- ── elements that can be written: they are judged as the file of these numbers is ──
 
-all-writable : (ns : List ℕ) → AllBelow 16384 ns → map writable ns ≡ ns
+all-writable : (ns : List ℕ) → AllBelow 2097152 ns → map writable ns ≡ ns
 all-writable [] h = refl
 all-writable (n ∷ ns) h = rw (writable-same n (omega (arith, h .0)), all-writable ns (h .1))
 
-module _ (ns : List ℕ) (small : AllBelow 16384 ns) where
+module _ (ns : List ℕ) (small : AllBelow 2097152 ns) where
   whole : bytesTo ns (1026 + length ns) ≡ written ns
   whole = ap (λ l. written (map writable l)) (take-all (1026 + length ns) ns (omega arith)) ∙ ap written (all-writable ns small)
 

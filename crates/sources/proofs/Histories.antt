@@ -1,12 +1,12 @@
 -- Two sources that say the same say the same tokens, or are refused by the same number: token by token, then the file.
-use Prim.Native.Nat.{ℕ, zero, suc, _+_, _<_, _≤_}
+use Prim.Native.Nat.{ℕ, zero, suc, _+_, _/_, _<_, _≤_}
 use mathlib.Core.Path.{_≡_, refl}
 use mathlib.Core.Logic.{inl, inr}
 use mathlib.Core.Bool.{Bool, true, false, cond, _&&_, _||_}
 use mathlib.Core.List.{List, [], _∷_, _++_}
 use native.Mathlib.Omega.{arith}
-use borrow.Author.Tests.{le-leb}
-use lib.Dec.{eqb, leb}
+use borrow.Author.Tests.{lt-ltb}
+use lib.Dec.{eqb, ltb, leb}
 use Rattle.numbers.specs.declared.NumberRead.{NumberRead}
 use Rattle.numbers.specs.declared.FieldRead.{FieldRead}
 use Rattle.numbers.specs.believed.Number.{Source}
@@ -23,7 +23,7 @@ data SameToken (At : ℕ → ℕ → Type 0) : TokenRead → TokenRead → Type 
 
 same-judged : (At : ℕ → ℕ → Type 0) (t p q depth : ℕ) → At p q → SameToken At (tokenJudged t p depth) (tokenJudged t q depth)
 unfolding tokenJudged
-same-judged At t p q depth a = go (leb 256 t || eqb (kind t) 3) (eqb (kind t) 2 && eqb depth 0) (eqb (kind t) 1 && leb 128 depth)
+same-judged At t p q depth a = go (ltb 65535 (t / 4) || eqb (kind t) 3) (eqb (kind t) 2 && eqb depth 0) (eqb (kind t) 1 && leb 128 depth)
   where
     go : (b c d : Bool)
         → SameToken At (cond b (TokenRefused 11) (cond c (TokenRefused 12) (cond d (TokenRefused 14) (TokenIs t p))))
@@ -33,11 +33,11 @@ same-judged At t p q depth a = go (leb 256 t || eqb (kind t) 3) (eqb (kind t) 2 
     go false false true = no-token
     go false false false = both-tokens a
 
-large-judged : (t p depth : ℕ) → 256 ≤ t → tokenJudged t p depth ≡ TokenRefused 11
+large-judged : (t p depth : ℕ) → 262144 ≤ t → tokenJudged t p depth ≡ TokenRefused 11
 unfolding tokenJudged
-large-judged t p depth h = rw (le-leb 256 t h)
+large-judged t p depth h = rw (lt-ltb 65535 (t / 4) (omega arith))
 
-judged-alike : (At : ℕ → ℕ → Type 0) (limit depth : ℕ) → 256 ≤ limit → {r s : NumberRead} → SameNumber limit At r s → SameToken At (judged r depth) (judged s depth)
+judged-alike : (At : ℕ → ℕ → Type 0) (limit depth : ℕ) → 262144 ≤ limit → {r s : NumberRead} → SameNumber limit At r s → SameToken At (judged r depth) (judged s depth)
 judged-alike At limit depth h (both {n} {m} {p} {q} (inl same) a) = rw same (same-judged At m p q depth a)
 judged-alike At limit depth h (both {n} {m} {p} {q} (inr (l, k)) a) = rw (large-judged n p depth (omega arith), large-judged m q depth (omega arith)) no-token
 judged-alike At limit depth h neither = no-token
@@ -54,7 +54,7 @@ after-count-alike : {below : ℕ} {At : ℕ → ℕ → Type 0} {r s : FieldRead
 after-count-alike f g (both-fields {n} {p} {q} h a) k = k n p q h a
 after-count-alike f g no-field k = refl
 
-module _ {x y : Source} {limit : ℕ} {At : ℕ → ℕ → ℕ → Type 0} (alike : Alike x y limit At) (large : 1025 ≤ limit) where
+module _ {x y : Source} {limit : ℕ} {At : ℕ → ℕ → ℕ → Type 0} (alike : Alike x y limit At) (large : 262144 ≤ limit) where
   tokens-alike : (due p q depth : ℕ) (ts : List ℕ) → At due p q → tokensFrom x due p depth ts ≡ tokensFrom y due q depth ts
   unfolding tokensFrom tokenAt
   tokens-alike zero p q depth ts a = rw (alike .more 0 p q a)
@@ -66,5 +66,5 @@ module _ {x y : Source} {limit : ℕ} {At : ℕ → ℕ → ℕ → Type 0} (ali
   pub history-alike : At 1025 0 0 → historyFrom x ≡ historyFrom y
   unfolding historyFrom
   history-alike a =
-      after-count-alike _ _ (field-alike alike 1024 0 0 1025 10 large a)
+      after-count-alike _ _ (field-alike alike 1024 0 0 1025 10 (omega arith) a)
       (λ due p q few b. tokens-alike due p q 0 [] (alike .fewer due 1024 p q (omega arith) b))

@@ -12,13 +12,11 @@ use lib.ListN.{length, getD, drop, drop-of-length-le, length-drop}
 use lib.Seq.{drop-cons}
 use Rattle.laws.proofs.Bools.{chose-first}
 use Rattle.laws.proofs.Lists.{heads, tails}
-use Rattle.numbers.specs.declared.NumberRead.the-variants.{Number, Refused}
-use Rattle.numbers.specs.believed.Number.{numberAt, bytes}
+use Rattle.numbers.specs.declared.NumberRead.the-variants.{Number}
+use Rattle.numbers.specs.believed.Number.{numberWithin, numberAt, bytes}
 use Rattle.numbers.specs.Written.{NumbersAt, none, one, Holds}
+use Rattle.numbers.proofs.Written.{apart}
 use Rattle.elements.specs.believed.Elements.{elementAt, elements}
-
-pub apart : {A : Type 0} {e n next : ℕ} → Refused e ≡ Number n next → A
-apart h = absurd (let z : _≡_ {A = ℕ} 0 1 = cc in omega arith)
 
 -- ── elements ──
 
@@ -57,7 +55,7 @@ module _ (es : List ℕ) where
 
 module _ (s : List ℕ) where
   end-read : (at n next : ℕ) → ltb at (length s) ≡ false → numberAt s at ≡ Number n next → ⊥
-  unfolding numberAt
+  unfolding numberAt numberWithin
   end-read at n next e h = apart (rw e at h)
 
   same-numbers : {at p q : ℕ} {ns ms : List ℕ} → NumbersAt (numberAt s) at ns p → ltb p (length s) ≡ false

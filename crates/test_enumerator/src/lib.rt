@@ -3,6 +3,7 @@
 mod list;
 mod written;
 
+use list::number_at;
 use list::wide;
 ghost use mathlib.Core.Path.{_≡_};
 ghost use Prim.Native.Nat.{_+_, _≤_, _<_};
@@ -10,7 +11,7 @@ ghost use lib.ListN.{length};
 pub use list::at;
 pub use list::byte;
 pub use list::put;
-pub use written::rule_bytes;
+pub use written::rule_numbers;
 pub use written::rules_of;
 pub use written::token_count;
 pub use written::tokens_of;
@@ -32,14 +33,12 @@ struct Turn {
 const TURNS: u32 = 4000000;
 
 // Field k of rule r: the form, then the fields in file order. The start stands before the first rule.
-fn field(rules: &[u8], r: u8, k: u8) -> usize
-    ensures { λ x. ⌜ x ≤ 255 ⌝ }
-{
-    at(rules, 1 + wide(r) * 6 + wide(k))
+fn field(rules: &[u32], r: u8, k: u8) -> usize {
+    number_at(rules, 1 + wide(r) * 6 + wide(k))
 }
 
-// How many rules there are; the start's byte is less than a rule.
-fn rule_count(rules: &[u8]) -> u8 {
+// How many rules there are; the start is less than a rule.
+fn rule_count(rules: &[u32]) -> u8 {
     (rules.len() / 6 % 256) as u8
 }
 
@@ -55,26 +54,26 @@ fn sought(kind: usize, opens: usize) -> usize
 }
 
 // The position of the innermost step that is open at p; p itself where none is.
-fn open_before(tokens: &[u8], p: usize) -> usize
+fn open_before(tokens: &[u32], p: usize) -> usize
     requires { ⌜ p < 2000 ⌝ }
 {
     let mut i = p;
     let mut opens: usize = 1;
     while 0 < i && 0 < opens {
         i -= 1;
-        opens = sought(at(tokens, i) % 4, opens);
+        opens = sought(number_at(tokens, i) % 4, opens);
     }
     if opens == 0 { i } else { p }
 }
 
 // The nonterminal that derives the tokens from p on, as far as their level goes.
-fn nonterminal_at(rules: &[u8], tokens: &[u8], path: &[u8], p: usize) -> usize
+fn nonterminal_at(rules: &[u32], tokens: &[u32], path: &[u8], p: usize) -> usize
     requires { ⌜ p < 2000 ⌝ }
 {
     if p == 0 {
-        return at(rules, 0);
+        return number_at(rules, 0);
     }
-    if at(tokens, p - 1) % 4 == 2 {
+    if number_at(tokens, p - 1) % 4 == 2 {
         let open = open_before(tokens, p - 1);
         return field(rules, byte(path, open), 5);
     }
@@ -82,10 +81,10 @@ fn nonterminal_at(rules: &[u8], tokens: &[u8], path: &[u8], p: usize) -> usize
 }
 
 // Whether rule r makes the token at p: a close is made by the rule at its open, and rule r ends the inside.
-fn makes(rules: &[u8], tokens: &[u8], path: &[u8], p: usize, r: u8) -> bool
+fn makes(rules: &[u32], tokens: &[u32], path: &[u8], p: usize, r: u8) -> bool
     requires { ⌜ p < 2000 ⌝ }
 {
-    let token = at(tokens, p);
+    let token = number_at(tokens, p);
     let form = field(rules, r, 0);
     if token % 4 == 2 {
         let open = open_before(tokens, p);
@@ -101,7 +100,7 @@ fn makes(rules: &[u8], tokens: &[u8], path: &[u8], p: usize, r: u8) -> bool
 }
 
 // Whether rule r can stand at p, after the rules that the path has before p.
-fn fits(rules: &[u8], tokens: &[u8], path: &[u8], p: usize, r: u8) -> bool
+fn fits(rules: &[u32], tokens: &[u32], path: &[u8], p: usize, r: u8) -> bool
     requires { ⌜ p < 2000 ⌝ }
 {
     if field(rules, r, 1) != nonterminal_at(rules, tokens, path, p) {
@@ -117,7 +116,7 @@ fn fits(rules: &[u8], tokens: &[u8], path: &[u8], p: usize, r: u8) -> bool
 }
 
 // The least rule from r on that fits; the number of rules where none does.
-fn least(rules: &[u8], tokens: &[u8], path: &[u8], p: usize, from: u8) -> u8
+fn least(rules: &[u32], tokens: &[u32], path: &[u8], p: usize, from: u8) -> u8
     requires { ⌜ p < 2000 ⌝ }
 {
     let count = rule_count(rules);
@@ -134,7 +133,7 @@ fn rule_after(path: &[u8], p: usize) -> u8 {
 }
 
 // Fills the next position, or goes back to the one before.
-fn turned(rules: &[u8], tokens: &[u8], path: &mut [u8], turn: Turn) -> Turn
+fn turned(rules: &[u32], tokens: &[u32], path: &mut [u8], turn: Turn) -> Turn
     requires { ⌜ turn .filled < 2000 ⌝ }
     ensures { λ _. ⌜ length (now (path .exit)) ≡ length (now (path .entry)) ⌝ }
 {
@@ -164,7 +163,7 @@ fn turned(rules: &[u8], tokens: &[u8], path: &mut [u8], turn: Turn) -> Turn
 }
 
 // Takes turns till every position is filled or all has been tried.
-fn search(rules: &[u8], tokens: &[u8], path: &mut [u8], start: Turn) -> Found
+fn search(rules: &[u32], tokens: &[u32], path: &mut [u8], start: Turn) -> Found
     requires { ⌜ length (now tokens) < 2000 ⌝ }
     ensures { λ _. ⌜ length (now (path .exit)) ≡ length (now (path .entry)) ⌝ }
 {
@@ -184,8 +183,8 @@ fn search(rules: &[u8], tokens: &[u8], path: &mut [u8], start: Turn) -> Found
     Found::Reading
 }
 
-// Writes the first reading; the rules are the start's byte and then six bytes each, the path has a byte for each position.
-pub fn first(rules: &[u8], tokens: &[u8], path: &mut [u8]) -> Found
+// Writes the first reading; the rules are the start and then six numbers each, the path has a byte for each position.
+pub fn first(rules: &[u32], tokens: &[u32], path: &mut [u8]) -> Found
     ensures { λ _. ⌜ length (now (path .exit)) ≡ length (now (path .entry)) ⌝ }
 {
     if 1024 < tokens.len() {
@@ -200,7 +199,7 @@ pub fn first(rules: &[u8], tokens: &[u8], path: &mut [u8]) -> Found
 }
 
 // Overwrites the reading by the next one.
-pub fn next(rules: &[u8], tokens: &[u8], path: &mut [u8]) -> Found
+pub fn next(rules: &[u32], tokens: &[u32], path: &mut [u8]) -> Found
     ensures { λ _. ⌜ length (now (path .exit)) ≡ length (now (path .entry)) ⌝ }
 {
     let n = tokens.len();

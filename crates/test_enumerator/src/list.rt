@@ -1,4 +1,4 @@
-// Bytes of a list at any index: what lies behind the end is 0, and is not written.
+// Bytes and numbers of a list at any index: what lies behind the end is 0, and is not written.
 ghost use mathlib.Core.Path.{_≡_};
 ghost use Prim.Native.Nat.{_≤_};
 ghost use lib.ListN.{length, getD};
@@ -23,6 +23,27 @@ pub fn at(xs: &[u8], i: usize) -> usize
 }
 
 pub fn put(xs: &mut [u8], i: usize, x: u8)
+    ensures { λ _. ⌜ length (now (xs .exit)) ≡ length (now (xs .entry)) ⌝ }
+{
+    if i < xs.len() {
+        xs[i] = x;
+    }
+}
+
+fn whole(x: u32) -> usize
+    ensures { λ r. ⌜ r ≤ 4294967295 ⌝ }
+{
+    x as usize
+}
+
+// The number at i, with all its bits.
+pub fn number_at(xs: &[u32], i: usize) -> usize
+    ensures { λ r. ⌜ r ≤ 4294967295 ⌝ }
+{
+    if i < xs.len() { whole(xs[i]) } else { 0 }
+}
+
+pub fn put_number(xs: &mut [u32], i: usize, x: u32)
     ensures { λ _. ⌜ length (now (xs .exit)) ≡ length (now (xs .entry)) ⌝ }
 {
     if i < xs.len() {

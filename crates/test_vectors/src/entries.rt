@@ -29,7 +29,7 @@ fn is_lost(found: Found) -> bool {
 }
 
 // Whether the first i tokens alone have a reading.
-pub(crate) fn readable(rules: &[u8], tokens: &[u8], i: usize) -> bool {
+pub(crate) fn readable(rules: &[u32], tokens: &[u32], i: usize) -> bool {
     if tokens.len() < i {
         return false;
     }
@@ -39,8 +39,8 @@ pub(crate) fn readable(rules: &[u8], tokens: &[u8], i: usize) -> bool {
 
 // Writes the readings in their order, as many as `limit` bytes hold; the path is where they are made.
 fn enumerate_by(
-    rules: &[u8],
-    tokens: &[u8],
+    rules: &[u32],
+    tokens: &[u32],
     limit: u16,
     list: &mut [u8],
     path: &mut [u8],
@@ -67,7 +67,7 @@ fn enumerate_by(
 }
 
 // Writes the readings in their order, as many as `limit` bytes hold.
-pub(crate) fn enumerate(rules: &[u8], tokens: &[u8], limit: u16, list: &mut [u8]) -> Entries
+pub(crate) fn enumerate(rules: &[u32], tokens: &[u32], limit: u16, list: &mut [u8]) -> Entries
     requires { ⌜ length (now tokens) ≤ 1024 ⌝ }
 {
     let mut path = [0u8; 1025];

@@ -45,7 +45,7 @@ fn compare_whole(
 }
 
 // What goes by the services and the tokens alone.
-fn compare_short(grammar: &[u8], history: &[u8], rules: &[u8], tokens: &[u8], with_marks: bool)
+fn compare_short(grammar: &[u8], history: &[u8], rules: &[u32], tokens: &[u32], with_marks: bool)
     requires { ⌜ length (now tokens) ≤ 1024 ⌝ }
 {
     tell(
@@ -69,8 +69,8 @@ fn compare_read(
     wanted: Wanted,
     grammar: &[u8],
     history: &[u8],
-    rules: &[u8],
-    tokens: &[u8],
+    rules: &[u32],
+    tokens: &[u32],
     kinds: &[u8],
     buffer: &mut [u8],
 )
@@ -104,7 +104,7 @@ fn compare_case(
     buffer: &mut [u8],
 ) {
     let n = test_enumerator::token_count(history);
-    let size = test_enumerator::rule_bytes(grammar);
+    let size = test_enumerator::rule_numbers(grammar);
     let rules = test_enumerator::rules_of(grammar);
     let tokens = test_enumerator::tokens_of(history);
     compare_read(

@@ -72,7 +72,7 @@ pub(crate) fn show_list(list: &[u8], entries: Entries) {
 }
 
 // Writes the stop marks.
-pub(crate) fn show_marks(grammar: &[u8], history: &[u8], tokens: &[u8]) {
+pub(crate) fn show_marks(grammar: &[u8], history: &[u8], tokens: &[u32]) {
     let mut marks = [crate::compare::FILLER; 1028];
     stop_marks::stop_marks(grammar, history, &mut marks);
     say(b"  marks");

@@ -105,7 +105,7 @@ fn fill_grammar(file: &[u8], out: &mut [u8]) -> WriteAnswer
 pub fn write_grammar(numbers: &[u32], out: &mut [u8]) -> WriteAnswer
     ensures { λ r. ⌜ (writeSaid r, now (out .exit)) ≡ grammarWritten (now (numbers .entry)) (now (out .entry)) ⌝ }
 {
-    let mut file = [0u8; 2052];
+    let mut file = [0u8; 3078];
     let size = elements::encode(numbers, &mut file);
     fill_grammar(&file[..size], out)
 }
@@ -145,7 +145,7 @@ fn fill_history(file: &[u8], out: &mut [u8]) -> WriteAnswer
 pub fn write_history(numbers: &[u32], out: &mut [u8]) -> WriteAnswer
     ensures { λ r. ⌜ (writeSaid r, now (out .exit)) ≡ historyWritten (now (numbers .entry)) (now (out .entry)) ⌝ }
 {
-    let mut file = [0u8; 2052];
+    let mut file = [0u8; 3078];
     let size = elements::encode(numbers, &mut file);
     fill_history(&file[..size], out)
 }

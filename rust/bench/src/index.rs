@@ -57,8 +57,8 @@ impl Index for Scan {
     }
 }
 
-/// The rules of each class, chained in rising order: the token's number modulo 256 for marks and opens, 4 L + 2 for the empty
-/// rules of stage L.
+/// The rules of each class, chained in rising order: 4 times the [`spread`] of the name for marks, and 1 more for opens, 4 L + 2
+/// for the empty rules of stage L.
 pub struct Classes {
     first: [u8; 256],
     next: [u8; 128],
@@ -67,19 +67,28 @@ pub struct Classes {
 
 const NONE: u8 = 255;
 
+/// A number below 64 that goes by all digits of a name. Names can share it, so whoever walks a class looks at the names too.
+pub fn spread(name: u32) -> u32 {
+    (name + name / 64 + name / 4096) % 64
+}
+
+fn class_of_name(name: u32) -> usize {
+    4 * spread(name) as usize
+}
+
 fn class_of(rule: &Rule) -> usize {
     match *rule {
         Rule::Ends { from } => 4 * usize::from(from) + 2,
-        Rule::Marks { mark, .. } => 4 * (usize::from(mark) % 64),
-        Rule::Steps { open, .. } => 4 * (usize::from(open) % 64) + 1,
+        Rule::Marks { mark, .. } => class_of_name(mark),
+        Rule::Steps { open, .. } => class_of_name(open) + 1,
     }
 }
 
 fn class_at(token: Option<Token>) -> usize {
     match token {
         None | Some(Token::Close(_)) => 3,
-        Some(Token::Mark(name)) => 4 * (usize::from(name) % 64),
-        Some(Token::Open(name)) => 4 * (usize::from(name) % 64) + 1,
+        Some(Token::Mark(name)) => class_of_name(name),
+        Some(Token::Open(name)) => class_of_name(name) + 1,
     }
 }
 

@@ -155,8 +155,7 @@ fn print(row: &Row) {
     );
 }
 
-/// Measures everything and prints each time as it comes.
-pub fn run(rounds: Rounds, other: &mut Option<Other>) -> Result<Vec<Row>, String> {
+fn print_heads() {
     println!(
         "{:26} {:>9} {:18} {:>10} {:>10} {:>10} {:>10} {:>7} {:>7}",
         "files",
@@ -169,6 +168,11 @@ pub fn run(rounds: Rounds, other: &mut Option<Other>) -> Result<Vec<Row>, String
         "faster",
         "/index"
     );
+}
+
+/// Measures everything and prints each time as it comes.
+pub fn run(rounds: Rounds, other: &mut Option<Other>) -> Result<Vec<Row>, String> {
+    print_heads();
     let mut rows = Vec::new();
     let all = workloads();
     for (place, workload) in all.iter().enumerate() {
@@ -179,8 +183,8 @@ pub fn run(rounds: Rounds, other: &mut Option<Other>) -> Result<Vec<Row>, String
             let calls = Calls::of(service, workload);
             let question = Question::of(&all, place, number, rounds.least);
             let (times, before) = timed(calls, rounds, || {
-                let answer = other.as_mut().map(|other| other.round(&question));
-                answer.transpose()
+                let other = other.as_mut().filter(|_| workload.for_older());
+                other.map(|other| other.round(&question)).transpose()
             })?;
             let row = Row {
                 group: workload.group,

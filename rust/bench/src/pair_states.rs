@@ -37,6 +37,14 @@ fn led(pairs: &Pairs, rules: &[Rule], lead: impl Fn(&Rule) -> Option<u16>) -> Pa
     out
 }
 
+/// The stages that have an empty rule.
+fn ends_of(rules: &[Rule]) -> u32 {
+    rules.iter().fold(0, |ends, rule| match rule {
+        Rule::Ends { from } => ends | 1 << from,
+        _ => ends,
+    })
+}
+
 /// Over all rules, a word to each context.
 pub fn by_contexts(grammar: &[u8], history: &[u8], marks: &mut [u8]) -> u8 {
     let Read {
@@ -47,13 +55,8 @@ pub fn by_contexts(grammar: &[u8], history: &[u8], marks: &mut [u8]) -> u8 {
         Ok(read) => read,
         Err(number) => return number,
     };
-    let mut ends = 0u32;
-    for rule in &rules {
-        if let Rule::Ends { from } = rule {
-            ends |= 1 << from;
-        }
-    }
-    let mut stack: Vec<(Pairs, u16)> = Vec::new();
+    let ends = ends_of(&rules);
+    let mut stack: Vec<(Pairs, u32)> = Vec::new();
     let mut pairs = started(start);
     for (place, token) in tokens.iter().enumerate() {
         marks[place] = u8::from(stack.is_empty() && pairs.iter().any(|word| word & ends != 0));
@@ -63,39 +66,55 @@ pub fn by_contexts(grammar: &[u8], history: &[u8], marks: &mut [u8]) -> u8 {
                 _ => None,
             }),
             Token::Open(name) => {
-                let inside = led(&pairs, &rules, |rule| match *rule {
-                    Rule::Steps { open, inside, .. } if open == name => Some(inside),
-                    _ => None,
-                });
-                let all = inside.iter().fold(0, |all, word| all | word);
                 stack.push((pairs, name));
-                let mut out = [0; 32];
-                for (stage, word) in out.iter_mut().enumerate() {
-                    *word = all & 1 << stage;
-                }
-                out
+                inside_of(&pairs, &rules, name)
             }
             Token::Close(name) => {
                 let (before, opened) = stack.pop().expect("a history that passed");
-                let mut done = 0u32;
-                for (stage, word) in pairs.iter().enumerate() {
-                    done |= u32::from(word & ends != 0) << stage;
-                }
-                led(&before, &rules, |rule| match *rule {
-                    Rule::Steps {
-                        open,
-                        inside,
-                        close,
-                        then,
-                        ..
-                    } if open == opened && close == name && has(done, inside) => Some(then),
-                    _ => None,
-                })
+                behind(&before, &rules, (opened, name), &pairs, ends)
             }
         };
     }
     marks[tokens.len()] = u8::from(pairs.iter().any(|word| word & ends != 0));
     0
+}
+
+/// Behind an open: each stage that it leads to, in its own context.
+fn inside_of(pairs: &Pairs, rules: &[Rule], name: u32) -> Pairs {
+    let inside = led(pairs, rules, |rule| match *rule {
+        Rule::Steps { open, inside, .. } if open == name => Some(inside),
+        _ => None,
+    });
+    let all = inside.iter().fold(0, |all, word| all | word);
+    let mut out = [0; 32];
+    for (stage, word) in out.iter_mut().enumerate() {
+        *word = all & 1 << stage;
+    }
+    out
+}
+
+/// Behind a close: the state before the step's open, led on by the rules whose inside can have ended in `pairs`.
+fn behind(
+    before: &Pairs,
+    rules: &[Rule],
+    (opened, name): (u32, u32),
+    pairs: &Pairs,
+    ends: u32,
+) -> Pairs {
+    let mut done = 0u32;
+    for (stage, word) in pairs.iter().enumerate() {
+        done |= u32::from(word & ends != 0) << stage;
+    }
+    led(before, rules, |rule| match *rule {
+        Rule::Steps {
+            open,
+            inside,
+            close,
+            then,
+            ..
+        } if open == opened && close == name && has(done, inside) => Some(then),
+        _ => None,
+    })
 }
 
 /// The contexts whose level may be finished, in a state turned round: bit L1 of word L2.
@@ -119,7 +138,7 @@ pub fn by_currents(grammar: &[u8], history: &[u8], marks: &mut [u8]) -> u8 {
     };
     let index = Classes::of(&rules);
     let ends = index.ends().map_or(0, |ends| ends.stages);
-    let mut stack: Vec<(Pairs, u16)> = Vec::new();
+    let mut stack: Vec<(Pairs, u32)> = Vec::new();
     let mut pairs = started(start);
     for (place, &token) in tokens.iter().enumerate() {
         marks[place] = u8::from(stack.is_empty() && finished(&pairs, ends) != 0);
@@ -140,7 +159,7 @@ pub fn by_currents(grammar: &[u8], history: &[u8], marks: &mut [u8]) -> u8 {
     0
 }
 
-fn after_mark(index: &Classes, rules: &[Rule], name: u16, pairs: &Pairs) -> Pairs {
+fn after_mark(index: &Classes, rules: &[Rule], name: u32, pairs: &Pairs) -> Pairs {
     let mut out = [0; 32];
     for (_, rule) in index.at(rules, Some(Token::Mark(name))) {
         match *rule {
@@ -153,7 +172,7 @@ fn after_mark(index: &Classes, rules: &[Rule], name: u16, pairs: &Pairs) -> Pair
     out
 }
 
-fn after_open(index: &Classes, rules: &[Rule], name: u16, pairs: &Pairs) -> Pairs {
+fn after_open(index: &Classes, rules: &[Rule], name: u32, pairs: &Pairs) -> Pairs {
     let mut out = [0; 32];
     for (_, rule) in index.at(rules, Some(Token::Open(name))) {
         match *rule {
@@ -172,7 +191,7 @@ fn after_open(index: &Classes, rules: &[Rule], name: u16, pairs: &Pairs) -> Pair
 fn after_close(
     index: &Classes,
     rules: &[Rule],
-    (opened, name): (u16, u16),
+    (opened, name): (u32, u32),
     before: &Pairs,
     done: u32,
 ) -> Pairs {

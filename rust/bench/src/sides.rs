@@ -140,6 +140,7 @@ fn in_rust<I: Index>(service: Service, grammar: &[u8], history: &History, to: &m
 #[cfg(test)]
 mod tests {
     use super::*;
+    use frames::wide::{Example, EXAMPLES};
     use frames::{g_from, G_EXCHANGED};
 
     /// What a side gives: the first reading if there is one, what "next reading" answers after it, the sets' first words,
@@ -147,7 +148,7 @@ mod tests {
     type Given = (Vec<u8>, u32, Vec<u32>, u32, Vec<u8>);
 
     fn given(side: Side, grammar: &[u8], file: &[u8]) -> Given {
-        let n = file.len() - 1;
+        let n = reference::history_check(file).unwrap().into();
         let first = vec![77; n + 1];
         let mut history = History { file, first };
         let mut made = |service| {
@@ -189,6 +190,36 @@ mod tests {
         for (grammar, history, due) in cases {
             for side in SIDES {
                 assert_eq!(given(side, grammar, history), due);
+            }
+        }
+    }
+
+    fn due(example: &Example) -> Given {
+        let readings = example.readings;
+        let first = readings.first().map_or(vec![], |first| first.to_vec());
+        let next = match readings.len() {
+            0 => 16,
+            1 => 101,
+            _ => 0,
+        };
+        let bit = |rule: u8| 1u32 << rule;
+        let word = |place: usize| {
+            readings
+                .iter()
+                .fold(0, |set, rules| set | bit(rules[place]))
+        };
+        let words: Vec<u32> = (0..example.marks.len()).map(word).collect();
+        let doubtful = words.iter().filter(|word| word.count_ones() > 1).count() as u32;
+        (first, next, words, doubtful, example.marks.to_vec())
+    }
+
+    /// No side loses a bit of a name.
+    #[test]
+    fn wide_names() {
+        for example in &EXAMPLES {
+            for side in SIDES {
+                let given = given(side, example.grammar, example.history);
+                assert_eq!(given, due(example));
             }
         }
     }

@@ -4,21 +4,22 @@ use crate::heads;
 use crate::random::Random;
 use crate::writing::Kind;
 
-/// Numbers at the ends of ranges.
-const ENDS: [u32; 22] = [
-    0, 1, 2, 3, 4, 31, 32, 33, 62, 63, 64, 127, 128, 129, 252, 253, 254, 255, 256, 1023, 1024, 1025,
+/// Numbers at the ends of ranges: of stages, rules, token counts, names and tokens.
+const ENDS: [u32; 34] = [
+    0, 1, 2, 3, 4, 31, 32, 33, 62, 63, 64, 127, 128, 129, 255, 256, 1023, 1024, 1025, 16_383,
+    16_384, 16_385, 65_534, 65_535, 65_536, 65_537, 262_139, 262_140, 262_141, 262_142, 262_143,
+    262_144, 262_145, 262_146,
 ];
-/// Numbers that are too large for every place, around what one and two bytes and a cast to fewer bits hold.
-const LARGE: [u32; 11] = [
-    16_383,
-    16_384,
-    16_385,
-    65_535,
-    65_536,
-    65_537,
-    70_000,
+/// Numbers that are too large for every place, around what three bytes and a cast to fewer bits hold.
+const LARGE: [u32; 10] = [
+    262_144,
+    262_148,
+    2_097_148,
+    2_097_151,
+    2_097_152,
     1 << 24,
     1 << 31,
+    u32::MAX - 3,
     u32::MAX - 1,
     u32::MAX,
 ];
@@ -40,14 +41,14 @@ pub fn elements(random: &mut Random, file: &[u8], kind: Kind) -> Vec<u32> {
     elements
 }
 
-/// 128 rules of six numbers, with or without the start, or 1,024 tokens of two bytes each: no file has more bytes.
+/// 128 rules of ten bytes, with or without the start, or 1,024 tokens of three bytes each: no file has more bytes.
 fn longest(random: &mut Random, kind: Kind) -> Vec<u32> {
     match kind {
         Kind::Grammar => {
             let made = Made::longest(random.one(&[None, Some(0), Some(31)]));
-            made.numbers().iter().map(|&number| number as u32).collect()
+            made.numbers()
         }
-        Kind::History => [vec![1024], [161, 134].repeat(512)].concat(),
+        Kind::History => frames::wide::longest_history().0,
     }
 }
 
@@ -75,7 +76,7 @@ fn change(random: &mut Random, elements: &mut Vec<u32>) {
         2 => *element = random.one(&ENDS),
         3 => *element = random.one(&LARGE),
         // one of which the low bits alone are the number
-        4 => *element = element.wrapping_add(1 << random.one(&[7, 8, 14, 16, 24, 31])),
+        4 => *element = element.wrapping_add(1 << random.one(&[7, 8, 14, 16, 18, 21, 24, 31])),
         5 => {
             elements.remove(place);
         }

@@ -1,6 +1,8 @@
 //! Planted faults: what a wrong library would give, made of what the right one gives, to see that each is found.
 use crate::case::{library, library_step, Case, Outcome, Service};
+use crate::cut_names::{self, CutName};
 use crate::heads;
+use crate::misread::{self, Misread};
 use crate::writing::{self, Kind};
 use frames::Token;
 use reference::Work;
@@ -65,9 +67,22 @@ pub enum Fault {
     FifteenByShort,
     /// The start 0 is written for every other.
     StartLost,
+    /// A step's bytes counted as if no number had more than two.
+    StepOfTwoBytes,
+    /// A name of which the low bits count alone.
+    CutName(CutName),
+    /// A number read or written in a wrong way, or a wrong limit of names.
+    Misread(Misread),
 }
 
-pub const FAULTS: [Fault; 31] = [
+/// Every fault.
+pub fn all() -> Vec<Fault> {
+    let names = cut_names::all().into_iter().map(Fault::CutName);
+    let numbers = misread::all().into_iter().map(Fault::Misread);
+    FAULTS.into_iter().chain(names).chain(numbers).collect()
+}
+
+const FAULTS: [Fault; 32] = [
     Fault::StopsAfterTwo,
     Fault::NoneAsWritten,
     Fault::WritesOneMore,
@@ -99,6 +114,7 @@ pub const FAULTS: [Fault; 31] = [
     Fault::ShortKept,
     Fault::FifteenByShort,
     Fault::StartLost,
+    Fault::StepOfTwoBytes,
 ];
 
 /// Each service that goes by a grammar's start, and the fault that it goes by stage 0.
@@ -113,6 +129,11 @@ const FROM_STAGE_0: [(Fault, Service); 6] = [
 
 /// A true outcome turned into a wrong one, where the planted fault shows.
 pub fn spoiled(fault: Fault, case: &Case, service: Service, outcome: Outcome) -> Outcome {
+    match fault {
+        Fault::CutName(cut) => return cut.spoiled(case, service, outcome),
+        Fault::Misread(misread) => return misread.spoiled(case, service, outcome),
+        _ => {}
+    }
     if FROM_STAGE_0.contains(&(fault, service)) {
         let grammar = heads::from_stage_0(&case.grammar);
         return library(
@@ -224,9 +245,21 @@ fn spoiled_step(fault: Fault, case: &Case, outcome: Outcome) -> Outcome {
         }
         Fault::SeventeenEarly if wrong.answer != 0 => wrong.answer = 17,
         Fault::PositionCut => return library_step(&case.history, case.position as u32 as usize),
+        Fault::StepOfTwoBytes if wrong.answer == 0 => {
+            let (start, length) = (wrong.counts[0] as usize, wrong.counts[1] as usize);
+            let (before, from) = case.history.split_at(start);
+            wrong.counts[0] -= of_three_bytes(before);
+            wrong.counts[1] -= of_three_bytes(&from[..length]);
+        }
         _ => {}
     }
     wrong
+}
+
+/// How many numbers of three bytes stand in this part of a file that passed.
+fn of_three_bytes(part: &[u8]) -> u64 {
+    let numbers = part.split_inclusive(|&byte| byte < 128);
+    numbers.filter(|bytes| bytes.len() == 3).count() as u64
 }
 
 /// Where the first close behind the open at a position ends: it closes the last step that was opened before it.

@@ -1,20 +1,59 @@
 //! Makes grammars: rules over some stages, and the start that the file says, or none.
+use crate::names;
 use crate::random::Random;
-use frames::{grammar_numbers, Rule, G};
+use frames::{grammar_numbers, Rule, Token, G};
 use reference::parse_grammar;
 
 /// How large a grammar and its history get.
 pub struct Size {
     pub stages: usize,
     pub rules: usize,
-    pub names: usize,
+    /// Those that marks, opens and closes alike are named by.
+    pub names: Vec<u32>,
     pub tokens: usize,
     pub ends_percent: usize,
 }
 
+/// The names of G's marks, opens and closes.
+#[derive(Clone, Copy)]
+pub struct StepNames {
+    pub mark: u32,
+    pub open: u32,
+    pub close: u32,
+}
+
+impl StepNames {
+    /// Any three of these names.
+    pub fn of(random: &mut Random, names: &[u32]) -> StepNames {
+        StepNames {
+            mark: random.one(names),
+            open: random.one(names),
+            close: random.one(names),
+        }
+    }
+
+    /// A rule with these names.
+    fn instead(&self, rule: &Rule) -> Rule {
+        rule.renamed(|token| match token {
+            Token::Mark(_) => self.mark,
+            Token::Open(_) => self.open,
+            Token::Close(_) => self.close,
+        })
+    }
+
+    /// A step with a mark in it.
+    pub fn step(&self) -> [Token; 3] {
+        [
+            Token::Open(self.open),
+            Token::Mark(self.mark),
+            Token::Close(self.close),
+        ]
+    }
+}
+
 /// A grammar, and the start where its file says one.
 pub struct Made {
-    pub stages: usize,
+    pub stages: u16,
     pub said: Option<u16>,
     pub rules: Vec<Rule>,
 }
@@ -24,7 +63,7 @@ impl Made {
         self.said.unwrap_or(0)
     }
 
-    pub fn numbers(&self) -> Vec<usize> {
+    pub fn numbers(&self) -> Vec<u32> {
         grammar_numbers(self.stages, self.said, &self.rules)
     }
 
@@ -36,7 +75,7 @@ impl Made {
             _ => Some(random.below(size.stages) as u16),
         };
         let made = Made {
-            stages: size.stages,
+            stages: size.stages as u16,
             said,
             rules: rules(random, size),
         };
@@ -46,8 +85,8 @@ impl Made {
         made
     }
 
-    /// Document 01's grammar: as it is, with a start that may be another, or with its stages in another order.
-    pub fn g(random: &mut Random) -> Made {
+    /// Document 01's grammar, with these names: as it is, with a start that may be another, or with its stages in another order.
+    pub fn g(random: &mut Random, names: StepNames) -> Made {
         let said = match random.below(6) {
             0 | 1 => None,
             2 => Some(0),
@@ -55,9 +94,9 @@ impl Made {
         };
         let g = parse_grammar(&G).expect("G passes");
         let made = Made {
-            stages: g.stages.into(),
+            stages: g.stages,
             said,
-            rules: g.rules,
+            rules: g.rules.iter().map(|rule| names.instead(rule)).collect(),
         };
         if random.percent(40) {
             return made.reordered(random);
@@ -65,13 +104,13 @@ impl Made {
         made
     }
 
-    /// 128 rules of six numbers.
+    /// 128 rules of ten bytes, with the largest names.
     pub fn longest(said: Option<u16>) -> Made {
         let rule = |number: u16| Rule::Steps {
-            from: number / 64,
-            open: number % 64,
+            from: number % 32,
+            open: 65_535 - u32::from(number),
             inside: 31,
-            close: 63,
+            close: 65_535,
             then: 0,
         };
         Made {
@@ -83,7 +122,7 @@ impl Made {
 
     /// The stages get other numbers, and the start with them, so that it has to be said.
     fn reordered(self, random: &mut Random) -> Made {
-        let numbers = random.order(self.stages);
+        let numbers = random.order(self.stages.into());
         let number = |stage: u16| numbers[usize::from(stage)] as u16;
         Made {
             stages: self.stages,
@@ -98,21 +137,21 @@ impl Made {
 }
 
 fn rule(random: &mut Random, size: &Size) -> Rule {
-    let mut below = |end| random.below(end) as u16;
-    let from = below(size.stages);
-    match below(8) {
+    let stage = |random: &mut Random| random.below(size.stages) as u16;
+    let from = stage(random);
+    match random.below(8) {
         0 => Rule::Ends { from },
         1..=3 => Rule::Marks {
             from,
-            mark: below(size.names),
-            then: below(size.stages),
+            mark: random.one(&size.names),
+            then: stage(random),
         },
         _ => Rule::Steps {
             from,
-            open: below(size.names),
-            inside: below(size.stages),
-            close: below(size.names),
-            then: below(size.stages),
+            open: random.one(&size.names),
+            inside: stage(random),
+            close: random.one(&size.names),
+            then: stage(random),
         },
     }
 }
@@ -137,5 +176,23 @@ fn rules(random: &mut Random, size: &Size) -> Vec<Rule> {
     if rules.is_empty() {
         rules.push(Rule::Ends { from: 0 });
     }
+    if rules.len() < 128 && random.percent(20) {
+        add_twin(random, &mut rules);
+    }
     rules
+}
+
+/// A rule that is there is put in once more, with a name or both that differ from its own in high bits alone.
+fn add_twin(random: &mut Random, rules: &mut Vec<Rule>) {
+    let bits = names::twin(random, 0);
+    let (first, second) = random.one(&[(true, true), (true, false), (false, true)]);
+    let twin = random.one(rules).renamed(|token| match token {
+        Token::Mark(name) | Token::Open(name) if first => name ^ bits,
+        Token::Close(name) if second => name ^ bits,
+        other => other.name(),
+    });
+    let place = random.below(rules.len() + 1);
+    if !rules.contains(&twin) {
+        rules.insert(place, twin);
+    }
 }

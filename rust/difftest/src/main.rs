@@ -6,16 +6,22 @@
 //!
 //! A case is a grammar file and a history file, with which every service is called once, and a list of calls made; the
 //! bytes of a step are asked for at a position. The writers are called with elements, what they write is read back, and both
-//! files are written again from their numbers. Half of the grammars say their start.
+//! files are written again from their numbers. Half of the grammars say their start. Names are up to 65,535, and many differ in
+//! their high bits alone.
 //! `--long` runs ten million cases. `--self-test` plants a fault after the other in the library's answers and sees that
 //! each is found and made small. How far it is goes to stderr.
 
 mod case;
+mod cut_names;
+mod damage;
 mod elements;
 mod faults;
 mod grammars;
 mod heads;
+mod histories;
 mod make;
+mod misread;
+mod names;
 mod progress;
 mod random;
 mod seen;
@@ -24,7 +30,7 @@ mod sweeps;
 mod writing;
 
 use case::{compare, hex, Case, Difference, Service};
-use faults::{Fault, FAULTS};
+use faults::Fault;
 use progress::Progress;
 use random::Random;
 use seen::Seen;
@@ -48,7 +54,7 @@ Compares the proved library with the reference, on 200,000 cases unless told.
   --seed S       on other cases; the same for the same S, which is 1 unless given
   --self-test    plants faults in the library's answers and sees that each is found
 
-Status: 0 no difference, 1 a difference or an answer or a start that was not met, 2 wrong words.";
+Status: 0 no difference, 1 a difference or an answer, a start or a name that was not met, 2 wrong words.";
 
 struct Options {
     cases: u64,
@@ -171,13 +177,14 @@ fn compare_all(options: &Options) -> bool {
         start.elapsed().as_secs_f64()
     );
     if !whole {
-        println!("an answer or a start was not met: more cases are needed");
+        println!("an answer, a start or a name was not met: more cases are needed");
     }
     whole
 }
 
 fn self_test(options: &Options) -> bool {
-    for fault in FAULTS {
+    let faults = faults::all();
+    for &fault in &faults {
         let found = (0..options.cases).find_map(|number| {
             let case = case_of(options, number);
             let difference = compare(&case, Some(fault), |_, _| {})?;
@@ -193,7 +200,7 @@ fn self_test(options: &Options) -> bool {
         let after = small.grammar.len() + small.history.len();
         println!("{fault:?}: {before} bytes of files made {after}");
     }
-    println!("{} planted faults, each found", FAULTS.len());
+    println!("{} planted faults, each found", faults.len());
     true
 }
 

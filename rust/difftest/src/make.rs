@@ -1,9 +1,12 @@
 //! Makes cases: files that pass and damaged ones, short ones and those at a limit, with buffers around the length that
 //! is needed, positions of opens, beside them and behind the last token, and elements to be written.
 use crate::case::Case;
+use crate::damage;
 use crate::elements::elements;
-use crate::grammars::{Made, Size};
+use crate::grammars::{Made, Size, StepNames};
 use crate::heads;
+use crate::histories::{derived, marks, matched, nested, rename_one, repeated};
+use crate::names;
 use crate::random::Random;
 use crate::writing::{Kind, Writing};
 use frames::{history_file, history_numbers, numbers_file, Rule, Token};
@@ -16,170 +19,18 @@ struct Maker<'a> {
 }
 
 impl Maker<'_> {
-    fn name(&mut self, names: usize) -> u16 {
-        self.random.below(names) as u16
-    }
-
-    /// Tokens that the rules make from the start, now and then from another stage, as far as they lead; what is begun is
-    /// closed in any case.
-    fn derived(&mut self, made: &Made, most: usize) -> Vec<Token> {
-        let from = match self.random.below(8) {
-            0 => self.random.below(made.stages) as u16,
-            _ => made.start(),
-        };
-        let mut tokens = Vec::new();
-        self.derive(&made.rules, from, most, 0, &mut tokens);
-        tokens
-    }
-
-    fn derive(
-        &mut self,
-        rules: &[Rule],
-        stage: u16,
-        most: usize,
-        deep: usize,
-        out: &mut Vec<Token>,
-    ) {
-        let mut stage = stage;
-        loop {
-            let of_stage: Vec<&Rule> = rules.iter().filter(|rule| rule.from() == stage).collect();
-            if of_stage.is_empty() {
-                return;
-            }
-            let ends = of_stage
-                .iter()
-                .any(|rule| matches!(rule, Rule::Ends { .. }));
-            if out.len() + 2 > most || (ends && self.random.percent(5)) {
-                return;
-            }
-            match *self.random.one(&of_stage) {
-                Rule::Ends { .. } => {
-                    if self.random.percent(10) {
-                        return;
-                    }
-                }
-                Rule::Marks { mark, then, .. } => {
-                    out.push(Token::Mark(mark));
-                    stage = then;
-                }
-                Rule::Steps {
-                    open,
-                    inside,
-                    close,
-                    then,
-                    ..
-                } => {
-                    if deep == 128 {
-                        return;
-                    }
-                    out.push(Token::Open(open));
-                    self.derive(rules, inside, most - 1, deep + 1, out);
-                    out.push(Token::Close(close));
-                    stage = then;
-                }
-            }
-            if of_stage.len() == 1 && ends {
-                return;
-            }
-        }
-    }
-
-    /// Any well-matched tokens.
-    fn matched(&mut self, count: usize, names: usize) -> Vec<Token> {
-        let mut tokens = Vec::new();
-        let mut open = 0;
-        while tokens.len() + open < count {
-            match self.random.below(3) {
-                0 => tokens.push(Token::Mark(self.name(names))),
-                1 if tokens.len() + open + 2 <= count && open < 128 => {
-                    tokens.push(Token::Open(self.name(names)));
-                    open += 1;
-                }
-                _ if open > 0 => {
-                    tokens.push(Token::Close(self.name(names)));
-                    open -= 1;
-                }
-                _ => tokens.push(Token::Mark(self.name(names))),
-            }
-        }
-        for _ in 0..open {
-            tokens.push(Token::Close(self.name(names)));
-        }
-        tokens
-    }
-
-    /// Steps one inside the other, as many as may be open together, or one less or more.
-    fn nested(&mut self) -> Vec<Token> {
-        let deep = self.random.one(&[127, 128, 128, 129]);
-        let mut tokens = vec![Token::Open(0); deep];
-        tokens.extend(vec![Token::Close(0); deep]);
-        tokens
-    }
-
-    /// One number changed, put in, taken out or repeated; ranges' ends come often.
-    fn damage_numbers(&mut self, numbers: &mut Vec<usize>) {
-        const ENDS: [usize; 26] = [
-            0, 1, 2, 3, 4, 7, 31, 32, 33, 62, 63, 64, 127, 128, 129, 252, 253, 254, 255, 256, 257,
-            1023, 1024, 1025, 16383, 16384,
-        ];
-        if numbers.is_empty() {
-            return;
-        }
-        let place = self.random.below(numbers.len());
-        match self.random.below(8) {
-            0 => {
-                numbers.remove(place);
-            }
-            1 => {
-                let number = self.random.one(&ENDS);
-                numbers.insert(place, number);
-            }
-            2 => {
-                let number = numbers[place];
-                numbers.insert(place, number);
-            }
-            3 => numbers[place] = numbers[place].saturating_add(1),
-            4 => numbers[place] = numbers[place].saturating_sub(1),
-            _ => numbers[place] = self.random.one(&ENDS),
-        }
-    }
-
-    fn damage_bytes(&mut self, bytes: &mut Vec<u8>) {
-        let place = self.random.below(bytes.len() + 1);
-        match self.random.below(9) {
-            0 => bytes.truncate(place),
-            1 => bytes.push(self.random.next() as u8),
-            2 => {
-                let end = bytes.len();
-                bytes.truncate(end.saturating_sub(1));
-            }
-            3 => bytes.insert(place, self.random.next() as u8),
-            4 if place < bytes.len() => {
-                bytes.remove(place);
-            }
-            5 if place < bytes.len() => bytes[place] ^= 1 << self.random.below(8),
-            6 if place < bytes.len() => bytes[place] |= 128,
-            7 if place < bytes.len() => {
-                // the same number in a longer form
-                bytes[place] |= 128;
-                bytes.insert(place + 1, 0);
-            }
-            _ if place < bytes.len() => {
-                bytes[place] = self.random.one(&[0, 1, 2, 3, 63, 64, 127, 128, 129, 255])
-            }
-            _ => {}
-        }
-    }
-
-    fn written(&mut self, numbers: Vec<usize>, damaged: bool) -> Vec<u8> {
+    fn written(&mut self, numbers: Vec<u32>, damaged: bool) -> Vec<u8> {
         let mut numbers = numbers;
         if damaged && self.random.percent(60) {
-            self.damage_numbers(&mut numbers);
+            damage::numbers(self.random, &mut numbers);
         }
         let mut bytes = numbers_file(&numbers);
         if damaged && self.random.percent(60) {
             for _ in 0..self.random.within(1, 2) {
-                self.damage_bytes(&mut bytes);
+                match self.random.percent(40) {
+                    true => damage::form(self.random, &mut bytes),
+                    false => damage::bytes(self.random, &mut bytes),
+                }
             }
         }
         bytes
@@ -200,12 +51,18 @@ impl Maker<'_> {
         rules.insert(place, rule);
     }
 
+    /// So many names.
+    fn names(&mut self, low: usize, high: usize) -> Vec<u32> {
+        let count = self.random.within(low, high);
+        names::some(self.random, count)
+    }
+
     fn size(&mut self) -> Size {
         match self.random.below(10) {
             0 | 1 => Size {
                 stages: self.random.within(1, 3),
                 rules: self.random.within(1, 9),
-                names: self.random.within(1, 2),
+                names: self.names(1, 2),
                 tokens: self.random.below(14),
                 ends_percent: 85,
             },
@@ -213,21 +70,24 @@ impl Maker<'_> {
             2..=5 => Size {
                 stages: self.random.within(1, 4),
                 rules: self.random.within(6, 20),
-                names: 1,
+                names: self.names(1, 1),
                 tokens: self.random.within(1, 24),
                 ends_percent: 100,
             },
             6..=8 => Size {
                 stages: self.random.within(1, 8),
                 rules: self.random.within(3, 30),
-                names: self.random.within(1, 3),
+                names: self.names(1, 3),
                 tokens: self.random.below(30),
                 ends_percent: 75,
             },
             _ => Size {
                 stages: self.random.within(1, 32),
                 rules: self.random.within(30, 128),
-                names: self.random.one(&[1, 2, 64]),
+                names: match self.random.below(3) {
+                    0 => self.names(64, 64),
+                    _ => self.names(1, 2),
+                },
                 tokens: self.random.below(60),
                 ends_percent: 60,
             },
@@ -243,15 +103,19 @@ impl Maker<'_> {
         let (grammar_damaged, history_damaged) = (damage < 22, (15..42).contains(&damage));
         let size = self.size();
         let mut made = if self.random.percent(5) {
-            Made::g(self.random)
+            let names = StepNames::of(self.random, &size.names);
+            Made::g(self.random, names)
         } else {
             Made::any(self.random, &size)
         };
-        let tokens = match self.random.below(200) {
-            0 => self.nested(),
-            1..=40 => self.matched(size.tokens, size.names),
-            _ => self.derived(&made, size.tokens),
+        let mut tokens = match self.random.below(200) {
+            0 => nested(self.random, &size.names),
+            1..=40 => matched(self.random, size.tokens, &size.names),
+            _ => derived(self.random, &made, size.tokens),
         };
+        if self.random.percent(8) {
+            rename_one(self.random, &mut tokens);
+        }
         if grammar_damaged && self.random.percent(15) && made.rules.len() < 128 {
             self.repeat_rule(&mut made.rules);
         }
@@ -261,14 +125,14 @@ impl Maker<'_> {
     }
 
     /// A grammar at a limit, or one over it.
-    fn limit_grammar(&mut self, names: usize) -> Made {
+    fn limit_grammar(&mut self, names: &[u32]) -> Made {
         if self.random.percent(10) {
             return Made::longest(self.random.one(&[None, Some(0), Some(31), Some(32)]));
         }
         let size = Size {
             stages: self.random.one(&[1, 2, 31, 32, 32, 33]),
             rules: self.random.one(&[1, 16, 64, 127, 128, 128]),
-            names,
+            names: names.to_vec(),
             tokens: 0,
             ends_percent: self.random.one(&[5, 60, 100]),
         };
@@ -276,50 +140,53 @@ impl Maker<'_> {
         if self.random.percent(10) && made.rules.len() == 128 {
             made.rules.push(Rule::Marks {
                 from: 0,
-                mark: 63,
+                mark: 65_535,
                 then: 0,
             });
         }
         made
     }
 
-    /// Files at a limit, or one over it.
-    fn limit_files(&mut self) -> (Vec<u8>, Vec<u8>) {
+    /// A history at a limit, or one over it, and its grammar.
+    fn limit_frame(&mut self) -> (Made, Vec<Token>) {
         let names = self.random.one(&[1, 2, 3, 64]);
-        let mut made = self.limit_grammar(names);
+        let names = names::some(self.random, names);
+        let made = self.limit_grammar(&names);
         let count = self.random.one(&[1022, 1023, 1024, 1024, 1024, 1025]);
         let tokens = match self.random.below(7) {
-            // marks alone
-            0 => (0..count).map(|_| Token::Mark(self.name(names))).collect(),
+            0 => marks(self.random, count, &names),
             // steps one behind the other
-            1 => (0..count)
-                .map(|place| match place % 2 {
-                    0 => Token::Open(0),
-                    _ => Token::Close(0),
-                })
-                .collect(),
-            2 => self.nested(),
+            1 => {
+                let [open, _, close] = StepNames::of(self.random, &names).step();
+                repeated(&[open, close], count)
+            }
+            2 => nested(self.random, &names),
             // steps of G, with a mark in each
             3 | 4 => {
-                made = Made::g(self.random);
+                let of_g = StepNames::of(self.random, &names);
                 let steps = self.random.one(&[16, 340, 341]);
-                (0..3 * steps)
-                    .map(|place| match place % 3 {
-                        0 => Token::Open(0),
-                        1 => Token::Mark(0),
-                        _ => Token::Close(0),
-                    })
-                    .collect()
+                let made = Made::g(self.random, of_g);
+                return (made, repeated(&of_g.step(), 3 * steps));
             }
-            5 => self.derived(&made, count),
-            _ => self.matched(count, names),
+            5 => derived(self.random, &made, count),
+            _ => matched(self.random, count, &names),
         };
-        let grammar = numbers_file(&made.numbers());
-        let mut history = history_file(&tokens);
-        if self.random.percent(10) {
-            self.damage_bytes(&mut history);
+        (made, tokens)
+    }
+
+    /// Files at a limit, or one over it.
+    fn limit_files(&mut self) -> (Vec<u8>, Vec<u8>) {
+        let (made, mut tokens) = self.limit_frame();
+        if self.random.percent(20) {
+            rename_one(self.random, &mut tokens);
         }
-        (grammar, history)
+        let mut history = history_file(&tokens);
+        match self.random.below(20) {
+            0 => damage::bytes(self.random, &mut history),
+            1 => damage::form(self.random, &mut history),
+            _ => {}
+        }
+        (numbers_file(&made.numbers()), history)
     }
 
     /// A length for a buffer of which `needed` elements are written.
@@ -335,6 +202,12 @@ impl Maker<'_> {
             18 => self.random.below(3),
             _ => needed + self.random.below(40),
         }
+    }
+
+    /// A buffer of which `needed` bytes are written.
+    fn any_bytes(&mut self, needed: Option<usize>) -> Vec<u8> {
+        let length = self.length(needed);
+        self.random.bytes(length)
     }
 
     /// A place of the order, counted from 0; the ends come often.
@@ -410,6 +283,27 @@ impl Maker<'_> {
         }
     }
 
+    /// A list of fewer calls than so many.
+    fn calls(&mut self, most: usize) -> Vec<u8> {
+        (0..self.random.below(most))
+            .map(|_| match self.random.below(10) {
+                0..=2 => 0,
+                3 => self.random.next() as u8,
+                _ => 1,
+            })
+            .collect()
+    }
+
+    /// Room for the answers to a list of calls, or for one less.
+    fn answers(&mut self, calls: &[u8]) -> Vec<u8> {
+        let length = match self.random.below(10) {
+            0..=6 => calls.len(),
+            7 => calls.len().saturating_sub(1),
+            _ => calls.len() + self.random.below(4),
+        };
+        self.random.bytes(length)
+    }
+
     fn case(&mut self, limit: bool) -> Case {
         let (grammar, history) = if limit {
             self.limit_files()
@@ -418,36 +312,16 @@ impl Maker<'_> {
         };
         let work = Work::new(&grammar, &history);
         let needed = work.positions();
-        let first = {
-            let length = self.length(needed);
-            self.random.bytes(length)
-        };
+        let first = self.any_bytes(needed);
         let next = self.held(&work);
         let buffer = self.held(&work);
         let words = {
             let length = self.length(needed.map(|positions| 4 * positions));
             (0..length).map(|_| self.random.next() as u32).collect()
         };
-        let marks = {
-            let length = self.length(needed);
-            self.random.bytes(length)
-        };
-        let most = if limit { 4 } else { 10 };
-        let calls: Vec<u8> = (0..self.random.below(most))
-            .map(|_| match self.random.below(10) {
-                0..=2 => 0,
-                3 => self.random.next() as u8,
-                _ => 1,
-            })
-            .collect();
-        let answers = {
-            let length = match self.random.below(10) {
-                0..=6 => calls.len(),
-                7 => calls.len().saturating_sub(1),
-                _ => calls.len() + self.random.below(4),
-            };
-            self.random.bytes(length)
-        };
+        let marks = self.any_bytes(needed);
+        let calls = self.calls(if limit { 4 } else { 10 });
+        let answers = self.answers(&calls);
         let position = self.position(&history);
         let write_grammar = self.writing(&grammar, Kind::Grammar);
         let write_history = self.writing(&history, Kind::History);

@@ -1,6 +1,8 @@
-//! What a run has met: every answer of every service, and every kind of start.
+//! What a run has met: every answer of every service, every kind of start, and names of every width.
 use crate::case::{self, Case, Outcome, Service};
-use reference::Work;
+use frames::{history_numbers, numbers_file, Token};
+use reference::{parse_grammar, parse_history, Work};
+use std::collections::HashSet;
 
 /// How often each was met.
 pub struct Seen {
@@ -12,10 +14,24 @@ pub struct Seen {
     /// Of the cases that the reference was held against itself on, those where both files pass, by what the grammar says of
     /// its start: in how many the history has no reading, and in how many it has one.
     starts: [[u64; 2]; STARTS.len()],
+    /// The same by the names of both files.
+    names: [[u64; 2]; NAMES.len()],
 }
 
 /// What a grammar can say of its start.
 const STARTS: [&str; 3] = ["unsaid", "said, stage 0", "said, another stage"];
+
+/// What names can be: how many bytes the longest takes, and whether two of a kind differ above some bit alone.
+const NAMES: [&str; 8] = [
+    "in a grammar, one byte",
+    "two bytes",
+    "three bytes",
+    "in a history, one byte",
+    "two bytes",
+    "three bytes",
+    "apart above bit 8 alone",
+    "apart above bit 14 alone",
+];
 
 impl Seen {
     pub fn new() -> Seen {
@@ -24,6 +40,7 @@ impl Seen {
             answers: vec![[0; 256]; case::SERVICES.len()],
             listed: [0; 256],
             starts: [[0; 2]; STARTS.len()],
+            names: [[0; 2]; NAMES.len()],
         }
     }
 
@@ -38,7 +55,7 @@ impl Seen {
         }
     }
 
-    /// Whether the reference agrees with itself on a case, whose start is counted.
+    /// Whether the reference agrees with itself on a case, whose start and names are counted.
     pub fn work(&mut self, case: &Case) -> bool {
         let work = Work::new(&case.grammar, &case.history);
         if work.positions().is_some() {
@@ -47,18 +64,22 @@ impl Seen {
                 [0, ..] => 2,
                 _ => 0,
             };
-            self.starts[start][usize::from(!work.total().is_zero())] += 1;
+            let some = usize::from(!work.total().is_zero());
+            self.starts[start][some] += 1;
+            for name in names_met(case) {
+                self.names[name][some] += 1;
+            }
         }
         work.agrees_with_itself()
     }
 
     /// Each of them has to be met.
-    fn report_starts(&self) -> bool {
-        println!("starts met (no reading, readings)");
-        for (name, [none, some]) in STARTS.iter().zip(self.starts) {
+    fn report_kinds(what: &str, kinds: &[&str], met: &[[u64; 2]]) -> bool {
+        println!("{what} met (no reading, readings)");
+        for (name, [none, some]) in kinds.iter().zip(met) {
             println!("  {name}  {none}, {some}");
         }
-        self.starts.iter().flatten().all(|&count| count > 0)
+        met.iter().flatten().all(|&count| count > 0)
     }
 
     /// What has to be met at least once, and nothing else: every refusal that a service can give, and its other answers.
@@ -84,7 +105,9 @@ impl Seen {
 
     /// Prints all of it, and says whether nothing is missing.
     pub fn report(&self) -> bool {
-        self.report_answers() & self.report_starts()
+        self.report_answers()
+            & Seen::report_kinds("starts", &STARTS, &self.starts)
+            & Seen::report_kinds("names", &NAMES, &self.names)
     }
 
     fn report_answers(&self) -> bool {
@@ -116,4 +139,29 @@ impl Seen {
         line("calls in lists".into(), listed, &self.listed);
         whole
     }
+}
+
+/// Which of [`NAMES`] hold of a case whose files pass.
+fn names_met(case: &Case) -> Vec<usize> {
+    let rules = parse_grammar(&case.grammar).map(|grammar| grammar.rules);
+    let made = rules.unwrap_or_default().into_iter();
+    let made: Vec<Token> = made.flat_map(|rule| rule.tokens()).collect();
+    let tokens = parse_history(&case.history).unwrap_or_default();
+    let longest = |numbers: Vec<u32>| {
+        let lengths = numbers.iter().map(|&number| numbers_file(&[number]).len());
+        lengths.max()
+    };
+    let in_grammar = longest(made.iter().map(|token| token.name()).collect());
+    let in_history = longest(history_numbers(&tokens)[1..].to_vec());
+    let mut met = Vec::new();
+    met.extend(in_grammar.map(|bytes| bytes - 1));
+    met.extend(in_history.map(|bytes| bytes + 2));
+    let all: HashSet<Token> = made.into_iter().chain(tokens).collect();
+    for (place, bits) in [(6, 8), (7, 14)] {
+        let cut = |token: &Token| token.named(token.name() % (1 << bits));
+        if all.iter().map(cut).collect::<HashSet<_>>().len() < all.len() {
+            met.push(place);
+        }
+    }
+    met
 }

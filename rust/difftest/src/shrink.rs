@@ -38,39 +38,60 @@ fn weight(case: &Case) -> u128 {
     elements as u128 + case.position as u128 + numbers.sum::<u128>()
 }
 
-pub fn shrink(case: &Case, fault: Option<Fault>) -> Case {
-    let start = Instant::now();
-    let mut best = case.clone();
-    'again: loop {
-        for smaller in candidates(&best) {
-            if start.elapsed() > PATIENCE {
-                return best;
-            }
-            if weight(&smaller) < weight(&best) && compare(&smaller, fault, |_, _| {}).is_some() {
-                best = smaller;
-                continue 'again;
-            }
-        }
-        return best;
+/// A way to make a case smaller: puts what it makes of one at the end of a list.
+type Way = fn(&Case, &mut Vec<Case>);
+
+const WAYS: [Way; 12] = [
+    parts_dropped,
+    rules_dropped,
+    start_dropped,
+    tokens_dropped,
+    |case, all| in_both(case, all, elements_dropped),
+    |case, all| in_both(case, all, elements_uncounted),
+    |case, all| in_both(case, all, elements_unstarted),
+    bytes_dropped,
+    bytes_lowered,
+    names_lowered,
+    position_lowered,
+    |case, all| in_both(case, all, elements_lowered),
+];
+
+/// A way that goes by the elements of one writer, for both.
+fn in_both(case: &Case, all: &mut Vec<Case>, way: fn(&Case, Kind, &mut Vec<Case>)) {
+    for kind in [Kind::Grammar, Kind::History] {
+        way(case, kind, all);
     }
 }
 
-fn candidates(case: &Case) -> Vec<Case> {
-    let mut all = Vec::new();
-    parts_dropped(case, &mut all);
-    rules_dropped(case, &mut all);
-    start_dropped(case, &mut all);
-    tokens_dropped(case, &mut all);
-    bytes_dropped(case, &mut all);
-    bytes_lowered(case, &mut all);
-    position_lowered(case, &mut all);
-    for kind in [Kind::Grammar, Kind::History] {
-        elements_dropped(case, kind, &mut all);
-        elements_uncounted(case, kind, &mut all);
-        elements_unstarted(case, kind, &mut all);
-        elements_lowered(case, kind, &mut all);
+pub fn shrink(case: &Case, fault: Option<Fault>) -> Case {
+    let start = Instant::now();
+    let mut best = case.clone();
+    while start.elapsed() < PATIENCE {
+        let smaller = |case: &Case| {
+            weight(case) < weight(&best)
+                && start.elapsed() < PATIENCE
+                && compare(case, fault, |_, _| {}).is_some()
+        };
+        let found = WAYS.iter().find_map(|way| {
+            let mut made = Vec::new();
+            way(&best, &mut made);
+            made.into_iter().find(smaller)
+        });
+        match found {
+            Some(smaller) => best = smaller,
+            None => break,
+        }
     }
-    all
+    best
+}
+
+/// Numbers below this one: 0, the half, and others that come nearer and nearer.
+fn lower(number: u32) -> impl Iterator<Item = u32> {
+    let nearer = (1..32).map(move |k| number >> k);
+    let nearer = nearer.take_while(|&less| less > 0);
+    let zero = (number > 0).then_some(0);
+    zero.into_iter()
+        .chain(nearer.map(move |less| number - less))
 }
 
 /// Buffers that may not matter at all.
@@ -95,7 +116,7 @@ fn parts_dropped(case: &Case, all: &mut Vec<Case>) {
 /// The file of a grammar, with its start or without it.
 fn file_of(grammar: &Grammar, says_start: bool) -> Vec<u8> {
     let start = says_start.then_some(grammar.start);
-    grammar_file(grammar.stages.into(), start, &grammar.rules)
+    grammar_file(grammar.stages, start, &grammar.rules)
 }
 
 /// A grammar that passes, with one rule less, and the numbers in the buffers moved down.
@@ -152,32 +173,78 @@ fn tokens_dropped(case: &Case, all: &mut Vec<Case>) {
             Token::Close(_) => {}
         }
         for gone in ways {
-            let mut smaller = case.clone();
-            smaller.history = history_file(&tokens_without(&tokens, &gone));
-            if case.position < tokens.len() {
-                let before = gone.iter().filter(|&&place| place < case.position);
-                smaller.position -= before.count();
-            }
-            for &place in gone.iter().rev() {
-                for bytes in [
-                    &mut smaller.first,
-                    &mut smaller.next,
-                    &mut smaller.marks,
-                    &mut smaller.buffer,
-                ] {
-                    if place < bytes.len() {
-                        bytes.remove(place);
-                    }
-                }
-                for _ in 0..4 {
-                    if 4 * place < smaller.words.len() {
-                        smaller.words.remove(4 * place);
-                    }
-                }
-            }
-            with_readings(smaller, all);
+            with_readings(without(case, &tokens, &gone), all);
         }
     }
+}
+
+/// The case without the tokens at these places.
+fn without(case: &Case, tokens: &[Token], gone: &[usize]) -> Case {
+    let mut smaller = case.clone();
+    smaller.history = history_file(&tokens_without(tokens, gone));
+    if case.position < tokens.len() {
+        let before = gone.iter().filter(|&&place| place < case.position);
+        smaller.position -= before.count();
+    }
+    for &place in gone.iter().rev() {
+        for bytes in [
+            &mut smaller.first,
+            &mut smaller.next,
+            &mut smaller.marks,
+            &mut smaller.buffer,
+        ] {
+            if place < bytes.len() {
+                bytes.remove(place);
+            }
+        }
+        for _ in 0..4 {
+            if 4 * place < smaller.words.len() {
+                smaller.words.remove(4 * place);
+            }
+        }
+    }
+    smaller
+}
+
+/// In the files that pass: a lower name for a token wherever it stands, and all names without one of their bits.
+fn names_lowered(case: &Case, all: &mut Vec<Case>) {
+    for token in tokens_named(case) {
+        let instead = |other: Token, name| if other == token { name } else { other.name() };
+        let lower = lower(token.name());
+        all.extend(lower.map(|name| with_names(case, |other| instead(other, name))));
+    }
+    all.extend((0..16).map(|bit| with_names(case, |token| token.name() & !(1 << bit))));
+}
+
+/// The tokens of both files and those that the grammar's rules make, each once.
+fn tokens_named(case: &Case) -> Vec<Token> {
+    let rules = parse_grammar(&case.grammar).map_or(vec![], |grammar| grammar.rules);
+    let made = rules.iter().flat_map(|rule| rule.tokens());
+    let mut named = Vec::new();
+    for token in made.chain(parse_history(&case.history).unwrap_or_default()) {
+        if !named.contains(&token) {
+            named.push(token);
+        }
+    }
+    named
+}
+
+/// The case with other names in the files that pass.
+fn with_names(case: &Case, name: impl Fn(Token) -> u32) -> Case {
+    let mut renamed = case.clone();
+    if let Ok(mut grammar) = parse_grammar(&case.grammar) {
+        for rule in &mut grammar.rules {
+            *rule = rule.renamed(&name);
+        }
+        renamed.grammar = file_of(&grammar, heads::says_start(&case.grammar));
+    }
+    if let Ok(mut tokens) = parse_history(&case.history) {
+        for token in &mut tokens {
+            *token = token.named(name(*token));
+        }
+        renamed.history = history_file(&tokens);
+    }
+    renamed
 }
 
 /// The case, and the same with one of the first readings of its files in the buffers that hold one.
@@ -242,12 +309,10 @@ fn bytes_lowered(case: &Case, all: &mut Vec<Case>) {
     for which in 0..10 {
         for place in 0..field(&mut work, which).len() {
             let byte = field(&mut work, which)[place];
-            for lower in [0, byte / 2, byte.saturating_sub(1)] {
-                if lower < byte {
-                    let mut smaller = case.clone();
-                    field(&mut smaller, which)[place] = lower;
-                    all.push(smaller);
-                }
+            for lower in lower(byte.into()) {
+                let mut smaller = case.clone();
+                field(&mut smaller, which)[place] = lower as u8;
+                all.push(smaller);
             }
         }
     }
@@ -322,12 +387,10 @@ fn elements_unstarted(case: &Case, kind: Kind, all: &mut Vec<Case>) {
 fn elements_lowered(case: &Case, kind: Kind, all: &mut Vec<Case>) {
     let elements = case.clone().writing(kind).elements.clone();
     for (place, &element) in elements.iter().enumerate() {
-        for lower in [0, element / 2, element.saturating_sub(1)] {
-            if lower < element {
-                let mut smaller = case.clone();
-                smaller.writing(kind).elements[place] = lower;
-                all.push(smaller);
-            }
+        for lower in lower(element) {
+            let mut smaller = case.clone();
+            smaller.writing(kind).elements[place] = lower;
+            all.push(smaller);
         }
     }
 }

@@ -1,22 +1,27 @@
-//! What is tried whole before the random cases: short files, beginnings of grammars, values of elements, lengths of buffers.
+//! What is tried whole before the random cases: short files, every number of three bytes and every name, beginnings of grammars,
+//! values of elements, lengths of buffers.
 use crate::case::{self, compare, Case, Difference, Service};
 use crate::heads;
 use crate::make;
 use crate::random::Random;
 use crate::writing::{Kind, Writing};
+use frames::{grammar_file, history_file, Rule, Token};
+use gaffmedlar::raw;
 use reference::Work;
 
 /// Every length of every buffer is tried on so many files.
 const LENGTHS: u64 = 60;
-/// A grammar with a rule of each form, without its start and with it, and a history with a token of each kind, names of one
-/// and of two bytes.
-const GRAMMAR_NUMBERS: [u32; 14] = [3, 3, 0, 1, 1, 0, 5, 2, 2, 1, 3, 0, 7, 2];
-const LONGER_NUMBERS: [u32; 16] = [0, 3, 1, 3, 0, 1, 1, 0, 5, 2, 2, 1, 3, 0, 7, 2];
-const HISTORY_NUMBERS: [u32; 7] = [6, 1, 0, 161, 252, 134, 2];
+/// A grammar with a rule of each form, without its start and with it, and a history with a token of each kind, names of one to
+/// three bytes.
+const GRAMMAR_NUMBERS: [u32; 14] = [3, 3, 0, 1, 1, 0, 200, 2, 2, 1, 40_000, 0, 7, 2];
+const LONGER_NUMBERS: [u32; 16] = [0, 3, 1, 3, 0, 1, 1, 0, 200, 2, 2, 1, 40_000, 0, 7, 2];
+const HISTORY_NUMBERS: [u32; 7] = [6, 1, 0, 160_001, 252, 262_142, 2];
 
 /// All of it; the first difference, if there is one.
 pub fn all(seed: u64) -> Option<(Case, Difference)> {
     short_files()
+        .or_else(three_bytes)
+        .or_else(all_names)
         .or_else(all_heads)
         .or_else(all_elements)
         .or_else(|| all_lengths(seed))
@@ -25,7 +30,8 @@ pub fn all(seed: u64) -> Option<(Case, Difference)> {
 /// What that was.
 pub fn in_words() -> String {
     format!(
-        "all files of two bytes at most and of three behind a 0, {} beginnings of grammars, {} elements at all places, {LENGTHS} files at all lengths of buffers and all positions",
+        "all files of three bytes at most, all tokens and names of three, {} names told apart, {} beginnings of grammars, {} elements at all places, {LENGTHS} files at all lengths of buffers and all positions",
+        NAMES,
         heads::all().count(),
         element_values().count()
     )
@@ -74,6 +80,97 @@ fn short_files() -> Option<(Case, Difference)> {
     None
 }
 
+/// Whether the two checks alone agree on a grammar and a history: without what an outcome of each costs.
+fn same_checks(grammar: &[u8], history: &[u8]) -> bool {
+    let reply = raw::grammar_check(grammar);
+    let (answer, stages, rules) = match reference::grammar_check(grammar) {
+        Ok((stages, rules)) => (0, stages, rules),
+        Err(number) => (number, 0, 0),
+    };
+    let of_grammar = (reply.answer, reply.stages, reply.rules) == (answer, stages, rules);
+    let reply = raw::history_check(history);
+    let (answer, tokens) = match reference::history_check(history) {
+        Ok(tokens) => (0, tokens),
+        Err(number) => (number, 0),
+    };
+    of_grammar && (reply.answer, reply.tokens) == (answer, tokens)
+}
+
+/// Every three bytes: as a file, and where both bytes before the last have their top bit set, as a token alone and as the mark of
+/// a rule alone.
+fn three_bytes() -> Option<(Case, Difference)> {
+    let differs = |grammar: &[u8], history: &[u8]| {
+        let (grammar, history) = (grammar.to_vec(), history.to_vec());
+        let case = Case {
+            grammar,
+            history,
+            ..Case::default()
+        };
+        let services = [Service::GrammarCheck, Service::HistoryCheck];
+        let difference = compare_some(&case, &services).expect("the checks differ");
+        Some((case, difference))
+    };
+    for number in 0..1u32 << 24 {
+        let [_, one, two, three] = number.to_be_bytes();
+        let file = [one, two, three];
+        if !same_checks(&file, &file) {
+            return differs(&file, &file);
+        }
+        if one >= 128 && two >= 128 {
+            let (rule, token) = ([1, 1, 1, 0, one, two, three, 0], [1, one, two, three]);
+            if !same_checks(&rule, &token) {
+                return differs(&rule, &token);
+            }
+        }
+    }
+    None
+}
+
+/// So many names can pass.
+const NAMES: u32 = 65_536;
+
+/// A rule that makes a token of a kind with this name, and such tokens; kinds are 0 to 2, as in a file.
+fn named(kind: u32, name: u32) -> (Rule, Vec<Token>) {
+    let (open, close) = if kind == 1 { (name, 5) } else { (5, name) };
+    match kind {
+        0 => {
+            let (from, mark, then) = (0, name, 0);
+            (Rule::Marks { from, mark, then }, vec![Token::Mark(name)])
+        }
+        _ => {
+            let rule = Rule::Steps {
+                from: 0,
+                open,
+                inside: 0,
+                close,
+                then: 0,
+            };
+            (rule, vec![Token::Open(open), Token::Close(close)])
+        }
+    }
+}
+
+/// Every name of every kind, in a grammar that has another one too, which differs from it in one bit: a history with both.
+fn all_names() -> Option<(Case, Difference)> {
+    let services = [Service::FirstReading, Service::Sets, Service::StopMarks];
+    let mut case = Case {
+        first: vec![77; 5],
+        words: vec![77; 20],
+        marks: vec![77; 5],
+        ..Case::default()
+    };
+    for (name, kind) in (0..NAMES).flat_map(|name| [(name, 0), (name, 1), (name, 2)]) {
+        let (one, tokens) = named(kind, name);
+        let (other, more) = named(kind, name ^ 1 << (name / 7 % 16));
+        case.grammar = grammar_file(1, None, &[Rule::Ends { from: 0 }, one, other]);
+        case.history = history_file(&[tokens, more].concat());
+        if let Some(difference) = compare_some(&case, &services) {
+            return Some((case, difference));
+        }
+    }
+    None
+}
+
 /// The beginnings of grammars, as files and as elements.
 fn all_heads() -> Option<(Case, Difference)> {
     let services = [
@@ -84,8 +181,7 @@ fn all_heads() -> Option<(Case, Difference)> {
     let mut case = Case::default();
     case.write_grammar.buffer = vec![170; 10];
     for head in heads::all() {
-        let numbers: Vec<usize> = head.iter().map(|&number| number as usize).collect();
-        case.grammar = frames::numbers_file(&numbers);
+        case.grammar = frames::numbers_file(&head);
         case.write_grammar.elements = head;
         if let Some(difference) = compare_some(&case, &services) {
             return Some((case, difference));
@@ -94,10 +190,13 @@ fn all_heads() -> Option<(Case, Difference)> {
     None
 }
 
-/// Every element up to some that are too large for two bytes, and those around each power of two.
+/// Every element up to some that are too large for a name, many up to some that are too large for a token, and those around
+/// each power of two.
 fn element_values() -> impl Iterator<Item = u32> {
-    let powers = (17..32).flat_map(|k| [(1 << k) - 1, 1 << k, (1 << k) + 1]);
-    (0..=66_000).chain(powers).chain([u32::MAX - 1, u32::MAX])
+    let tokens = (66_001..262_000).step_by(13).chain(262_000..262_300);
+    let powers = (19..32).flat_map(|k| [(1 << k) - 1, 1 << k, (1 << k) + 1]);
+    let large = powers.chain([u32::MAX - 1, u32::MAX]);
+    (0..=66_000).chain(tokens).chain(large)
 }
 
 /// All these values at one place among the numbers of a file.
@@ -109,7 +208,7 @@ fn values_at(kind: Kind, numbers: &[u32], place: usize) -> Option<(Case, Differe
     let mut case = Case::default();
     *case.writing(kind) = Writing {
         elements: numbers.to_vec(),
-        buffer: vec![170; 20],
+        buffer: vec![170; 24],
     };
     for value in element_values() {
         case.writing(kind).elements[place] = value;

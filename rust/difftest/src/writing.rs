@@ -3,6 +3,7 @@
 use crate::case::{Lent, Outcome, BYTE};
 use crate::faults::Fault;
 use crate::heads;
+use frames::numbers_file;
 use gaffmedlar::{raw, Refusal};
 use reference::Work;
 
@@ -58,7 +59,7 @@ impl Kind {
     }
 
     /// The numbers of the file that is written from these: a grammar's with the start.
-    fn written(self, elements: &[u32]) -> Vec<u32> {
+    pub fn written(self, elements: &[u32]) -> Vec<u32> {
         match (self, elements) {
             (Kind::History, _) | (_, [] | [0, ..]) => elements.to_vec(),
             (Kind::Grammar, [stages, rest @ ..]) => [&[0, *stages, 0], rest].concat(),
@@ -194,11 +195,11 @@ fn spoil_start(fault: Fault, writing: &Writing, wrong: &mut Outcome) {
     let room = writing.buffer.len();
     match fault {
         Fault::ShortKept if wrong.answer == 0 => {
-            fill(wrong, writing, &bytes_of(elements));
+            fill(wrong, writing, &numbers_file(elements));
             wrong.words.clone_from(elements);
         }
         Fault::FifteenByShort if wrong.answer == 15 && length(elements) <= room => {
-            let longer = bytes_of(&Kind::Grammar.written(elements));
+            let longer = numbers_file(&Kind::Grammar.written(elements));
             wrong.answer = 0;
             fill(wrong, writing, &longer);
         }
@@ -211,7 +212,7 @@ fn spoil_start(fault: Fault, writing: &Writing, wrong: &mut Outcome) {
 }
 
 /// The buffer with a file in it, as far as there is room, and the file's length told.
-fn fill(wrong: &mut Outcome, writing: &Writing, file: &[u8]) {
+pub fn fill(wrong: &mut Outcome, writing: &Writing, file: &[u8]) {
     wrong.lent[0].clone_from(&writing.buffer);
     for (byte, due) in wrong.lent[0].iter_mut().zip(file) {
         *byte = *due;
@@ -219,13 +220,8 @@ fn fill(wrong: &mut Outcome, writing: &Writing, file: &[u8]) {
     wrong.counts[0] = file.len() as u64;
 }
 
-fn bytes_of(numbers: &[u32]) -> Vec<u8> {
-    let numbers: Vec<usize> = numbers.iter().map(|&number| number as usize).collect();
-    frames::numbers_file(&numbers)
-}
-
 fn length(numbers: &[u32]) -> usize {
-    bytes_of(numbers).len()
+    numbers_file(numbers).len()
 }
 
 /// Elements that are too many, without those behind the last one.

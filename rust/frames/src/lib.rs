@@ -1,5 +1,7 @@
 //! Writes the two files: for the comparison, the times and the tests. Nothing here reads one.
 
+pub mod wide;
+
 /// Document 01's grammar G: each of its steps has two readings.
 pub const G: [u8; 28] = [
     3, 7, 0, 0, 2, 0, 0, 1, 0, 0, 2, 0, 0, 2, 0, 0, 1, 1, 0, 1, 0, 1, 1, 2, 0, 2, 0, 2,
@@ -15,19 +17,19 @@ pub fn g_from(start: u8) -> Vec<u8> {
     [&[0, G[0], start], &G[1..]].concat()
 }
 
-/// One rule. Stages and names are kept as they stand in the file.
+/// One rule. Stages and names are kept as they stand in the file, and a name has more bits than one can have that passes.
 #[derive(Clone, Copy, Debug, PartialEq, Eq)]
 pub enum Rule {
     /// Form 0: L becomes nothing.
     Ends { from: u16 },
     /// Form 1: L becomes mark c, then L1.
-    Marks { from: u16, mark: u16, then: u16 },
+    Marks { from: u16, mark: u32, then: u16 },
     /// Form 2: L becomes open a, L1, close b, then L2.
     Steps {
         from: u16,
-        open: u16,
+        open: u32,
         inside: u16,
-        close: u16,
+        close: u32,
         then: u16,
     },
 }
@@ -55,61 +57,91 @@ impl Rule {
         }
         rule
     }
+
+    /// The tokens that it makes by itself.
+    pub fn tokens(&self) -> Vec<Token> {
+        match *self {
+            Rule::Ends { .. } => vec![],
+            Rule::Marks { mark, .. } => vec![Token::Mark(mark)],
+            Rule::Steps { open, close, .. } => vec![Token::Open(open), Token::Close(close)],
+        }
+    }
+
+    /// The same rule with other names.
+    pub fn renamed(&self, name: impl Fn(Token) -> u32) -> Rule {
+        let mut rule = *self;
+        match &mut rule {
+            Rule::Ends { .. } => {}
+            Rule::Marks { mark, .. } => *mark = name(Token::Mark(*mark)),
+            Rule::Steps { open, close, .. } => {
+                (*open, *close) = (name(Token::Open(*open)), name(Token::Close(*close)));
+            }
+        }
+        rule
+    }
 }
 
-#[derive(Clone, Copy, Debug, PartialEq, Eq)]
+#[derive(Clone, Copy, Debug, PartialEq, Eq, Hash)]
 pub enum Token {
-    Mark(u16),
-    Open(u16),
-    Close(u16),
+    Mark(u32),
+    Open(u32),
+    Close(u32),
+}
+
+impl Token {
+    pub fn name(self) -> u32 {
+        match self {
+            Token::Mark(name) | Token::Open(name) | Token::Close(name) => name,
+        }
+    }
+
+    /// A token of the same kind with another name.
+    pub fn named(self, name: u32) -> Token {
+        match self {
+            Token::Mark(_) => Token::Mark(name),
+            Token::Open(_) => Token::Open(name),
+            Token::Close(_) => Token::Close(name),
+        }
+    }
 }
 
 /// The numbers of a grammar file. With a start they have the longer form; without one the file starts at stage 0.
-pub fn grammar_numbers(stages: usize, start: Option<u16>, rules: &[Rule]) -> Vec<usize> {
+pub fn grammar_numbers(stages: u16, start: Option<u16>, rules: &[Rule]) -> Vec<u32> {
     let mut numbers = match start {
-        None => vec![stages],
-        Some(start) => vec![0, stages, start.into()],
+        None => vec![stages.into()],
+        Some(start) => vec![0, stages.into(), start.into()],
     };
-    numbers.push(rules.len());
+    numbers.push(rules.len() as u32);
     for rule in rules {
         match *rule {
             Rule::Ends { from } => numbers.extend([0, from.into()]),
-            Rule::Marks { from, mark, then } => {
-                numbers.extend([1, from.into(), mark.into(), then.into()])
-            }
+            Rule::Marks { from, mark, then } => numbers.extend([1, from.into(), mark, then.into()]),
             Rule::Steps {
                 from,
                 open,
                 inside,
                 close,
                 then,
-            } => numbers.extend([
-                2,
-                from.into(),
-                open.into(),
-                inside.into(),
-                close.into(),
-                then.into(),
-            ]),
+            } => numbers.extend([2, from.into(), open, inside.into(), close, then.into()]),
         }
     }
     numbers
 }
 
 /// The numbers of a history file.
-pub fn history_numbers(tokens: &[Token]) -> Vec<usize> {
-    let mut numbers = vec![tokens.len()];
+pub fn history_numbers(tokens: &[Token]) -> Vec<u32> {
+    let mut numbers = vec![tokens.len() as u32];
     numbers.extend(tokens.iter().map(|token| match *token {
-        Token::Mark(name) => 4 * usize::from(name),
-        Token::Open(name) => 4 * usize::from(name) + 1,
-        Token::Close(name) => 4 * usize::from(name) + 2,
+        Token::Mark(name) => 4 * name,
+        Token::Open(name) => 4 * name + 1,
+        Token::Close(name) => 4 * name + 2,
     }));
     numbers
 }
 
 /// Each number in groups of seven bits, lowest first, in the shortest form. A number too large for a file is written
-/// too, in three bytes or more: a damaged file may have one.
-pub fn numbers_file(numbers: &[usize]) -> Vec<u8> {
+/// too, in four bytes or more: a damaged file may have one.
+pub fn numbers_file(numbers: &[u32]) -> Vec<u8> {
     let mut bytes = Vec::new();
     for &number in numbers {
         let mut left = number;
@@ -123,7 +155,7 @@ pub fn numbers_file(numbers: &[usize]) -> Vec<u8> {
 }
 
 /// The bytes of a grammar file.
-pub fn grammar_file(stages: usize, start: Option<u16>, rules: &[Rule]) -> Vec<u8> {
+pub fn grammar_file(stages: u16, start: Option<u16>, rules: &[Rule]) -> Vec<u8> {
     numbers_file(&grammar_numbers(stages, start, rules))
 }
 
@@ -189,9 +221,55 @@ mod tests {
 
     #[test]
     fn long_numbers() {
+        let written: [(u32, &[u8]); 12] = [
+            (127, &[127]),
+            (128, &[128, 1]),
+            (1024, &[128, 8]),
+            (16_383, &[255, 127]),
+            (16_384, &[128, 128, 1]),
+            (65_535, &[255, 255, 3]),
+            (65_536, &[128, 128, 4]),
+            (262_142, &[254, 255, 15]),
+            (262_144, &[128, 128, 16]),
+            (2_097_151, &[255, 255, 127]),
+            (2_097_152, &[128, 128, 128, 1]),
+            (u32::MAX, &[255, 255, 255, 255, 15]),
+        ];
+        for (number, bytes) in written {
+            assert_eq!(numbers_file(&[number]), bytes);
+        }
+        assert_eq!(numbers_file(&[1, 40_000, 2]), [1, 192, 184, 2, 2]);
+    }
+
+    #[test]
+    fn other_names() {
+        let step = Rule::Steps {
+            from: 1,
+            open: 2,
+            inside: 3,
+            close: 4,
+            then: 5,
+        };
+        let by_kind = |token| match token {
+            Token::Mark(name) => name + 1,
+            Token::Open(name) => name + 256,
+            Token::Close(name) => name + 65_536,
+        };
         assert_eq!(
-            numbers_file(&[127, 128, 1024, 16383, 16384]),
-            [127, 128, 1, 128, 8, 255, 127, 128, 128, 1]
+            grammar_numbers(9, None, &[step.renamed(by_kind)]),
+            [9, 1, 2, 1, 258, 3, 65_540, 5]
         );
+        let [ends, _, _, mark, ..] = rules_of_g([0, 1, 2]);
+        assert_eq!(ends.renamed(by_kind), ends);
+        let tokens = [Token::Open(258), Token::Close(65_540)];
+        assert_eq!(step.renamed(by_kind).tokens(), tokens);
+        assert_eq!(
+            [ends.tokens(), mark.tokens()],
+            [vec![], vec![Token::Mark(0)]]
+        );
+        let renamed = grammar_numbers(3, Some(2), &[mark.renamed(by_kind)]);
+        assert_eq!(renamed, [0, 3, 2, 1, 1, 1, 1, 1]);
+        assert_eq!(Token::Open(7).named(65_535), Token::Open(65_535));
+        assert_eq!(Token::Close(40_000).name(), 40_000);
     }
 }

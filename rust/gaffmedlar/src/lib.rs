@@ -8,9 +8,14 @@
 //! A grammar file says its start stage, behind a leading 0 and the stage count, or else starts at stage 0. Every function goes
 //! by that start; [`write_grammar`] always writes it out.
 //!
+//! Names are numbers up to 65,535. A token's number is 4 × name + kind, so it has 18 bits, and each number of a file takes one to
+//! three bytes.
+//!
 //! A history of n tokens has positions 0 to n. A reading has one rule number for each of them, so it is n + 1 bytes.
 
 mod numbers;
+#[cfg(test)]
+mod tests;
 mod wire;
 mod writers;
 
@@ -64,16 +69,16 @@ macro_rules! refusals {
 
 refusals! {
     BytesEnd = 1, BOTH, "the bytes end inside a number or before one that is due";
-    NumberForm = 2, BOTH, "a two-byte number whose second byte is 0 or has its top bit set";
+    NumberForm = 2, BOTH, "a last byte of 0 after another byte, or a third byte with its top bit set";
     StageCount = 3, GRAMMAR, "stage count not 1 to 32";
     RuleCount = 4, GRAMMAR, "rule count not 1 to 128";
     Form = 5, GRAMMAR, "form above 2";
     Stage = 6, GRAMMAR, "a stage number not below the stage count";
-    Name = 7, GRAMMAR, "a name above 63";
+    Name = 7, GRAMMAR, "a name above 65,535";
     RuleTwice = 8, GRAMMAR, "a rule equal in form and all fields to an earlier rule";
     BytesFollow = 9, BOTH, "bytes follow the last rule or token";
     TokenCount = 10, HISTORY, "token count above 1,024";
-    Token = 11, HISTORY, "a token number above 255, or one that leaves 3 when divided by 4";
+    Token = 11, HISTORY, "a token number with a name above 65,535, or one that leaves 3 when divided by 4";
     CloseWithoutOpen = 12, HISTORY, "a close with no step open";
     StillOpen = 13, HISTORY, "a step still open after the last token";
     TooDeep = 14, HISTORY, "an open while 128 steps are open";
@@ -134,9 +139,9 @@ pub const READING_MAX: usize = 1025;
 /// Words of the sets of such a history.
 pub const WORDS_MAX: usize = 4 * READING_MAX;
 /// Bytes of the longest grammar file that passes.
-pub const GRAMMAR_BYTES_MAX: usize = 773;
+pub const GRAMMAR_BYTES_MAX: usize = 1285;
 /// Bytes of the longest history file that passes.
-pub const HISTORY_BYTES_MAX: usize = 2050;
+pub const HISTORY_BYTES_MAX: usize = 3074;
 
 /// The counts of a grammar that passes.
 #[derive(Clone, Copy, Debug, PartialEq, Eq)]
@@ -413,340 +418,4 @@ impl Iterator for Readings<'_> {
 #[doc(hidden)]
 pub mod raw {
     pub use crate::wire::*;
-}
-
-#[cfg(test)]
-mod tests {
-    use super::*;
-    use frames::{g_from, G, G_EXCHANGED};
-
-    #[test]
-    fn numbers_and_words() {
-        assert_eq!(REFUSALS.len(), 17);
-        for (place, &refusal) in REFUSALS.iter().enumerate() {
-            assert_eq!(usize::from(refusal.number()), place + 1);
-            assert_eq!(Refusal::of_number(refusal.number()), Some(refusal));
-        }
-        for number in [0, 18, 100, 101, 255] {
-            assert_eq!(Refusal::of_number(number), None);
-        }
-        assert_eq!(
-            Refusal::StillOpen.to_string(),
-            "a step still open after the last token (13)"
-        );
-        assert_eq!(format!("{:?}", Refusal::StillOpen), "StillOpen");
-        assert_eq!(Refusal::StillOpen.whose(), "whoever wrote the history");
-    }
-
-    #[test]
-    fn services() {
-        let history = [3, 1, 0, 2];
-        let counts = GrammarCounts {
-            stages: 3,
-            rules: 7,
-        };
-        assert_eq!(grammar_check(&G), Ok(counts));
-        assert_eq!(history_check(&history), Ok(3));
-        let all: Vec<Vec<u8>> = readings(&G, &history).unwrap().collect();
-        assert_eq!(all, [vec![1, 3, 4, 0], vec![2, 5, 6, 0]]);
-        let mut words = [9; 17];
-        assert_eq!(sets_into(&G, &history, &mut words), Ok(()));
-        assert_eq!(words, [6, 0, 0, 0, 40, 0, 0, 0, 80, 0, 0, 0, 1, 0, 0, 0, 9]);
-        assert_eq!(doubtful_count(&G, &history), Ok(3));
-        let mut marks = [9; 5];
-        assert_eq!(stop_marks(&G, &history, &mut marks), Ok(()));
-        assert_eq!(marks, [1, 0, 0, 1, 9]);
-    }
-
-    /// A grammar, a history, all its readings and its stop marks.
-    type Example = (Vec<u8>, Vec<u8>, Vec<Vec<u8>>, Vec<u8>);
-
-    /// G from stage 0, unsaid and said, and from stage 1; G with these stages exchanged, with its start and without it.
-    fn examples_of_starts() -> Vec<Example> {
-        let step = vec![3, 1, 0, 2];
-        let two = vec![vec![1, 3, 4, 0], vec![2, 5, 6, 0]];
-        let unsaid = [&[3], &G_EXCHANGED[3..]].concat();
-        let mut examples = vec![
-            (g_from(1), vec![0], vec![vec![4]], vec![1]),
-            (g_from(1), vec![2, 0, 0], vec![vec![3, 3, 4]], vec![1; 3]),
-        ];
-        for same in [G.to_vec(), g_from(0), G_EXCHANGED.to_vec()] {
-            examples.push((same, step.clone(), two.clone(), vec![1, 0, 0, 1]));
-        }
-        for other in [g_from(1), g_from(2), unsaid] {
-            examples.push((other, step.clone(), vec![], vec![1, 0, 0, 0]));
-        }
-        examples
-    }
-
-    /// Every service on one of them.
-    fn goes_by_the_start(grammar: &[u8], history: &[u8], due: &[Vec<u8>], due_marks: &[u8]) {
-        let counts = grammar_check(grammar).unwrap();
-        assert_eq!((counts.stages, counts.rules), (3, 7));
-        let all: Vec<Vec<u8>> = readings(grammar, history).unwrap().collect();
-        assert_eq!(all, due);
-        let calls = [Call::First, Call::Next, Call::Next];
-        let written = [CallAnswer::Written; 2];
-        let not_one = CallAnswer::Refused(of_call(Refusal::NotAReading));
-        let answers = match due.len() {
-            0 => vec![CallAnswer::NoReading, not_one, not_one],
-            m => [&written[..m], &vec![CallAnswer::NoFurther; 3 - m]].concat(),
-        };
-        // 255 is no rule
-        let mut buffer = vec![255; history.len()];
-        assert_eq!(run_calls(grammar, history, &calls, &mut buffer), answers);
-        let sets = sets(grammar, history).unwrap();
-        let mut doubtful = 0;
-        for position in 0..history.len() {
-            let mut rules: Vec<u8> = due.iter().map(|reading| reading[position]).collect();
-            rules.dedup();
-            doubtful += usize::from(rules.len() > 1);
-            assert_eq!(sets.rules(position).collect::<Vec<_>>(), rules);
-        }
-        assert_eq!(doubtful_count(grammar, history), Ok(doubtful));
-        let mut marks = vec![9; history.len()];
-        assert_eq!(stop_marks(grammar, history, &mut marks), Ok(()));
-        assert_eq!(marks, due_marks);
-    }
-
-    /// The grammars as they are, and as the writer makes them of their numbers: these all say their start.
-    #[test]
-    fn starts() {
-        for (grammar, history, readings, marks) in examples_of_starts() {
-            goes_by_the_start(&grammar, &history, &readings, &marks);
-            let longer = write_grammar(&numbers(&grammar)).unwrap();
-            assert_eq!((longer.len(), longer[0]), (30, 0));
-            goes_by_the_start(&longer, &history, &readings, &marks);
-        }
-    }
-
-    /// Each number of a grammar's head is judged when it is read.
-    #[test]
-    fn refused_heads() {
-        let heads: [(&[u8], Refusal); 14] = [
-            (&[0], Refusal::BytesEnd),
-            (&[0, 0], Refusal::StageCount),
-            (&[0, 0, 0, 0], Refusal::StageCount),
-            (&[0, 33], Refusal::StageCount),
-            (&[0, 128, 0], Refusal::NumberForm),
-            (&[128, 0], Refusal::NumberForm),
-            (&[0, 1], Refusal::BytesEnd),
-            (&[0, 1, 1], Refusal::Stage),
-            (&[0, 1, 1, 0], Refusal::Stage),
-            (&[0, 1, 128], Refusal::BytesEnd),
-            (&[0, 1, 128, 1], Refusal::Stage),
-            (&[0, 1, 128, 0], Refusal::NumberForm),
-            (&[0, 1, 0], Refusal::BytesEnd),
-            (&[0, 1, 0, 0], Refusal::RuleCount),
-        ];
-        for (grammar, refusal) in heads {
-            assert_eq!(grammar_check(grammar), of_grammar(refusal));
-            let first = first_reading(grammar, &[0], &mut [0]);
-            assert_eq!(first, of_grammar(refusal));
-        }
-    }
-
-    #[test]
-    fn sets_by_position_and_rule() {
-        let sets = sets(&G, &[3, 1, 0, 2]).unwrap();
-        assert_eq!(sets.positions(), 4);
-        assert_eq!(sets.words().len(), 16);
-        let rules: Vec<Vec<u8>> = (0..5).map(|p| sets.rules(p).collect()).collect();
-        assert_eq!(rules, [vec![1, 2], vec![3, 5], vec![4, 6], vec![0], vec![]]);
-        assert!(sets.contains(1, 5) && !sets.contains(1, 4));
-        // rule 129 at position 0 is no bit of position 1
-        assert!(!sets.contains(0, 129) && !sets.contains(0, 131) && !sets.contains(4, 0));
-        assert!(!sets.contains(usize::MAX, 1));
-        // no reading: all sets are empty
-        let none = super::sets(&G, &[1, 0]).unwrap();
-        assert_eq!(none.words(), [0; 8]);
-    }
-
-    fn of_grammar<T>(refusal: Refusal) -> Result<T, Refused> {
-        let file = Some(File::Grammar);
-        Err(Refused { refusal, file })
-    }
-
-    fn of_history<T>(refusal: Refusal) -> Result<T, Refused> {
-        let file = Some(File::History);
-        Err(Refused { refusal, file })
-    }
-
-    fn of_call(refusal: Refusal) -> Refused {
-        let file = None;
-        Refused { refusal, file }
-    }
-
-    /// 1, 2 and 9 can be of either file, and the grammar comes first.
-    #[test]
-    fn which_file() {
-        let refusals: [(Refusal, &[u8], &[u8]); 3] = [
-            (Refusal::BytesEnd, &[1], &[1]),
-            (Refusal::NumberForm, &[128, 0], &[128, 0]),
-            (Refusal::BytesFollow, &[1, 1, 0, 0, 5], &[0, 5]),
-        ];
-        for (refusal, bad_grammar, bad_history) in refusals {
-            assert_eq!(grammar_check(bad_grammar), of_grammar(refusal));
-            assert_eq!(history_check(bad_history), of_history(refusal));
-            for (grammar, due) in [
-                (bad_grammar, of_grammar(refusal)),
-                (&G, of_history(refusal)),
-            ] {
-                let buffer = &mut [0; 8];
-                assert_eq!(
-                    first_reading(grammar, bad_history, buffer),
-                    due.map(|()| First::Written)
-                );
-                assert_eq!(
-                    next_reading(grammar, bad_history, buffer),
-                    due.map(|()| Next::Written)
-                );
-                assert_eq!(stop_marks(grammar, bad_history, buffer), due);
-                assert_eq!(sets_into(grammar, bad_history, &mut []), due);
-                assert_eq!(doubtful_count(grammar, bad_history), due.map(|()| 0));
-                assert_eq!(readings(grammar, bad_history).err(), due.err());
-                let answers = run_calls(grammar, bad_history, &[Call::Next], buffer);
-                assert_eq!(answers, [CallAnswer::Refused(due.unwrap_err())]);
-            }
-            assert_eq!(
-                first_reading(bad_grammar, &[0], &mut [0]),
-                of_grammar(refusal)
-            );
-        }
-        assert_eq!(
-            grammar_check(&[1]).unwrap_err().to_string(),
-            "the grammar: the bytes end inside a number or before one that is due (1)"
-        );
-        assert_eq!(
-            sets(&G, &[1, 1]).unwrap_err().to_string(),
-            "the history: a step still open after the last token (13)"
-        );
-    }
-
-    /// The examples of one step's bytes: a history, a position, and the part of the file or the refusal.
-    fn step_examples() -> Vec<(Vec<u8>, usize, Result<Range<usize>, Refusal>)> {
-        let one = vec![3, 1, 0, 2];
-        let inside = vec![6, 1, 1, 2, 1, 2, 2];
-        let full = [vec![128, 8], [161, 1, 134, 1].repeat(512)].concat();
-        let mut examples = vec![
-            (one.clone(), 0, Ok(1..4)),
-            (inside.clone(), 0, Ok(1..7)),
-            (inside.clone(), 1, Ok(2..4)),
-            (inside.clone(), 3, Ok(4..6)),
-            (inside, 2, Err(Refusal::NotAnOpen)),
-            (vec![5, 0, 161, 1, 252, 1, 134, 1, 0], 1, Ok(2..8)),
-            (vec![1, 1], 5, Err(Refusal::StillOpen)),
-            (vec![], 0, Err(Refusal::BytesEnd)),
-            (full.clone(), 1022, Ok(2046..2050)),
-            (full, 1024, Err(Refusal::NotAnOpen)),
-        ];
-        for position in [1, 2, 3, 4, 1 << 32, 1 << 63, usize::MAX] {
-            examples.push((one.clone(), position, Err(Refusal::NotAnOpen)));
-        }
-        examples
-    }
-
-    #[test]
-    fn bytes_of_one_step() {
-        for (history, position, due) in step_examples() {
-            // a file with bytes around it that are not its own
-            let around = [vec![1; 5], history.clone(), vec![2; 5]].concat();
-            let lent = &around[5..5 + history.len()];
-            let reply = raw::step_bytes(lent, position);
-            let number = raw::step_refusal(lent, position);
-            assert_eq!(step_range(lent, position), due);
-            match due {
-                Ok(range) => {
-                    let part = step_bytes(lent, position).unwrap();
-                    assert_eq!(part, &history[range.clone()]);
-                    // the caller's own bytes, not a copy
-                    assert_eq!(part.as_ptr(), around[5 + range.start..].as_ptr());
-                    assert_eq!((reply.start, reply.length), (range.start, range.len()));
-                    assert_eq!(number, 0);
-                }
-                Err(refusal) => {
-                    assert_eq!(step_bytes(lent, position), Err(refusal));
-                    assert_eq!((reply.start, reply.length), (0, 0));
-                    assert_eq!(number, refusal.number());
-                }
-            }
-            assert_eq!(around, [vec![1; 5], history, vec![2; 5]].concat());
-        }
-    }
-
-    /// A part lives as long as the file it is of, and steps can be looked at side by side.
-    #[test]
-    fn parts_of_one_file() {
-        fn first_step(history: &[u8]) -> Option<&[u8]> {
-            (0..history_check(history).ok()?).find_map(|p| step_bytes(history, p).ok())
-        }
-        let history = [7, 0, 1, 1, 2, 1, 2, 2];
-        let outer = first_step(&history).unwrap();
-        let inner = [2, 4].map(|position| step_bytes(&history, position).unwrap());
-        assert_eq!(outer, [1, 1, 2, 1, 2, 2]);
-        assert!(inner.iter().all(|part| *part == [1, 2]));
-        assert_eq!(outer[1..5], inner.concat());
-        assert_eq!(first_step(&[1, 0]), None);
-    }
-
-    /// The history is judged before the position: a file that ends early or goes on is refused by its own number.
-    #[test]
-    fn no_step_of_a_refused_history() {
-        for (history, _, _) in step_examples().iter().take(6) {
-            let mut more = history.clone();
-            more.push(0);
-            let ends = (0..history.len()).map(|end| history[..end].to_vec());
-            for file in ends.chain([more]) {
-                let due = history_check(&file).unwrap_err().refusal;
-                for position in [0, 1, 2, 5, usize::MAX] {
-                    assert_eq!(step_bytes(&file, position), Err(due));
-                }
-            }
-        }
-        assert_eq!(
-            step_bytes(&[1, 1], 0).unwrap_err().to_string(),
-            "a step still open after the last token (13)"
-        );
-        let _: &dyn std::error::Error = &Refusal::NotAnOpen;
-    }
-
-    #[test]
-    fn refusals_and_other_answers() {
-        let mut buffer = [7; 2];
-        assert_eq!(
-            first_reading(&G, &[1, 0], &mut buffer),
-            Ok(First::NoReading)
-        );
-        assert_eq!(
-            first_reading(&G, &[1, 0], &mut buffer[..1]),
-            Err(of_call(Refusal::BufferShort))
-        );
-        assert_eq!(
-            first_reading(&[1, 0], &[1, 1], &mut []),
-            of_grammar(Refusal::RuleCount)
-        );
-        assert_eq!(
-            sets_into(&G, &[1, 1], &mut []),
-            of_history(Refusal::StillOpen)
-        );
-        let short = of_call(Refusal::BufferShort);
-        assert_eq!(sets_into(&G, &[0], &mut []), Err(short));
-        assert_eq!(
-            short.to_string(),
-            "a lent buffer shorter than its service writes or reads (15)"
-        );
-        assert_eq!(sets(&[1, 0], &[1, 1]), of_grammar(Refusal::RuleCount));
-        assert_eq!(buffer, [7; 2]);
-        let mut buffer = [9];
-        let calls = [Call::Next, Call::First, Call::Next];
-        assert_eq!(
-            run_calls(&G, &[0], &calls, &mut buffer),
-            [
-                CallAnswer::Refused(of_call(Refusal::NotAReading)),
-                CallAnswer::Written,
-                CallAnswer::NoFurther
-            ]
-        );
-        assert_eq!(buffer, [0]);
-    }
 }

@@ -10,7 +10,7 @@
 /// that element, wherever it stands, so what was cut off is not written as if it were whole.
 ///
 /// ```
-/// assert_eq!(gaffmedlar::numbers(&[2, 161, 1, 134, 1]), [2, 161, 134]);
+/// assert_eq!(gaffmedlar::numbers(&[2, 161, 1, 254, 255, 15]), [2, 161, 262_142]);
 /// assert_eq!(gaffmedlar::numbers(&[1, 0, 161]), [1, 0, u32::MAX]);
 /// // a grammar that says its start: two stages, from stage 1 on, one rule
 /// assert_eq!(gaffmedlar::numbers(&[0, 2, 1, 1, 0, 1]), [0, 2, 1, 1, 0, 1]);
@@ -35,19 +35,27 @@ fn number(groups: &[u8]) -> Option<u32> {
 #[cfg(test)]
 mod tests {
     use super::numbers;
+    use frames::wide::{longest_grammar, longest_history};
 
     #[test]
-    fn numbers_of_one_and_two_bytes() {
+    fn numbers_of_one_to_three_bytes() {
         assert_eq!(numbers(&[]), []);
-        assert_eq!(numbers(&[0, 127, 128, 1, 255, 127]), [0, 127, 128, 16383]);
+        assert_eq!(numbers(&[0, 127, 128, 1, 255, 127]), [0, 127, 128, 16_383]);
         assert_eq!(numbers(&[128, 8, 161, 1, 134, 1]), [1024, 161, 134]);
+        assert_eq!(numbers(&[128, 128, 1, 255, 255, 3]), [16_384, 65_535]);
+        assert_eq!(numbers(&[254, 255, 15, 2]), [262_142, 2]);
+        assert_eq!(numbers(&[255, 255, 127]), [2_097_151]);
+        for (due, file) in [longest_grammar(true), longest_history()] {
+            assert_eq!(numbers(&file), due);
+        }
     }
 
     /// Bytes that no check lets through.
     #[test]
     fn other_bytes() {
         assert_eq!(numbers(&[128, 0, 5]), [0, 5]);
-        assert_eq!(numbers(&[128, 128, 1, 255, 255, 3]), [16384, 65535]);
+        assert_eq!(numbers(&[129, 128, 0, 5]), [1, 5]);
+        assert_eq!(numbers(&[128, 128, 128, 1, 5]), [2_097_152, 5]);
         assert_eq!(numbers(&[255, 255, 255, 255, 15]), [u32::MAX]);
         assert_eq!(numbers(&[254, 255, 255, 255, 15]), [u32::MAX - 1]);
         assert_eq!(numbers(&[128, 128, 128, 128, 16, 7]), [u32::MAX, 7]);

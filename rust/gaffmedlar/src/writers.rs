@@ -36,12 +36,12 @@ pub fn write_grammar_into(numbers: &[u32], file: &mut [u8]) -> Result<usize, Ref
 /// [`numbers`](crate::numbers) gives those of a file. It is refused as [`write_grammar`] is.
 ///
 /// ```
-/// // a camera appends a step: open 40, close 33
+/// // a camera appends a step: open 40, close 65,535
 /// let history = [3, 1, 0, 2];
 /// let mut numbers = gaffmedlar::numbers(&history);
 /// numbers[0] += 2;
-/// numbers.extend([4 * 40 + 1, 4 * 33 + 2]);
-/// assert_eq!(gaffmedlar::write_history(&numbers), Ok(vec![5, 1, 0, 2, 161, 1, 134, 1]));
+/// numbers.extend([4 * 40 + 1, 4 * 65_535 + 2]);
+/// assert_eq!(gaffmedlar::write_history(&numbers), Ok(vec![5, 1, 0, 2, 161, 1, 254, 255, 15]));
 /// ```
 pub fn write_history(numbers: &[u32]) -> Result<Vec<u8>, Refusal> {
     written(numbers, HISTORY_BYTES_MAX, write_history_into)
@@ -75,6 +75,7 @@ fn written(
 mod tests {
     use super::*;
     use crate::{grammar_check, history_check};
+    use frames::wide::{longest_grammar, longest_history};
     use frames::{g_from, G, G_EXCHANGED};
 
     type Write = fn(&[u32]) -> Result<Vec<u8>, Refusal>;
@@ -102,32 +103,22 @@ mod tests {
     /// A file's numbers, and its bytes as they are written.
     type Example = (Vec<u32>, Vec<u8>);
 
-    /// 128 rules of six numbers, with both beginnings: no grammar file is longer than the second.
-    fn longest_grammars() -> [Example; 2] {
-        let rules = (0..128).flat_map(|rule| [2, rule / 64, rule % 64, 31, 63, 0]);
-        let rules: Vec<u8> = rules.collect();
-        let file = |start| [vec![0, 32, start, 128, 1], rules.clone()].concat();
-        [
-            ([vec![32, 128], elements(&rules)].concat(), file(0)),
-            ([vec![0, 32, 31, 128], elements(&rules)].concat(), file(31)),
-        ]
-    }
-
-    /// 1,024 tokens of two bytes.
-    fn longest_history() -> Example {
-        (
-            [vec![1024], [161u32, 134].repeat(512)].concat(),
-            [vec![128, 8], [161, 1, 134, 1].repeat(512)].concat(),
-        )
-    }
-
     /// G's numbers are written with the start 0; those of a grammar that says its start are written as they are.
     fn short_grammars() -> Vec<Example> {
         let longer = [&[0, 3, 0, 7], &G[2..]].concat();
         assert_eq!(longer.len(), 30);
         let says_start = [longer.clone(), g_from(1), g_from(2), G_EXCHANGED.to_vec()];
         let as_it_is = says_start.map(|file| (elements(&file), file));
-        [vec![(elements(&G), longer)], as_it_is.to_vec()].concat()
+        // marks 127, 128, 16,383, 16,384 and 65,535 of stage 0, which goes on with itself
+        let names = [127, 128, 16_383, 16_384, 65_535];
+        let rules = names.into_iter().flat_map(|name| [1, 0, name, 0]);
+        let numbers = [0, 1, 0, 5].into_iter().chain(rules).collect();
+        let file = vec![
+            0, 1, 0, 5, 1, 0, 127, 0, 1, 0, 128, 1, 0, 1, 0, 255, 127, 0, 1, 0, 128, 128, 1, 0, 1,
+            0, 255, 255, 3, 0,
+        ];
+        let others = vec![(elements(&G), longer), (numbers, file)];
+        [others, as_it_is.to_vec()].concat()
     }
 
     /// A writer on a buffer of every length up to some bytes more than the file has, between bytes that are not its own.
@@ -149,7 +140,7 @@ mod tests {
 
     #[test]
     fn written_grammars() {
-        let longest = longest_grammars();
+        let longest = [false, true].map(longest_grammar);
         assert!(longest
             .iter()
             .all(|(_, file)| file.len() == GRAMMAR_BYTES_MAX));
@@ -166,7 +157,10 @@ mod tests {
         let longest = longest_history();
         assert_eq!(longest.1.len(), HISTORY_BYTES_MAX);
         let wide = (vec![2, 161, 134], vec![2, 161, 1, 134, 1]);
-        for (numbers, file) in [(vec![0], vec![0]), wide, longest] {
+        let wider = (vec![1, 16_384], vec![1, 128, 128, 1]);
+        let widest = vec![2, 253, 255, 15, 254, 255, 15];
+        let widest = (vec![2, 262_141, 262_142], widest);
+        for (numbers, file) in [(vec![0], vec![0]), wide, wider, widest, longest] {
             writes(HISTORY_WRITER, &numbers, &file);
             assert_eq!(history_check(&file), Ok(numbers.len() - 1));
             assert_eq!(crate::numbers(&file), numbers);
@@ -182,6 +176,7 @@ mod tests {
             (vec![1, 1, 1, 0, 70_000, 0], Refusal::Name),
             (vec![33, 1, 0, 0], Refusal::StageCount),
             (vec![257, 1, 0, 0], Refusal::StageCount),
+            (vec![65_537, 1, 0, 0], Refusal::StageCount),
             (vec![u32::MAX, 1, 0, 0], Refusal::StageCount),
             (vec![1, 0], Refusal::RuleCount),
             (vec![1, 129, 0, 0], Refusal::RuleCount),
@@ -190,7 +185,11 @@ mod tests {
             (vec![1, 1, 0, 1 << 16], Refusal::Stage),
             // 8 before a later 1, and 7 before a later 9
             (vec![1, 128, 0, 0, 0, 0], Refusal::RuleTwice),
-            (vec![1, 1, 1, 0, 64, 0, 0], Refusal::Name),
+            (vec![1, 1, 1, 0, 65_536, 0, 0], Refusal::Name),
+            (vec![1, 1, 2, 0, 65_536, 0, 0, 0], Refusal::Name),
+            (vec![1, 1, 2, 0, 0, 0, 65_536, 0], Refusal::Name),
+            (vec![1, 1, 1, 0, 1 << 21, 0], Refusal::Name),
+            (vec![1, 1, 1, 0, u32::MAX, 0], Refusal::Name),
             (vec![1, 2, 0, 0], Refusal::BytesEnd),
             (vec![], Refusal::BytesEnd),
         ]
@@ -232,9 +231,13 @@ mod tests {
             (vec![u32::MAX], Refusal::TokenCount),
             (vec![1 << 16], Refusal::TokenCount),
             (vec![1025], Refusal::TokenCount),
-            (vec![1, 16384], Refusal::Token),
-            (vec![1, 1 << 16], Refusal::Token),
+            (vec![1, 262_144], Refusal::Token),
+            (vec![1, 262_143], Refusal::Token),
+            (vec![1, 1 << 21], Refusal::Token),
+            (vec![1, u32::MAX - 3], Refusal::Token),
             (vec![1, 3], Refusal::Token),
+            (vec![1, 262_142], Refusal::CloseWithoutOpen),
+            (vec![1, 262_141], Refusal::StillOpen),
             (vec![1, 2], Refusal::CloseWithoutOpen),
             // 13 before 9
             (vec![2, 1, 1, 0], Refusal::StillOpen),
@@ -245,7 +248,7 @@ mod tests {
     /// A refused writer writes nothing, and the numbers are judged before the buffer.
     fn refuses((write, write_into): (Write, WriteInto), numbers: &[u32], refusal: Refusal) {
         assert_eq!(write(numbers), Err(refusal));
-        for room in [0, 1, 5, 100, 3000] {
+        for room in [0, 1, 5, 100, 3100] {
             let mut file = vec![170; room];
             assert_eq!(write_into(numbers, &mut file), Err(refusal));
             assert_eq!(file, vec![170; room]);
@@ -265,7 +268,7 @@ mod tests {
     /// Elements behind the last one are too many, however many they are.
     #[test]
     fn far_too_many_elements() {
-        let [short, long] = longest_grammars();
+        let [short, long] = [false, true].map(longest_grammar);
         for ((write, _), numbers) in [
             (GRAMMAR_WRITER, elements(&G)),
             (GRAMMAR_WRITER, elements(&G_EXCHANGED)),

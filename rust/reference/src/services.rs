@@ -1,8 +1,9 @@
 //! The services. Answers are numbers: 0 written or made, 100 "none", 101 "no further", else a refusal.
 use crate::big::Big;
 use crate::counted::Counter;
-use crate::files::{parse_grammar, parse_history};
+use crate::files::{parse_grammar, parse_history, Grammar};
 use crate::{listed, marks, NO_FURTHER, NO_READING};
+use frames::Token;
 use std::cell::OnceCell;
 
 /// The stage count and the rule count, or the number of the refusal.
@@ -33,10 +34,16 @@ type Entry = Option<Big>;
 
 impl Work {
     pub fn new(grammar: &[u8], history: &[u8]) -> Work {
-        Work(parse_grammar(grammar).and_then(|grammar| {
-            let tokens = parse_history(history)?;
-            Ok(Served::new(Counter::new(grammar, tokens)))
-        }))
+        let read = || Ok((parse_grammar(grammar)?, parse_history(history)?));
+        match read() {
+            Ok((grammar, tokens)) => Work::of(grammar, tokens),
+            Err(number) => Work(Err(number)),
+        }
+    }
+
+    /// A grammar and tokens as if they had been read, whatever the grammar's rules are.
+    pub fn of(grammar: Grammar, tokens: Vec<Token>) -> Work {
+        Work(Ok(Served::new(Counter::new(grammar, tokens))))
     }
 
     /// How many readings there are; none where a file is refused.
@@ -281,7 +288,7 @@ impl Served {
 #[cfg(test)]
 mod tests {
     use super::*;
-    use frames::{g_from, history_file, Token, G, G_EXCHANGED};
+    use frames::{g_from, history_file, wide, G, G_EXCHANGED};
 
     /// Every reading, the stop marks and the doubtful count.
     fn all(grammar: &[u8], history: &[u8]) -> (Vec<Vec<u8>>, Vec<u8>, u32) {
@@ -348,6 +355,24 @@ mod tests {
         assert_eq!(none, (vec![], vec![1, 0, 0, 0], 0));
     }
 
+    /// Names that are equal in their low 8 or 14 bits are told apart.
+    #[test]
+    fn wide_names() {
+        for example in &wide::EXAMPLES {
+            let readings: Vec<Vec<u8>> = example.readings.iter().map(|r| r.to_vec()).collect();
+            let differ = |place: &usize| readings.iter().any(|r| r[*place] != readings[0][*place]);
+            let doubtful = (0..example.marks.len()).filter(differ).count() as u32;
+            let due = (readings.clone(), example.marks.to_vec(), doubtful);
+            assert_eq!(all(example.grammar, example.history), due);
+        }
+        // what reads the one history is no reading of the other
+        let mut reading = [1, 0];
+        let of_16385 = Work::new(&wide::MARKS, &[1, 132, 128, 4]);
+        assert_eq!(of_16385.next_reading(&mut reading), 16);
+        let of_1 = Work::new(&wide::MARKS, &[1, 4]);
+        assert_eq!(of_1.next_reading(&mut reading), NO_FURTHER);
+    }
+
     /// 4 ends stage 1 and 0 ends stage 0: each is a reading of no token by its own start alone.
     #[test]
     fn next_by_the_start() {
@@ -383,6 +408,10 @@ mod tests {
         assert_eq!(history_check(&[1, 3]), Err(11));
         assert_eq!(history_check(&[128]), Err(1));
         assert_eq!(history_check(&[128, 0]), Err(2));
+        assert_eq!(history_check(&[128, 128]), Err(1));
+        assert_eq!(history_check(&[128, 128, 0]), Err(2));
+        assert_eq!(history_check(&[128, 128, 128]), Err(2));
+        assert_eq!(history_check(&[128, 128, 1]), Err(10));
         assert_eq!(grammar_check(&[1, 2, 0, 0, 0, 0]), Err(8));
         assert_eq!(grammar_check(&[1, 0]), Err(4));
         let mut full = vec![128, 8];

@@ -54,7 +54,26 @@ mod tests {
         let wide = [5, 0, 161, 1, 252, 1, 134, 1, 0];
         assert_eq!(step_bytes(&wide, 1), Ok(2..8));
         assert_eq!(step_bytes(&[1, 1], 5), Err(13));
-        let full = [vec![128, 8], [161, 1, 134, 1].repeat(512)].concat();
-        assert_eq!(step_bytes(&full, 1022), Ok(2046..2050));
+    }
+
+    /// Tokens of one, two and three bytes.
+    #[test]
+    fn wide_steps() {
+        let mixed = [3, 129, 226, 9, 172, 2, 254, 255, 15];
+        assert_eq!(step_bytes(&mixed, 0), Ok(1..9));
+        let inside = [6, 253, 255, 15, 128, 128, 1, 1, 254, 255, 15, 134, 1, 4];
+        let due = [Ok(1..13), Err(17), Ok(7..11), Err(17), Err(17), Err(17)];
+        for (position, due) in due.into_iter().enumerate() {
+            assert_eq!(step_bytes(&inside, position), due);
+        }
+        let (_, full) = frames::wide::longest_history();
+        for step in 0..512 {
+            let start = 2 + 6 * step;
+            assert_eq!(step_bytes(&full, 2 * step), Ok(start..start + 6));
+        }
+        assert_eq!(step_bytes(&full, 1022), Ok(3068..3074));
+        assert_eq!(step_bytes(&full, 1023), Err(17));
+        assert_eq!(step_bytes(&[1, 253, 255, 15], 0), Err(13));
+        assert_eq!(step_bytes(&[1, 129, 128, 16], 0), Err(11));
     }
 }

@@ -67,7 +67,7 @@ fn judge_rule(rest: &mut Iter<u32>, stages: u32) -> Result<(), u8> {
     let tokens = next(rest, 0..=2, 5)?;
     next(rest, 0..=stages - 1, 6)?;
     for _ in 0..tokens {
-        next(rest, 0..=63, 7)?;
+        next(rest, 0..=65_535, 7)?;
         next(rest, 0..=stages - 1, 6)?;
     }
     Ok(())
@@ -78,7 +78,7 @@ fn judge_history(elements: &[u32]) -> Result<(), u8> {
     let count = next(&mut rest, 0..=1024, 10)?;
     let mut open = 0;
     for _ in 0..count {
-        let kind = next(&mut rest, 0..=255, 11)? % 4;
+        let kind = next(&mut rest, 0..=262_143, 11)? % 4;
         open = match (kind, open) {
             (0, _) => open,
             (1, 128) => return Err(14),
@@ -121,7 +121,7 @@ fn groups(number: u32) -> Vec<u8> {
 #[cfg(test)]
 mod tests {
     use super::*;
-    use frames::{g_from, G, G_EXCHANGED};
+    use frames::{g_from, wide, G, G_EXCHANGED};
 
     type Writer = fn(&[u32], &mut [u8]) -> Result<usize, u8>;
 
@@ -195,13 +195,60 @@ mod tests {
         for room in [0, 9] {
             due(write_history, &[2, 1, 1, 0], room, Err(13));
             due(write_history, &[1, 0, 0], room, Err(9));
-            due(write_history, &[1, 16384], room, Err(11));
+            due(write_history, &[1, 262_144], room, Err(11));
             due(write_history, &[1025], room, Err(10));
             due(write_history, &[], room, Err(1));
         }
     }
 
-    /// Each kind of number in two bytes, and the limits on their both sides.
+    /// Names and tokens up to the largest, and what is above.
+    #[test]
+    fn wide_names() {
+        let marks = &[0, 1, 0, 1, 1, 0, 255, 255, 3, 0];
+        due(write_grammar, &[1, 1, 1, 0, 65_535, 0], 10, Ok(marks));
+        due(write_grammar, &[1, 1, 1, 0, 65_535, 0], 9, Err(15));
+        let step = [1, 1, 2, 0, 40_000, 0, 32_767, 0];
+        let file = &[0, 1, 0, 1, 2, 0, 192, 184, 2, 0, 255, 255, 1, 0];
+        due(write_grammar, &step, 14, Ok(file));
+        for place in [4, 6] {
+            for name in [65_536, 65_537, 131_071, 1 << 21, 1 << 31, u32::MAX] {
+                let mut above = step;
+                above[place] = name;
+                due(write_grammar, &above, 20, Err(7));
+            }
+        }
+        let tokens: [(u32, &[u8]); 4] = [
+            (16_380, &[1, 252, 127]),
+            (16_384, &[1, 128, 128, 1]),
+            (160_000, &[1, 128, 226, 9]),
+            (262_140, &[1, 252, 255, 15]),
+        ];
+        for (token, file) in tokens {
+            due(write_history, &[1, token], file.len(), Ok(file));
+            due(write_history, &[1, token], file.len() - 1, Err(15));
+        }
+        let step = &[2, 253, 255, 15, 254, 255, 15];
+        due(write_history, &[2, 262_141, 262_142], 7, Ok(step));
+        let refused = [(262_141, 13), (262_142, 12), (16_383, 11), (65_535, 11)];
+        let above = [262_143, 262_144, 262_145, 1 << 21, u32::MAX - 3];
+        for (token, number) in refused.into_iter().chain(above.map(|token| (token, 11))) {
+            due(write_history, &[1, token], 9, Err(number));
+        }
+    }
+
+    #[test]
+    fn longest_files() {
+        for says_start in [false, true] {
+            let (numbers, file) = wide::longest_grammar(says_start);
+            due(write_grammar, &numbers, 1285, Ok(&file));
+            due(write_grammar, &numbers, 1284, Err(15));
+        }
+        let (numbers, file) = wide::longest_history();
+        due(write_history, &numbers, 3080, Ok(&file));
+        due(write_history, &numbers, 3073, Err(15));
+    }
+
+    /// Counts in two bytes, and the limits on their both sides.
     #[test]
     fn limits() {
         let marks = |count: u32| [vec![count], vec![0; count as usize]].concat();
@@ -212,7 +259,7 @@ mod tests {
         let file = [vec![128, 2], vec![1; 128], vec![2; 128]].concat();
         due(write_history, &nested(128), 258, Ok(&file));
         due(write_history, &nested(129), 300, Err(14));
-        let rules: Vec<u8> = (0..128).flat_map(|k| [1, k / 64, k % 64, 0]).collect();
+        let rules: Vec<u8> = (0..128).flat_map(|k| [1, 1, k, 0]).collect();
         let mut elements: Vec<u32> = rules.iter().map(|&number| number.into()).collect();
         elements.splice(0..0, [2, 128]);
         let file = [vec![0, 2, 0, 128, 1], rules].concat();
@@ -222,6 +269,8 @@ mod tests {
         due(write_grammar, &elements, 517, Err(4));
         assert_eq!(groups(127), [127]);
         assert_eq!(groups(128), [128, 1]);
-        assert_eq!(groups(16383), [255, 127]);
+        assert_eq!(groups(16_383), [255, 127]);
+        assert_eq!(groups(16_384), [128, 128, 1]);
+        assert_eq!(groups(262_142), [254, 255, 15]);
     }
 }

@@ -36,7 +36,7 @@ put-number-requires c κs =
     let l = c .before .before .before in
     let m = count-is (l .before .before .before .args .elements .now) (l .before .count-of .result) (l .before .count-of .ensures) in
     let a = l .before .before .before .args in
-    let most : l .loop .at + 2 ≤ 2052 = omega (arith, m .0, c .before .before .loop-test .taken, l .loop .inv .1 .room) in
+    let most : l .loop .at + 3 ≤ 3078 = omega (arith, m .0, c .before .before .loop-test .taken, l .loop .inv .1 .room) in
     let size = l .before .before .before .pre in
     (most, encoding-size (a .elements .now) (a .file .now) (l .loop .file) (l .loop .at) (l .loop .i) (omega (arith, most, size)) (l .loop .inv .1) ∙ size)
 

@@ -4,15 +4,15 @@ use borrow.Author.Needs.{needs}
 use Rattle.history_file.proofs.token_of.Statement.{statement}
 use Rattle.history_file.proofs.token_of.Tie as tie
 
-cast-token-with : tie.Need-cast-token-with
-cast-token-with c = search needs
+name-of-requires : tie.Need-name-of-requires
+name-of-requires c κs = search needs
 
 token-with-requires : tie.Need-token-with-requires
 token-with-requires c κs = search needs
 
 returns : tie.Need-returns
 unfolding tokenOf
-returns c = c .token-with .ensures
+returns c = rw (c .before .name-of .ensures) at (c .token-with .ensures)
 
 pub token-of-spec : {M : Type 1} → statement M
-token-of-spec = tie.close (tie.spec cast-token-with token-with-requires returns)
+token-of-spec = tie.close (tie.spec name-of-requires token-with-requires returns)

@@ -31,11 +31,11 @@ tokenOf t = tokenWith (kind t) (t / 4)
 abbrev pub tokensOf : List ℕ → List Token
 tokensOf ts = map tokenOf ts
 
--- a token number, with so many steps open before it. 11: "a token number above 255, or one that leaves 3 when divided by 4";
--- 12: "a close with no step open"; 14: "an open while 128 steps are open"
+-- a token number, with so many steps open before it. 11: "names above 65,535" (document 02, 2.4), or a token number "that leaves 3 when
+-- divided by 4"; 12: "a close with no step open"; 14: "an open while 128 steps are open"
 unfoldable pub tokenJudged : ℕ → ℕ → ℕ → TokenRead
 tokenJudged t next depth =
-    cond (leb 256 t || eqb (kind t) 3) (TokenRefused 11)
+    cond (ltb 65535 (t / 4) || eqb (kind t) 3) (TokenRefused 11)
     (cond (eqb (kind t) 2 && eqb depth 0) (TokenRefused 12)
     (cond (eqb (kind t) 1 && leb 128 depth) (TokenRefused 14)
     (TokenIs t next)))

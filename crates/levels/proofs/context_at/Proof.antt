@@ -1,4 +1,4 @@
--- `levels::place_at` meets its contract.
+-- `levels::context_at` meets its contract.
 use Prim.Native.Nat.{_<_}
 use native.Mathlib.Omega.{arith}
 use native.Mathlib.Numerals.{add-one}
@@ -21,8 +21,8 @@ mul-t c = search needs
 shared-slice-read-t : tie.Need-shared-slice-read-t
 shared-slice-read-t c = search needs
 
-cast-name : tie.Need-cast-name
-cast-name c =
+name-of-requires : tie.Need-name-of-requires
+name-of-requires c κs =
     let s = c .before .before .before in
     omega (arith, s .pre .0 .small (s .args .p) (omega arith))
 
@@ -48,7 +48,7 @@ shared-slice-read-close-name : tie.Need-shared-slice-read-close-name
 shared-slice-read-close-name c = search needs
 
 close-name-requires : tie.Need-close-name-requires
-close-name-requires c κs = c .before .before .before .before .before .before .before .pre .0 .small _ (omega arith)
+close-name-requires c κs = c .before .before .before .before .before .before .before .before .pre .0 .small _ (omega arith)
 
 add-after : tie.Need-add-after
 add-after c = search needs
@@ -61,22 +61,24 @@ element-copy-out-after c = search needs
 
 returns-2 : tie.Need-returns-2
 returns-2 c =
-    let k = c .before .before .before .before .before .before .before in
+    let named = c .before .before .before .before .before .before in
+    let k = named .before .before in
     let s = k .before .before in
     let a = s .args in
     let j = s .pre .1 .1 (a .p) (omega arith) (rw tokens-length (s .pre .1 .0)) in
     let here : a .p < length (a .tokens .now) = omega (arith, k .if1 .left) in
-    rw (add-one (a .p), j, add-one)
+    rw (named .name-of .ensures, add-one (a .p), j, add-one)
     (stands-closed (a .tokens .now) (a .masks .now) (a .p) here (c .before .close-name .result) (rw j at (c .before .before .before .if2 .taken)) (rw j at (c .before .close-name .ensures)))
 
 returns-3 : tie.Need-returns-3
 returns-3 c =
-    let k = c .before .before .before .before in
+    let named = c .before .before .before in
+    let k = named .before .before in
     let s = k .before .before in
     let a = s .args in
     let j = s .pre .1 .1 (a .p) (omega arith) (rw tokens-length (s .pre .1 .0)) in
     let here : a .p < length (a .tokens .now) = omega (arith, k .if1 .left) in
-    rw (add-one (a .p)) (stands-open (a .tokens .now) (a .masks .now) (a .p) here (record { 0 = 0 }) (rw j at (c .if2 .left)))
+    rw (named .name-of .ensures, add-one (a .p)) (stands-open (a .tokens .now) (a .masks .now) (a .p) here (record { 0 = 0 }) (rw j at (c .if2 .left)))
 
 pub context-at-spec : {M : Type 1} → statement M
 context-at-spec =
@@ -86,7 +88,7 @@ context-at-spec =
     returns
     mul-t
     shared-slice-read-t
-    cast-name
+    name-of-requires
     add-inside
     mul-inside
     element-copy-out-inside

@@ -5,33 +5,26 @@ use Rattle.numbers.specs.believed.Field.{countAt}
 use Rattle.numbers.proofs.count_at.Statement.{statement}
 use Rattle.numbers.proofs.count_at.Tie as tie
 
--- src/lib.rt:277:32
 add-field-at : tie.Need-add-field-at
 add-field-at c = search needs
 
--- src/lib.rt:277:9
 field-at-requires : tie.Need-field-at-requires
 field-at-requires c κs = search needs
 
--- src/lib.rt:278:26
 enum-known-read : tie.Need-enum-known-read
 enum-known-read c = search needs
 
--- src/lib.rt:279:9
 enum-told : tie.Need-enum-told
 enum-told c = search needs
 
--- src/lib.rt:279:9
 returns : tie.Need-returns
 unfolding countAt
 returns c = simp (← (c .before .before .field-at .ensures), c .enum-told .given .1)
 
--- src/lib.rt:282:9
 returns-2 : tie.Need-returns-2
 unfolding countAt
 returns-2 c = simp (← (c .before .before .before .before .field-at .ensures), c .before .before .read .given .1, eq-eqb _ _ (c .if1 .taken))
 
--- src/lib.rt:273:1
 returns-3 : tie.Need-returns-3
 unfolding countAt
 returns-3 c = simp (← (c .before .before .before .before .field-at .ensures), c .before .before .read .given .1, ne-eqb _ _ (c .if1 .left))

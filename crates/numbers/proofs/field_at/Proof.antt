@@ -5,41 +5,33 @@ use Rattle.numbers.specs.believed.Field.{fieldAt}
 use Rattle.numbers.proofs.field_at.Statement.{statement}
 use Rattle.numbers.proofs.field_at.Tie as tie
 
--- src/lib.rt:81:9
 number-at-requires : tie.Need-number-at-requires
 number-at-requires c κs = search needs
 
--- src/lib.rt:82:28
 enum-known-read : tie.Need-enum-known-read
 enum-known-read c = search needs
 
--- src/lib.rt:83:35
 enum-told : tie.Need-enum-told
 enum-told c = search needs
 
--- src/lib.rt:83:35
 number-refusal-requires : tie.Need-number-refusal-requires
 number-refusal-requires c κs = search needs
 
--- src/lib.rt:83:9
 returns : tie.Need-returns
 unfolding fieldAt
 returns c =
     let d = c .before .before .before in
     simp (c .number-refusal .ensures, ← (d .number-at .ensures), c .before .enum-told .given .1)
 
--- src/lib.rt:86:26
-cast-t11 : tie.Need-cast-t11
-cast-t11 c = search needs
+narrow-requires : tie.Need-narrow-requires
+narrow-requires c κs = search needs
 
--- src/lib.rt:78:1
 returns-2 : tie.Need-returns-2
 unfolding fieldAt
 returns-2 c =
-    let d = c .before .before .before .before in
-    simp (← (d .number-at .ensures), c .before .before .read .given .1, lt-ltb _ _ (c .if1 .taken))
+    let d = c .before .before .before .before .before in
+    simp (c .narrow .ensures, ← (d .number-at .ensures), c .before .before .before .read .given .1, lt-ltb _ _ (c .before .if1 .taken))
 
--- src/lib.rt:78:1
 returns-3 : tie.Need-returns-3
 unfolding fieldAt
 returns-3 c =
@@ -55,6 +47,6 @@ field-at-spec =
     enum-told
     number-refusal-requires
     returns
-    cast-t11
+    narrow-requires
     returns-2
     returns-3)

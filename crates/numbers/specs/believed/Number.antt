@@ -1,6 +1,6 @@
--- What reading a number at a place of a file finds (document 01, "The two files", and refusals 1 and 2).
+-- What reading a number at a place of a file finds (document 01, "The two files", and refusals 1 and 2; document 02, 2.4).
 -- Clauses: 5.1, 5.2 (docs/SPECIFICATION.md)
-use Prim.Native.Nat.{ℕ, _+_, _-_, _*_}
+use Prim.Native.Nat.{ℕ, zero, suc, _+_, _-_, _*_}
 use mathlib.Core.List.{List}
 use mathlib.Core.Bool.{Bool, cond}
 use lib.ListN.{length, getD}
@@ -8,20 +8,26 @@ use lib.Dec.{ltb, eqb}
 use Rattle.numbers.specs.declared.NumberRead.{NumberRead}
 use Rattle.numbers.specs.declared.NumberRead.the-variants.{Number, Refused}
 
--- "groups of seven bits, lowest group first"; 2: "a two-byte number whose second byte is 0 or has its top bit set"
-abbrev pub twoBytes : ℕ → ℕ → ℕ → NumberRead
-twoBytes low high next =
-    cond (eqb high 0) (Refused 2)
-    (cond (ltb high 128) (Number (low - 128 + high * 128) next) (Refused 2))
+-- "groups of seven bits, lowest group first": a group, and the number that the bytes behind it make. 2: "a last byte of 0 after another
+-- byte": only then is that number 0
+abbrev pub withGroup : ℕ → NumberRead → NumberRead
+withGroup low (Number high next) = cond (eqb high 0) (Refused 2) (Number (low + high * 128) next)
+withGroup low (Refused e) = Refused e
 
--- "each byte but the last has its top bit (128) set", "two bytes at most"; 1: "the bytes end inside a number or before one that is due"
-unfoldable pub numberAt : List ℕ → ℕ → NumberRead
-numberAt s at =
+-- a number of so many bytes at most: "each byte but the last has its top bit (128) set". 2: the last byte that is allowed has "its top
+-- bit set"; 1: "the bytes end inside a number or before one that is due"
+unfoldable pub numberWithin : ℕ → List ℕ → ℕ → NumberRead
+numberWithin zero s at = Refused 2
+numberWithin (suc most) s at =
     cond (ltb at (length s))
     (cond (ltb (getD s at 0) 128)
     (Number (getD s at 0) (at + 1))
-    (cond (ltb (at + 1) (length s)) (twoBytes (getD s at 0) (getD s (at + 1) 0) (at + 1 + 1)) (Refused 1)))
+    (withGroup (getD s at 0 - 128) (numberWithin most s (at + 1))))
     (Refused 1)
+
+-- document 02, 2.4: "Numbers may now take three bytes"
+unfoldable pub numberAt : List ℕ → ℕ → NumberRead
+numberAt s at = numberWithin 3 s at
 
 -- what a file is read from: the number at a place, and whether anything follows
 pub record Source : Type 0 where

@@ -6,8 +6,8 @@ use Rattle.rule_index.proofs.class_at.Tie as tie
 enum-known-token : tie.Need-enum-known-token
 enum-known-token c = search needs
 
-number-requires : tie.Need-number-requires
-number-requires c κs = search needs
+spread-of-requires : tie.Need-spread-of-requires
+spread-of-requires c κs = search needs
 
 mul-result : tie.Need-mul-result
 mul-result c = search needs
@@ -15,8 +15,8 @@ mul-result c = search needs
 enum-known-token-2 : tie.Need-enum-known-token-2
 enum-known-token-2 c = search needs
 
-number-requires-2 : tie.Need-number-requires-2
-number-requires-2 c κs = search needs
+spread-of-requires-2 : tie.Need-spread-of-requires-2
+spread-of-requires-2 c κs = search needs
 
 mul-result-2 : tie.Need-mul-result-2
 mul-result-2 c = search needs
@@ -28,10 +28,10 @@ enum-told : tie.Need-enum-told
 enum-told c = search needs
 
 returns : tie.Need-returns
-returns c = simp (c .number .ensures, c .before .before .token .given .1)
+returns c = simp (c .spread-of .ensures .0, c .before .before .token .given .1)
 
 returns-2 : tie.Need-returns-2
-returns-2 c = simp (c .number2 .ensures, c .before .before .token2 .given .1)
+returns-2 c = simp (c .spread-of2 .ensures .0, c .before .before .token2 .given .1)
 
 returns-3 : tie.Need-returns-3
 returns-3 c = search needs
@@ -41,10 +41,10 @@ class-at-spec =
     tie.close
     (tie.spec
     enum-known-token
-    number-requires
+    spread-of-requires
     mul-result
     enum-known-token-2
-    number-requires-2
+    spread-of-requires-2
     mul-result-2
     add-result
     enum-told

@@ -18,8 +18,8 @@ add-result c = search needs
 enum-known-rule-2 : tie.Need-enum-known-rule-2
 enum-known-rule-2 c = search needs
 
-number-requires-2 : tie.Need-number-requires-2
-number-requires-2 c κs = search needs
+spread-of-requires : tie.Need-spread-of-requires
+spread-of-requires c κs = search needs
 
 mul-result-2 : tie.Need-mul-result-2
 mul-result-2 c = search needs
@@ -27,8 +27,8 @@ mul-result-2 c = search needs
 enum-known-rule-3 : tie.Need-enum-known-rule-3
 enum-known-rule-3 c = search needs
 
-number-requires-3 : tie.Need-number-requires-3
-number-requires-3 c κs = search needs
+spread-of-requires-2 : tie.Need-spread-of-requires-2
+spread-of-requires-2 c κs = search needs
 
 mul-result-3 : tie.Need-mul-result-3
 mul-result-3 c = search needs
@@ -40,10 +40,10 @@ returns : tie.Need-returns
 returns c = simp (c .number .ensures, c .before .before .rule .given .1)
 
 returns-2 : tie.Need-returns-2
-returns-2 c = simp (c .number2 .ensures, c .before .before .rule2 .given .1)
+returns-2 c = simp (c .spread-of .ensures .0, c .before .before .rule2 .given .1)
 
 returns-3 : tie.Need-returns-3
-returns-3 c = simp (c .number3 .ensures, c .before .before .rule3 .given .1)
+returns-3 c = simp (c .spread-of2 .ensures .0, c .before .before .rule3 .given .1)
 
 pub class-of-spec : {M : Type 1} → statement M
 class-of-spec =
@@ -54,10 +54,10 @@ class-of-spec =
     mul-result
     add-result
     enum-known-rule-2
-    number-requires-2
+    spread-of-requires
     mul-result-2
     enum-known-rule-3
-    number-requires-3
+    spread-of-requires-2
     mul-result-3
     add-result-2
     returns

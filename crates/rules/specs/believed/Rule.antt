@@ -14,9 +14,9 @@ use Rattle.rules.specs.declared.PairRead.the-variants.{Pair, Refused as 
 use Rattle.rules.specs.declared.RuleRead.{RuleRead}
 use Rattle.rules.specs.declared.RuleRead.the-variants.{Read, Refused as RuleRefused}
 
--- 7: "a name above 63"
+-- 7: "names above 65,535" (document 02, 2.4)
 abbrev pub names : ℕ
-names = 64
+names = 65536
 
 -- 5: "form above 2"
 abbrev pub forms : ℕ

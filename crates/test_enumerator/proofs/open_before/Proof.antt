@@ -16,8 +16,8 @@ loop-holds c = search needs
 sub-i : tie.Need-sub-i Inv-loop μ-loop
 sub-i c = search needs
 
-at-requires : tie.Need-at-requires Inv-loop μ-loop
-at-requires c κs = search needs
+number-at-requires : tie.Need-number-at-requires Inv-loop μ-loop
+number-at-requires c κs = search needs
 
 sought-requires : tie.Need-sought-requires Inv-loop μ-loop
 sought-requires c κs = search needs
@@ -42,7 +42,7 @@ open-before-spec =
     μ-loop
     loop-holds
     sub-i
-    at-requires
+    number-at-requires
     sought-requires
     loop-less
     loop-again

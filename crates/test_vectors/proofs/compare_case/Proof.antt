@@ -9,8 +9,8 @@ use Rattle.test_vectors.proofs.compare_case.Tie as tie
 token-count-requires : tie.Need-token-count-requires
 token-count-requires c κs = search needs
 
-rule-bytes-requires : tie.Need-rule-bytes-requires
-rule-bytes-requires c κs = search needs
+rule-numbers-requires : tie.Need-rule-numbers-requires
+rule-numbers-requires c κs = search needs
 
 rules-of-requires : tie.Need-rules-of-requires
 rules-of-requires c κs = search needs
@@ -44,7 +44,7 @@ compare-case-spec =
     tie.close
     (tie.spec
     token-count-requires
-    rule-bytes-requires
+    rule-numbers-requires
     rules-of-requires
     tokens-of-requires
     array-share-prefix-rules

@@ -14,13 +14,13 @@ encode-requires c κs = search needs
 array-share-prefix-file : tie.Need-array-share-prefix-file
 array-share-prefix-file c =
     let e = c .encode .ensures in
-    encoded-room (c .before .before .before .before .args .numbers .now) (replicate 2052 0) _ _ (e .0) (e .1)
+    encoded-room (c .before .before .before .before .args .numbers .now) (replicate 3078 0) _ _ (e .0) (e .1)
 
 slice-aggregate-fill-grammar : tie.Need-slice-aggregate-fill-grammar
 slice-aggregate-fill-grammar c =
     let d = c .before in
     let e = d .encode .ensures in
-    sym (length-take-le _ _ (encoded-room (d .before .before .before .before .args .numbers .now) (replicate 2052 0) _ _ (e .0) (e .1)))
+    sym (length-take-le _ _ (encoded-room (d .before .before .before .before .args .numbers .now) (replicate 3078 0) _ _ (e .0) (e .1)))
 
 fill-grammar-requires : tie.Need-fill-grammar-requires
 fill-grammar-requires c κs = search needs
@@ -33,7 +33,7 @@ returns c =
     let d = c .before .before .before .before .before in
     let a = d .before .before .before .before .args in
     let e = d .encode .ensures in
-    let part = encoded-part (a .numbers .now) (replicate 2052 0) _ _ (e .0) (e .1) in
+    let part = encoded-part (a .numbers .now) (replicate 3078 0) _ _ (e .0) (e .1) in
     c .before .before .fill-grammar .ensures ∙ rw (part, grammar-encoded (a .numbers .now))
 
 pub write-grammar-spec : {M : Type 1} → statement M

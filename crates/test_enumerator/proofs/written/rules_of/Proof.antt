@@ -1,13 +1,13 @@
--- `test_enumerator::written::rules_of` is safe and ends: a rule takes six bytes at most, here and in the file.
+-- `test_enumerator::written::rules_of` is safe and ends: a rule takes six numbers here, and eighteen bytes at most in the file.
 use borrow.Author.Needs.{needs}
-use Prim.Native.Nat.{_+_, _-_, _≤_}
+use Prim.Native.Nat.{_+_, _*_, _-_, _≤_}
 use mathlib.Core.Path.{_≡_}
 use lib.ListN.{length}
 use Rattle.test_enumerator.proofs.written.rules_of.Statement.{statement}
 use Rattle.test_enumerator.proofs.written.rules_of.Tie as tie
 
 abbrev Inv-loop : tie.InvT-loop
-Inv-loop file rules₀ size p₀ to₀ rules p to = (to ≤ size + 5) × (p ≤ 4 + to) × (length rules ≡ 769)
+Inv-loop file rules₀ size p₀ to₀ rules p to = (to ≤ size + 5) × (p ≤ 3 + 3 * to) × (length rules ≡ 769)
 
 abbrev μ-loop : tie.MeasureT-loop
 μ-loop file rules₀ size p₀ to₀ rules p to = (size + 6) - to
@@ -15,11 +15,14 @@ abbrev μ-loop : tie.MeasureT-loop
 start-of-requires : tie.Need-start-of-requires Inv-loop μ-loop
 start-of-requires c κs = search needs
 
+cast-rules : tie.Need-cast-rules Inv-loop μ-loop
+cast-rules c = search needs
+
 array-write-rules : tie.Need-array-write-rules Inv-loop μ-loop
 array-write-rules c = search needs
 
-rule-bytes-requires : tie.Need-rule-bytes-requires Inv-loop μ-loop
-rule-bytes-requires c κs = search needs
+rule-numbers-requires : tie.Need-rule-numbers-requires Inv-loop μ-loop
+rule-numbers-requires c κs = search needs
 
 count-place-requires : tie.Need-count-place-requires Inv-loop μ-loop
 count-place-requires c κs = search needs
@@ -55,8 +58,9 @@ rules-of-spec =
     Inv-loop
     μ-loop
     start-of-requires
+    cast-rules
     array-write-rules
-    rule-bytes-requires
+    rule-numbers-requires
     count-place-requires
     behind-requires
     loop-holds

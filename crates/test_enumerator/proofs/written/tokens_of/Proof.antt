@@ -1,4 +1,4 @@
--- `test_enumerator::written::tokens_of` is safe and ends: a number takes two bytes at most.
+-- `test_enumerator::written::tokens_of` is safe and ends: a number takes three bytes at most.
 use borrow.Author.Needs.{needs}
 use Prim.Native.Nat.{_+_, _*_, _-_, _≤_}
 use mathlib.Core.Path.{_≡_}
@@ -7,7 +7,7 @@ use Rattle.test_enumerator.proofs.written.tokens_of.Statement.{statemen
 use Rattle.test_enumerator.proofs.written.tokens_of.Tie as tie
 
 abbrev Inv-loop : tie.InvT-loop
-Inv-loop file tokens₀ n p₀ k₀ tokens p k = (k ≤ n) × (p ≤ 2 + 2 * k) × (length tokens ≡ 1024)
+Inv-loop file tokens₀ n p₀ k₀ tokens p k = (k ≤ n) × (p ≤ 3 + 3 * k) × (length tokens ≡ 1024)
 
 abbrev μ-loop : tie.MeasureT-loop
 μ-loop file tokens₀ n p₀ k₀ tokens p k = n - k
@@ -26,6 +26,9 @@ number-requires c κs = search needs
 
 cast-tokens : tie.Need-cast-tokens Inv-loop μ-loop
 cast-tokens c = search needs
+
+mul-tokens : tie.Need-mul-tokens Inv-loop μ-loop
+mul-tokens c = search needs
 
 array-write-tokens : tie.Need-array-write-tokens Inv-loop μ-loop
 array-write-tokens c = search needs
@@ -56,6 +59,7 @@ tokens-of-spec =
     loop-holds
     number-requires
     cast-tokens
+    mul-tokens
     array-write-tokens
     behind-requires-2
     add-k
