@@ -1,6 +1,6 @@
 /* Checks what gaffmedlar.h does by itself: NULL for what has length 0, the words of the answers, the part of a file as a
  * struct, on the examples of one step's bytes, and the reply of a writer, on the examples of written files. Then the services
- * on grammars that say their start, and on names of up to three bytes.
+ * on grammars that say their start, and on names of up to three bytes; and the choices on examples.
  *
  * Build, in the repository's root:
  *     tools/build library
@@ -213,7 +213,7 @@ struct start_due {
     size_t grammar_len;
     int first_answer, next_answer;
     uint8_t first[4], next[4], marks[4];
-    uint32_t words[4], doubtful;
+    uint32_t words[4], choices;
 };
 
 static void due_start(const struct start_due *is)
@@ -222,13 +222,13 @@ static void due_start(const struct start_due *is)
     uint8_t first[4] = {9, 9, 9, 9}, next[4], listed[4] = {9, 9, 9, 9}, marks[4] = {9, 9, 9, 9}, answers[2] = {9, 9};
     uint32_t words[16] = {9};
     struct gaffmedlar_grammar counts = gaffmedlar_grammar_check(is->grammar, is->grammar_len);
-    struct gaffmedlar_count doubtful = gaffmedlar_doubtful_count(is->grammar, is->grammar_len, history, sizeof history);
+    struct gaffmedlar_count choices = gaffmedlar_choice_count(is->grammar, is->grammar_len, history, sizeof history);
 
     due(is->what, counts.answer, GAFFMEDLAR_OK);
     due_count(is->what, counts.stages, 3);
     due_count(is->what, counts.rules, 7);
-    due(is->what, doubtful.answer, GAFFMEDLAR_OK);
-    due_count(is->what, doubtful.count, is->doubtful);
+    due(is->what, choices.answer, GAFFMEDLAR_OK);
+    due_count(is->what, choices.count, is->choices);
     due(is->what, gaffmedlar_first_reading(is->grammar, is->grammar_len, history, sizeof history, first, 4), is->first_answer);
     memcpy(next, first, sizeof next);
     due(is->what, gaffmedlar_next_reading(is->grammar, is->grammar_len, history, sizeof history, next, 4), is->next_answer);
@@ -249,7 +249,7 @@ static void due_start(const struct start_due *is)
 }
 
 /* What G gives, and what a grammar without a reading gives. */
-#define AS_G GAFFMEDLAR_OK, GAFFMEDLAR_OK, {1, 3, 4, 0}, {2, 5, 6, 0}, {1, 0, 0, 1}, {6, 40, 80, 1}, 3
+#define AS_G GAFFMEDLAR_OK, GAFFMEDLAR_OK, {1, 3, 4, 0}, {2, 5, 6, 0}, {1, 0, 0, 1}, {6, 40, 80, 1}, 1
 #define NONE                                                                                                           \
     GAFFMEDLAR_NO_READING, GAFFMEDLAR_REFUSED_NOT_A_READING, {9, 9, 9, 9}, {9, 9, 9, 9}, {1, 0, 0, 0}, {0, 0, 0, 0}, 0
 
@@ -335,7 +335,7 @@ static void due_rule(const char *what, const uint8_t *grammar, size_t grammar_le
     }
     due(what, gaffmedlar_sets(grammar, grammar_len, history, history_len, words, 12), GAFFMEDLAR_OK);
     due_count(what, words[0], rule == 0 ? 0 : 1u << rule);
-    due_count(what, gaffmedlar_doubtful_count(grammar, grammar_len, history, history_len).count, 0);
+    due_count(what, gaffmedlar_choice_count(grammar, grammar_len, history, history_len).count, 0);
     due(what, gaffmedlar_stop_marks(grammar, grammar_len, history, history_len, marks, 3), GAFFMEDLAR_OK);
     due_count(what, marks[n], rule != 0);
 }
@@ -374,6 +374,48 @@ static void wide_names(void)
     DUE_RULE("close 16,383", closes, close_16383, 0);
 }
 
+/* What is due for two files that pass: so many choices, and a second reading exactly where there is one. */
+static void due_choices(const char *what, const uint8_t *grammar, size_t grammar_len, const uint8_t *history,
+                        size_t history_len, uint32_t choices)
+{
+    uint8_t reading[5];
+    struct gaffmedlar_count counted = gaffmedlar_choice_count(grammar, grammar_len, history, history_len);
+    int several =
+        gaffmedlar_first_reading(grammar, grammar_len, history, history_len, reading, sizeof reading) == GAFFMEDLAR_OK &&
+        gaffmedlar_next_reading(grammar, grammar_len, history, history_len, reading, sizeof reading) == GAFFMEDLAR_OK;
+
+    due(what, counted.answer, GAFFMEDLAR_OK);
+    due_count(what, counted.count, choices);
+    due_count(what, several, choices > 0);
+}
+
+#define DUE_CHOICES(what, grammar, history, choices)                                                                   \
+    due_choices(what, grammar, sizeof grammar, history, sizeof history, choices)
+
+/* Two rules of one stage alone are a choice. In the sets stand: by `echo` the rules 0 and 1 of stage 0, then 2 of stage 1 and 3 of
+ * stage 2; by `within` 0 and 1 of stage 0, then 2 and 3 of stage 1 and 5 of stage 2, then 4 of stage 1 and 6 of stage 3; by
+ * `between` 0 and 1 of stage 0, then 2 and 4 of stage 1 with 3 of stage 2 between them, then 5 of stage 3 and 6 of stage 1; by
+ * `three` 0, 1 and 2 of stage 0, then one each of three stages. */
+static void choices(void)
+{
+    static const uint8_t g[] = {3, 7, RULES_OF_G}, echo[] = {3, 4, 1, 0, 0, 1, 1, 0, 0, 2, 0, 1, 0, 2},
+                         within[] = {4, 8, 2, 0, 0, 1, 0, 3, 2, 0, 0, 2, 0, 3, 1, 1, 0, 3, 1, 1,
+                                     0, 1, 0, 1, 1, 2, 0, 3, 0, 3, 0, 2},
+                         between[] = {4, 7, 1, 0, 0, 1, 1, 0, 0, 2, 1, 1, 0, 3, 1, 2, 0, 3, 1, 1, 0, 1, 0, 3, 0, 1},
+                         three[] = {4, 6, 1, 0, 0, 1, 1, 0, 0, 2, 1, 0, 0, 3, 0, 1, 0, 2, 0, 3};
+    static const uint8_t no_token[] = {0}, mark[] = {1, 0}, two_marks[] = {2, 0, 0}, step[] = {3, 1, 0, 2},
+                         two_steps[] = {4, 1, 2, 1, 2};
+
+    DUE_CHOICES("G, no token", g, no_token, 0);
+    DUE_CHOICES("G, no reading", g, mark, 0);
+    DUE_CHOICES("G, a step", g, step, 1);
+    DUE_CHOICES("G, two steps", g, two_steps, 2);
+    DUE_CHOICES("an echo", echo, mark, 1);
+    DUE_CHOICES("a choice within a step", within, step, 2);
+    DUE_CHOICES("another stage's rule between", between, two_marks, 2);
+    DUE_CHOICES("three rules of one stage", three, mark, 1);
+}
+
 /* NULL for what has length 0. */
 static void without_pointers(void)
 {
@@ -383,7 +425,7 @@ static void without_pointers(void)
 
     due("no grammar", gaffmedlar_grammar_check(NULL, 0).answer, GAFFMEDLAR_REFUSED_BYTES_END);
     due("no history", gaffmedlar_history_check(NULL, 0).answer, GAFFMEDLAR_REFUSED_BYTES_END);
-    due("count", gaffmedlar_doubtful_count(grammar, sizeof grammar, NULL, 0).answer, GAFFMEDLAR_REFUSED_BYTES_END);
+    due("count", gaffmedlar_choice_count(grammar, sizeof grammar, NULL, 0).answer, GAFFMEDLAR_REFUSED_BYTES_END);
     due("first reading", gaffmedlar_first_reading(grammar, sizeof grammar, history, sizeof history, NULL, 0),
         GAFFMEDLAR_REFUSED_BUFFER_SHORT);
     due("next reading", gaffmedlar_next_reading(grammar, sizeof grammar, history, sizeof history, NULL, 0),
@@ -420,6 +462,7 @@ int main(void)
     refused_numbers();
     wide_limits();
     wide_names();
+    choices();
 
     int said = 0;
     for (int answer = 0; answer < 256; answer++)

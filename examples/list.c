@@ -45,9 +45,9 @@ static enum status list_readings(const struct file *grammar, const struct file *
         printf("none\n");
         return NONE;
     }
-    struct gaffmedlar_count doubtful =
-        gaffmedlar_doubtful_count(grammar->bytes, grammar->length, history->bytes, history->length);
-    printf("doubtful %u\n", (unsigned)doubtful.count);
+    struct gaffmedlar_count choices =
+        gaffmedlar_choice_count(grammar->bytes, grammar->length, history->bytes, history->length);
+    printf("choices %u\n", (unsigned)choices.count);
 
     int printed = 0;
     while (answer == GAFFMEDLAR_OK && printed < MOST) {

@@ -53,7 +53,7 @@ static void sets(void)
 {
     gaffmedlar_sets(grammar, grammar_len, history, history_len, words, GAFFMEDLAR_WORDS_MAX);
 }
-static void doubtful(void) { gaffmedlar_doubtful_count(grammar, grammar_len, history, history_len); }
+static void choices(void) { gaffmedlar_choice_count(grammar, grammar_len, history, history_len); }
 static void stop_marks(void)
 {
     gaffmedlar_stop_marks(grammar, grammar_len, history, history_len, marks, sizeof marks);
@@ -177,7 +177,7 @@ int main(void)
     } all[] = {{"gaffmedlar_grammar_check", grammar_check, 8}, {"gaffmedlar_history_check", history_check, 8},
                {"gaffmedlar_first_reading", first, 32},        {"gaffmedlar_next_reading", next, 40},
                {"gaffmedlar_run_calls", run_calls, 48},        {"gaffmedlar_sets", sets, 32},
-               {"gaffmedlar_doubtful_count", doubtful, 32},    {"gaffmedlar_stop_marks", stop_marks, 28},
+               {"gaffmedlar_choice_count", choices, 32},       {"gaffmedlar_stop_marks", stop_marks, 28},
                {"gaffmedlar_step_bytes", step_bytes, 8},       {"gaffmedlar_step_refusal", step_refusal, 8},
                {"gaffmedlar_write_grammar", write_grammar, 8}, {"gaffmedlar_write_history", write_history, 12}};
     int faults = 0;

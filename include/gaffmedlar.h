@@ -181,10 +181,13 @@ uint8_t gaffmedlar_run_calls(const uint8_t *grammar, size_t grammar_len, const u
 uint8_t gaffmedlar_sets(const uint8_t *grammar, size_t grammar_len, const uint8_t *history, size_t history_len,
                         uint32_t *words, size_t words_len);
 
-/* Counts the doubtful positions: those with more than one rule in their set. Answers 0 with the count (0 where there is
- * no reading), or 1 to 14. Writes nothing. Stack: 32 KiB. */
-struct gaffmedlar_count gaffmedlar_doubtful_count(const uint8_t *grammar, size_t grammar_len, const uint8_t *history,
-                                                  size_t history_len);
+/* Counts the choices. A position is a choice when its set holds two rules of one and the same stage (the L of both): a
+ * reading that has come to this stage there can go on by either. Where readings have different rules at a position only
+ * because each has come to a stage of its own, that is no choice: they differed before. The history has more than one
+ * reading exactly when the count isn't 0.
+ * Answers 0 with the count (0 where there is no reading), or 1 to 14. Writes nothing. Stack: 32 KiB. */
+struct gaffmedlar_count gaffmedlar_choice_count(const uint8_t *grammar, size_t grammar_len, const uint8_t *history,
+                                                size_t history_len);
 
 /* Gives the stop marks: marks[i] is 1 where the first i tokens alone have a reading, else 0.
  * Answers 0 (written), 1 to 14, or 15 (marks_len below n + 1).
@@ -345,11 +348,11 @@ static inline uint8_t gaffmedlar_sets_(const uint8_t *grammar, size_t grammar_le
                            gaffmedlar_word_buffer_(words, words_len), words_len);
 }
 
-static inline struct gaffmedlar_count gaffmedlar_doubtful_count_(const uint8_t *grammar, size_t grammar_len,
-                                                                 const uint8_t *history, size_t history_len)
+static inline struct gaffmedlar_count gaffmedlar_choice_count_(const uint8_t *grammar, size_t grammar_len,
+                                                               const uint8_t *history, size_t history_len)
 {
-    return gaffmedlar_doubtful_count(gaffmedlar_read_(grammar, grammar_len), grammar_len,
-                                     gaffmedlar_read_(history, history_len), history_len);
+    return gaffmedlar_choice_count(gaffmedlar_read_(grammar, grammar_len), grammar_len,
+                                   gaffmedlar_read_(history, history_len), history_len);
 }
 
 static inline uint8_t gaffmedlar_stop_marks_(const uint8_t *grammar, size_t grammar_len, const uint8_t *history,
@@ -391,7 +394,7 @@ static inline struct gaffmedlar_written gaffmedlar_write_history_(const uint32_t
 #define gaffmedlar_next_reading gaffmedlar_next_reading_
 #define gaffmedlar_run_calls gaffmedlar_run_calls_
 #define gaffmedlar_sets gaffmedlar_sets_
-#define gaffmedlar_doubtful_count gaffmedlar_doubtful_count_
+#define gaffmedlar_choice_count gaffmedlar_choice_count_
 #define gaffmedlar_stop_marks gaffmedlar_stop_marks_
 #define gaffmedlar_step_bytes gaffmedlar_step_bytes_
 #define gaffmedlar_step_refusal gaffmedlar_step_refusal_

@@ -104,6 +104,10 @@ class FrameWords:
         return "  " * min(self.depth[position], 6) + token + partner + (": " + comment if comment else "")
 
     # ---- rules
+    def stage(self, rule):
+        """The stage that the rule is of: the one on its left."""
+        return self.grammar.rules[rule][1]
+
     def rule_comment(self, rule):
         """What grammar.txt says of the rule, without its number in front."""
         notes = self.grammar_text.notes

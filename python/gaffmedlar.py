@@ -16,6 +16,9 @@ and they run side by side, since the interpreter's lock is released during a cal
 A history of n tokens has positions 0 to n. A reading has one rule number for each of them, so it is n + 1 bytes. A call
 that answers a refusal, "none" or "no further" writes nothing.
 
+The set of a position is the rules that stand there in some reading. A position is a choice where two rules of its set are
+of one and the same stage. A history has more than one reading exactly when it has a choice.
+
 The library is the file that the environment variable GAFFMEDLAR_LIBRARY names; otherwise it is looked for beside the
 installed module, and in the repository's target/shared.
 """
@@ -32,7 +35,7 @@ __version__ = "0.1.0"
 
 __all__ = [
     "Call", "CallAnswer", "First", "GRAMMAR_BYTES_MAX", "GrammarCounts", "HISTORY_BYTES_MAX", "Next", "READING_MAX",
-    "REFUSALS", "Refusal", "RefusalRow", "Sets", "WORDS_MAX", "doubtful_count", "first_reading", "grammar_check",
+    "REFUSALS", "Refusal", "RefusalRow", "Sets", "WORDS_MAX", "choice_count", "first_reading", "grammar_check",
     "history_check", "next_reading", "numbers", "readings", "run_calls", "sets", "sets_into", "step_bytes", "step_range",
     "stop_marks", "write_grammar", "write_grammar_into", "write_history", "write_history_into",
 ]
@@ -167,7 +170,7 @@ _SERVICES = {
     "next_reading": (ctypes.c_uint8, _READ + _READ + _LENT),
     "run_calls": (ctypes.c_uint8, _READ + _READ + _READ + _LENT + _LENT),
     "sets": (ctypes.c_uint8, _READ + _READ + _LENT),
-    "doubtful_count": (_CountReply, _READ + _READ),
+    "choice_count": (_CountReply, _READ + _READ),
     "stop_marks": (ctypes.c_uint8, _READ + _READ + _LENT),
     "step_bytes": (_PartReply, _READ + _POSITION),
     "step_refusal": (ctypes.c_uint8, _READ + _POSITION),
@@ -384,10 +387,15 @@ def sets_into(grammar: Any, history: Any, words: Any) -> None:
     _done(_call("sets", grammar, history, _lent_words(words)), grammar, history)
 
 
-def doubtful_count(grammar: Any, history: Any) -> int:
-    """How many positions have more than one rule in their set. Raises Refusal (1 to 14)."""
+def choice_count(grammar: Any, history: Any) -> int:
+    """How many positions are choices: two rules of their set are of one and the same stage. Raises Refusal (1 to 14).
+
+    A rule is of the stage on its left. At a choice the history leaves undecided which of the rules it was. Readings differ
+    at other positions too, but those have one rule for each stage: they follow from the choices before them, and are not
+    counted. The count is 0 exactly when there is one reading or none.
+    """
     grammar, history = _file(grammar), _file(history)
-    reply = _call("doubtful_count", grammar, history)
+    reply = _call("choice_count", grammar, history)
     _done(reply.answer, grammar, history)
     return reply.count
 

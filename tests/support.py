@@ -1,4 +1,6 @@
-"""What the tests in Python share: the library made, its module and the reader of tools/ at hand, and frames by fixed seeds."""
+"""What the tests in Python share: the library made, its module and the reader of tools/ at hand, frames by fixed seeds, and choices found
+from readings alone."""
+import itertools
 import os
 import random
 import shutil
@@ -28,18 +30,23 @@ WIDE_STEPS = bytes([1, 3, 0, 0, 2, 0, 192, 184, 2, 0, 255, 255, 3, 0, 2, 0, 192,
 # Grammar, history and listing of frames with wide names, by hand. Where there is none, a name is another than that of each rule: mark
 # 16,385 and 65,281, close 65,279, open 7,232 and 65,344.
 WIDE_FRAMES = [
-    (WIDE_MARKS, [1, 4], "tokens 1\ndoubtful 0\n1: 1 0\nend 1\n"),
-    (WIDE_MARKS, [1, 132, 8], "tokens 1\ndoubtful 0\n1: 2 0\nend 1\n"),
-    (WIDE_MARKS, [3, 132, 8, 4, 132, 8], "tokens 3\ndoubtful 0\n1: 2 1 2 0\nend 1\n"),
+    (WIDE_MARKS, [1, 4], "tokens 1\nchoices 0\n1: 1 0\nend 1\n"),
+    (WIDE_MARKS, [1, 132, 8], "tokens 1\nchoices 0\n1: 2 0\nend 1\n"),
+    (WIDE_MARKS, [3, 132, 8, 4, 132, 8], "tokens 3\nchoices 0\n1: 2 1 2 0\nend 1\n"),
     (WIDE_MARKS, [1, 132, 128, 4], "tokens 1\nnone\n"),
     (WIDE_MARKS, [1, 132, 248, 15], "tokens 1\nnone\n"),
-    (WIDE_STEPS, [2, 129, 226, 9, 254, 255, 15], "tokens 2\ndoubtful 0\n1: 1 0 0\nend 1\n"),
-    (WIDE_STEPS, [2, 129, 226, 9, 254, 255, 7], "tokens 2\ndoubtful 0\n1: 2 0 0\nend 1\n"),
+    (WIDE_STEPS, [2, 129, 226, 9, 254, 255, 15], "tokens 2\nchoices 0\n1: 1 0 0\nend 1\n"),
+    (WIDE_STEPS, [2, 129, 226, 9, 254, 255, 7], "tokens 2\nchoices 0\n1: 2 0 0\nend 1\n"),
     (WIDE_STEPS, [2, 129, 226, 9, 254, 247, 15], "tokens 2\nnone\n"),
     (WIDE_STEPS, [2, 129, 226, 1, 254, 255, 15], "tokens 2\nnone\n"),
     (WIDE_STEPS, [2, 129, 250, 15, 254, 255, 15], "tokens 2\nnone\n"),
-    (WIDE_STEPS, [4, 129, 226, 9, 129, 226, 9, 254, 255, 7, 254, 255, 15], "tokens 4\ndoubtful 0\n1: 1 2 0 0 0\nend 1\n"),
+    (WIDE_STEPS, [4, 129, 226, 9, 129, 226, 9, 254, 255, 7, 254, 255, 15], "tokens 4\nchoices 0\n1: 1 2 0 0 0\nend 1\n"),
 ]
+# A step of two kinds, of which the first goes on in two ways, so positions 0 and 1 are choices: grammar and history. The set of position 1
+# is {2, 3, 5}, where 2 and 3 are of stage 1 and 5 is of stage 2; position 2 follows.
+TWO_CHOICES = bytes([4, 8, 2, 0, 0, 1, 0, 3, 2, 0, 0, 2, 0, 3, 1, 1, 0, 3, 1, 1, 0, 1, 0, 1, 1, 2, 0, 3, 0, 3, 0, 2]), bytes([3, 1, 0, 2])
+# The same with rules 3 and 5 exchanged: between the two rules of stage 1 stands that of stage 2.
+APART = bytes([4, 8, 2, 0, 0, 1, 0, 3, 2, 0, 0, 2, 0, 3, 1, 1, 0, 3, 1, 2, 0, 3, 0, 1, 1, 1, 0, 1, 0, 3, 0, 2]), bytes([3, 1, 0, 2])
 # First numbers of a file at fault, whichever file it is, and the number of each.
 FAULTY_NUMBERS = [([128], 1), ([128, 128], 1), ([128, 0], 2), ([128, 128, 0], 2), ([128, 128, 128], 2), ([128, 128, 128, 1], 2), ([255, 255, 255], 2)]
 
@@ -120,6 +127,36 @@ def frame_with(*widths):
     return grammar_bytes(stages, rules), history_bytes([t for name in range(len(widths)) for t in (4 * name + 1, 4 * name + 2)])
 
 
+# ---- choices, from all readings of a frame
+def left_sides(grammar):
+    """The stage on the left of each rule of a grammar that passes, by a reader that shares no code with others."""
+    numbers, number, place = [], 0, 0
+    for byte in grammar:
+        number, place = number + (byte % 128 << place), place + 7
+        if byte < 128:
+            numbers.append(number)
+            number = place = 0
+    stages, at = [], 2 if numbers[0] else 4
+    while at < len(numbers):
+        stages.append(numbers[at + 1])
+        at += (2, 4, 6)[numbers[at]]
+    return stages
+
+
+def choice_positions(grammar, readings):
+    """The positions at which two rules of one stage stand, each in some reading."""
+    stages = left_sides(grammar)
+    sets = [set(rules) for rules in zip(*readings)]
+    return [position for position, rules in enumerate(sets) if any(stages[a] == stages[b] for a, b in itertools.combinations(rules, 2))]
+
+
+def first_differences(readings):
+    """The positions at which a reading first differs from the one before it, in the order of readings. These are the choices too: two
+    readings that are the same up to a position are at one stage there. No stage is looked at for it."""
+    pairs = zip(readings, readings[1:])
+    return sorted({next(position for position, (a, b) in enumerate(zip(*pair)) if a != b) for pair in pairs})
+
+
 class Listing:
     """What a listing says."""
 
@@ -128,7 +165,7 @@ class Listing:
         self.last = self.lines[-1]
         said = dict(line.split(" ", 1) for line in self.lines if ":" not in line and " " in line)
         self.refused = self.last if self.last.startswith("refused") else None
-        self.tokens, self.doubtful = (int(said.get(word, 0)) for word in ("tokens", "doubtful"))
+        self.tokens, self.choices = (int(said.get(word, 0)) for word in ("tokens", "choices"))
         self.readings = [tuple(map(int, line.partition(":")[2].split())) for line in self.lines if ":" in line]
         self.more = self.last == "more 1000"
 

@@ -12,6 +12,7 @@ import os
 import sys
 
 import judges
+from choice_frames import choice_frames
 from frames import CLOSE, EXCHANGED, G, MARK, OPEN, Refused, grammar_bytes, history_bytes, read_grammar, read_history
 from wide_names import chains, lost, masks
 
@@ -60,9 +61,15 @@ def readings(grammar, tokens):
             stack.append((to, moves(*to), [False]))
 
 
-def doubtful(every):
-    """How many positions have more than one rule in their set; `every` is all readings."""
-    return sum(len(set(column)) > 1 for column in zip(*every))
+def is_choice(rules, kept):
+    """Whether a set holds two rules of one stage."""
+    stages = [rules[r][1] for r in kept]
+    return len(set(stages)) < len(stages)
+
+
+def choices(rules, every):
+    """How many positions are a choice; `every` is all readings, so that the rules that stand at a position are its set."""
+    return sum(is_choice(rules, set(column)) for column in zip(*every))
 
 
 def listing(grammar, history):
@@ -79,13 +86,21 @@ def listing(grammar, history):
 
 def listing_of(read, tokens):
     """The listing of files that pass."""
-    out = ["tokens %d" % len(tokens)]
     every = list(itertools.islice(readings(read, tokens), 200000))
     if len(every) == 200000:
         sys.exit("make_listings: too many readings to count")
+    count = choices(read.rules, every)
+    if (count > 0) != (len(every) > 1):
+        sys.exit("make_listings: %d choices with %d readings" % (count, len(every)))
+    return listing_text(len(tokens), count, every)
+
+
+def listing_text(n, count, every):
+    """The lines of a listing: the number of tokens, the choices of all readings, and the first 1,000 of these."""
+    out = ["tokens %d" % n]
     if not every:
         return "\n".join(out + ["none"]) + "\n"
-    out.append("doubtful %d" % doubtful(every))
+    out.append("choices %d" % count)
     for k, reading in enumerate(every[:1000]):
         out.append("%d: %s" % (k + 1, " ".join(map(str, reading))))
     out.append("more 1000" if len(every) > 1000 else "end %d" % len(every))
@@ -212,6 +227,13 @@ def refusals():
     case(G, [128, 8] + MARK * 1024 + [0] * 4000)
 
 
+def counted_by_hand():
+    for what, grammar, tokens, every, count in choice_frames():
+        if listing_of(grammar, tokens) != listing_text(len(tokens), count, every):
+            sys.exit("make_listings: %s: another listing than by hand" % what)
+        case(grammar_bytes(*grammar), history_bytes(tokens))
+
+
 def many_readings():
     # each mark goes to either of two stages: twice as many readings with every further one, 2,048 with the last
     two = grammar_bytes(2, [[0, 0], [1, 0, 0, 0], [1, 0, 0, 1], [1, 1, 0, 0], [1, 1, 0, 1]])
@@ -262,7 +284,7 @@ def listing_held(grammar, history):
 
 
 if __name__ == "__main__":
-    for part in (samples, of_document_01, recorded_starts, wide_names, told_apart, renamed, refusals, many_readings):
+    for part in (samples, of_document_01, recorded_starts, wide_names, told_apart, renamed, refusals, many_readings, counted_by_hand):
         part()
     with open("crates/test_listings/data/cases.bin", "wb") as f:
         for g, h in CASES:

@@ -1,15 +1,17 @@
 #!/usr/bin/env python3
 """Writes crates/test_vectors/data/cases.bin and crates/test_vectors/stdout: cases for the services, and the line due for each.
 
-Run from the repository's root, when the cases change. The readings of document 01's examples, of those with a recorded start and of those
-with names above 63 are written out by hand; those of the others are found by the search of make_listings.py. No part of the library is run.
+Run from the repository's root, when the cases change. The readings of document 01's examples, of those with a recorded start, of those with
+names above 63 and of those for the count of choices are written out by hand; those of the others are found by the search of
+make_listings.py. No part of the library is run.
 """
 import itertools
 import random
 import sys
 
+from choice_frames import choice_frames
 from frames import CLOSE, EXCHANGED, G, MARK, OPEN, Refused, grammar_bytes, history_bytes, read_grammar, read_history
-from make_listings import doubtful, readings
+from make_listings import choices, readings
 from wide_names import PAIRS, chains, lost, masks
 
 SHOW, MARKS = 1, 2
@@ -53,8 +55,16 @@ def plain_listing(entries, size, buffer, calls):
     return out
 
 
-def passed(label, g, h, what=MARKS, limit=ALL, buffer=(), calls=(), due=None):
-    """due: the readings and the marks as they are written out by hand, or as another form of the grammar has them."""
+def count_due(label, rules, found, whole, by_hand):
+    """The choices that all readings have; where only some of them were found, as they are counted by hand."""
+    count = choices(rules, found) if whole else by_hand
+    if by_hand not in (None, count) or (count > 0) != (len(found) > 1):
+        sys.exit("make_vectors: %s: %s choices, by hand %s" % (label, count, by_hand))
+    return count
+
+
+def passed(label, g, h, what=MARKS, limit=ALL, buffer=(), calls=(), due=None, count=None):
+    """due: the readings and the marks as they are written out by hand, or as another form of the grammar has them; count: the choices by hand."""
     grammar, tokens = read_grammar(bytes(g)), read_history(bytes(h))
     size = len(tokens) + 1
     room = limit // size
@@ -63,7 +73,8 @@ def passed(label, g, h, what=MARKS, limit=ALL, buffer=(), calls=(), due=None):
     put(0, what, limit, label, g, h, buffer, calls)
     line = "%s: readings %d%s; list same; short buffers same; short answers same;" % (label, len(entries), "" if whole else " and more")
     line += " marks same;" if what & MARKS else ""
-    line += " sets same; doubtful count same; calls same;" if whole else ""
+    line += " choices %d; several readings same;" % count_due(label, grammar.rules, found, whole, count)
+    line += " choice count same; sets same; calls same;" if whole else ""
     DUE.append(line)
     if what & SHOW:
         marks = [int(any(True for _ in readings(grammar, tokens[:i]))) for i in range(size)]
@@ -74,28 +85,28 @@ def passed(label, g, h, what=MARKS, limit=ALL, buffer=(), calls=(), due=None):
         DUE.append("  answers" + "".join(" %d" % a for a in plain_listing(entries, size, buffer, calls)))
 
 
-def shown(name, g, h, entries, marks, buffer, calls):
+def shown(name, g, h, entries, marks, buffer, calls, count=None):
     label = name + ", " + words(h)
     if calls:
         label += "; %s on %s" % (" ".join("first next".split()[kind > 0] for kind in calls), words(buffer))
-    passed(label, g, h, SHOW | MARKS, ALL, buffer, calls, (entries, marks))
+    passed(label, g, h, SHOW | MARKS, ALL, buffer, calls, (entries, marks), count)
 
 
 def of_document_01():
-    # G, G with its start written out, and G with two stages exchanged have the same readings
+    # G, G with its start written out, and G with two stages exchanged have the same readings; a step of G is one choice, at its open
     for name, g in [("G", G), ("G with its start", [0, 3, 0] + list(G[1:])), ("G exchanged", EXCHANGED)]:
-        shown(name, g, [0], [[0]], [1], [9], [0, 1])
+        shown(name, g, [0], [[0]], [1], [9], [0, 1], 0)
         two_of_3 = [[1, 3, 4, 0], [2, 5, 6, 0]]
-        shown(name, g, [3, 1, 0, 2], two_of_3, [1, 0, 0, 1], [9] * 4, [0, 1, 1])
-        shown(name, g, [3, 1, 0, 2], two_of_3, [1, 0, 0, 1], [1, 5, 4, 0], [1])  # no reading combines the sets freely
-        shown(name, g, [2, 1, 2], [[1, 4, 0], [2, 6, 0]], [1, 0, 1], [9] * 5, [0, 1, 1])
+        shown(name, g, [3, 1, 0, 2], two_of_3, [1, 0, 0, 1], [9] * 4, [0, 1, 1], 1)
+        shown(name, g, [3, 1, 0, 2], two_of_3, [1, 0, 0, 1], [1, 5, 4, 0], [1], 1)  # no reading combines the sets freely
+        shown(name, g, [2, 1, 2], [[1, 4, 0], [2, 6, 0]], [1, 0, 1], [9] * 5, [0, 1, 1], 1)
         four = [[1, 4, 1, 4, 0], [1, 4, 2, 6, 0], [2, 6, 1, 4, 0], [2, 6, 2, 6, 0]]
         marks = [1, 0, 1, 0, 1]
-        shown(name, g, [4, 1, 2, 1, 2], four, marks, [9] * 5, [0, 1, 1, 1, 1, 0])
-        shown(name, g, [4, 1, 2, 1, 2], four, marks, [2, 6, 2, 6, 0], [1, 1])
-        shown(name, g, [4, 1, 2, 1, 2], four, marks, [1, 4, 1, 4, 1], [1, 0, 1])
-        shown(name, g, [4, 1, 2, 1, 2], four, marks, [2, 6, 2, 6], [1, 0])
-        shown(name, g, [1, 0], [], [1, 0], [9] * 3, [0, 1])
+        shown(name, g, [4, 1, 2, 1, 2], four, marks, [9] * 5, [0, 1, 1, 1, 1, 0], 2)
+        shown(name, g, [4, 1, 2, 1, 2], four, marks, [2, 6, 2, 6, 0], [1, 1], 2)
+        shown(name, g, [4, 1, 2, 1, 2], four, marks, [1, 4, 1, 4, 1], [1, 0, 1], 2)
+        shown(name, g, [4, 1, 2, 1, 2], four, marks, [2, 6, 2, 6], [1, 0], 2)
+        shown(name, g, [1, 0], [], [1, 0], [9] * 3, [0, 1], 0)
         for h, due in [([1, 2], 12), ([1, 1], 13), ([1, 3], 11), ([128], 1), ([128, 0], 2)]:
             refused("%s, %s: %d" % (name, words(h), due), g, h, due)
 
@@ -105,7 +116,7 @@ def limits_of_document_01():
     refused("grammar 1 0: 4", [1, 0], [0], 4)
     passed("grammar 1 1 1 0 0 0, 0", [1, 1, 1, 0, 0, 0], [0], SHOW | MARKS, ALL, [9], [0, 1], ([], [0]))
     passed("1,024 tokens", grammar_bytes(1, [[0, 0], [1, 0, 0, 0]]), history_bytes(MARK * 1024), MARKS, ALL, [1] * 1024 + [0], [1, 0, 1])
-    passed("G, 1,024 tokens", G, history_bytes((OPEN + CLOSE) * 512), 0, ALL)
+    passed("G, 1,024 tokens", G, history_bytes((OPEN + CLOSE) * 512), 0, ALL, count=512)
     refused("1,025 tokens: 10", G, [129, 8] + MARK * 1025, 10)
     passed("128 nested steps", grammar_bytes(1, [[0, 0], [2, 0, 0, 0, 0, 0]]), history_bytes(OPEN * 128 + CLOSE * 128), MARKS, ALL, [0] * 300, [1, 0, 1])
     refused("129 nested steps: 14", G, history_bytes(OPEN * 129 + CLOSE * 129), 14)
@@ -173,7 +184,7 @@ def answers(grammar, tokens, right, calls):
         "next reading": [found[found.index(entry) + 1:][:1] if entry in found else 16 for entry in right],
         "list of calls": plain_listing(found, size, right[0], calls),
         "sets": [set(column) for column in zip(*found)],
-        "doubtful count": doubtful(found),
+        "choice count": choices(grammar.rules, found),
         "stop marks": [int(any(True for _ in readings(grammar, tokens[:i]))) for i in range(size)],
     }
 
@@ -240,12 +251,23 @@ def wrong_turns():
     passed("the same inside to its end", early, history_bytes([1, 0, 4, 2]), SHOW | MARKS, ALL, [1, 2, 3, 0, 0], [1, 0])
 
 
+def counted_by_hand():
+    for what, grammar, tokens, entries, count in choice_frames():
+        # the list of calls begins on the last reading, or on bytes that are none
+        buffer = (entries or [[9] * (len(tokens) + 1)])[-1]
+        marks = [int(any(True for _ in readings(grammar, tokens[:i]))) for i in range(len(tokens) + 1)]
+        passed(what, grammar_bytes(*grammar), history_bytes(tokens), SHOW | MARKS, ALL, buffer, [1, 0, 1, 1], (entries, marks), count)
+
+
 def many_readings():
     for k in range(1, 11):
         h = history_bytes((OPEN + CLOSE) * k)
         last = [2, 6] * k + [0]
-        passed("%d steps of G, 2^%d readings" % (k, k), G, h, MARKS if k < 8 else 0, ALL, last, [1, 0, 1, 1])
-    passed("340 ambiguous steps", G, history_bytes((OPEN + MARK + CLOSE) * 340), 0, ALL)
+        passed("%d steps of G, 2^%d readings" % (k, k), G, h, MARKS if k < 8 else 0, ALL, last, [1, 0, 1, 1], count=k)
+    passed("340 ambiguous steps", G, history_bytes((OPEN + MARK + CLOSE) * 340), 0, ALL, count=340)
+    # a mark leads to either stage, and the last to the stage that can end: by a rule of either stage, which is no choice
+    either = [[1, 0, 0, 0], [1, 0, 0, 1], [1, 1, 0, 0], [1, 1, 0, 1], [0, 0]]
+    passed("1,024 marks, 2^1,023 readings", grammar_bytes(2, either), history_bytes(MARK * 1024), 0, ALL, count=1023)
     passed("128 nested steps of two rules", grammar_bytes(1, [[0, 0], [2, 0, 0, 0, 0, 0], [1, 0, 0, 0]]), history_bytes(OPEN * 128 + MARK * 700 + CLOSE * 128), MARKS, ALL)
 
 
@@ -370,6 +392,7 @@ if __name__ == "__main__":
     heads()
     largest()
     wrong_turns()
+    counted_by_hand()
     many_readings()
     drawn(820)
     drawn_thrice(60)

@@ -47,6 +47,15 @@ same (suc k) m n h h′ e =
     let low = digit (m % 2) (n % 2) (mod-lt m (lit< tt)) (mod-lt n (lit< tt)) (sym (bit-first m) ∙ e 0 (omega arith) ∙ bit-first n) in
     omega arith
 
+-- every set is within some width
+wide : (n : ℕ) → n < 2 ^ n
+wide zero = pow-pos 0
+wide (suc n) = omega (arith, wide n, pow-suc 2 n)
+
+-- so two sets with the same members are one number, whatever their widths
+pub same-members : (m n : ℕ) → ((b : ℕ) → bit m b ≡ bit n b) → m ≡ n
+same-members m n e = same (m + n) m n (lt-of-lt-of-le (wide m) (pow-mono (omega arith))) (lt-of-lt-of-le (wide n) (pow-mono (omega arith))) (λ b l. e b)
+
 or-digit : (x y : ℕ) → x < 2 → y < 2 → eqb (bitOr x y) 1 ≡ (eqb x 1 || eqb y 1)
 or-digit zero zero h h′ = refl
 or-digit zero (suc zero) h h′ = refl

@@ -11,7 +11,7 @@ use Rattle.laws.proofs.Any.{any-snoc}
 use Rattle.bits.specs.Bit.{bit, addBit}
 use Rattle.bits.proofs.Bits.{bit-zero, bit-add}
 use Rattle.vpg.specs.Tests.{anyClose}
-use Rattle.vpg.specs.Steps.{left}
+use Rattle.vpg.specs.believed.Grammar.{left}
 use Rattle.level_theory.specs.Masks.{lefts}
 use Rattle.tables.specs.Table.{ruleIn, rulesIn}
 use Rattle.history_file.specs.believed.HistoryFile.{tokenWith}

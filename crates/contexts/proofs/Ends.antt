@@ -15,8 +15,8 @@ use Rattle.bits.proofs.Bits.{bit-zero, same}
 use Rattle.vpg.specs.declared.CloseName.{CloseName}
 use Rattle.vpg.specs.declared.Rule.{Rule}
 use Rattle.vpg.specs.declared.Token.{Token}
+use Rattle.vpg.specs.believed.Grammar.{left}
 use Rattle.vpg.specs.Tests.{anyClose}
-use Rattle.vpg.specs.Steps.{left}
 use Rattle.level_theory.specs.Masks.{Nonterminals, stands}
 use Rattle.tables.specs.declared.Head.{Head}
 use Rattle.tables.specs.Table.{ruleIn}

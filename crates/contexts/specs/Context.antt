@@ -8,7 +8,7 @@ use Rattle.bits.specs.Bit.{bit, addBit}
 use Rattle.vpg.specs.declared.CloseName.{CloseName}
 use Rattle.vpg.specs.declared.Rule.{Rule}
 use Rattle.vpg.specs.declared.Token.{Token}
-use Rattle.vpg.specs.Steps.{left}
+use Rattle.vpg.specs.believed.Grammar.{left}
 use Rattle.level_theory.specs.Masks.{Nonterminals, stands}
 use Rattle.tables.specs.Table.{ruleIn}
 use Rattle.history_file.specs.believed.HistoryFile.{tokenWith}

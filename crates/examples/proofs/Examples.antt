@@ -7,12 +7,13 @@ use Rattle.tables.specs.Table.{sameRule, earlier}
 use Rattle.grammar_file.specs.believed.GrammarFile.{rulesFrom, grammarFrom}
 use Rattle.history_file.specs.believed.HistoryFile.{tokenWith, tokenOf, tokenJudged, tokenAt, depthAfter, tokensFrom, historyFrom}
 use Rattle.vpg.specs.Runs.{runs}
+use Rattle.sets_theory.specs.ChoiceTest.{choice}
 use Rattle.sets_theory.specs.KeptTest.{kept}
-use Rattle.sets_theory.specs.believed.Sets.{count, doubtful, doubtfulCount, stopMark, stopMarks}
+use Rattle.sets_theory.specs.believed.Sets.{count, choiceCount, stopMark, stopMarks}
 use Rattle.examples.specs.Examples.{Examples}
 
 pub examples : Examples
-unfolding numberWithin numberAt fieldAt countAt pairAt stepAt bodyAt ruleAt sameRule earlier rulesFrom grammarFrom tokenJudged tokenAt depthAfter tokensFrom historyFrom tokenOf tokenWith runs kept count doubtful doubtfulCount stopMark stopMarks
+unfolding numberWithin numberAt fieldAt countAt pairAt stepAt bodyAt ruleAt sameRule earlier rulesFrom grammarFrom tokenJudged tokenAt depthAfter tokensFrom historyFrom tokenOf tokenWith runs kept choice count choiceCount stopMark stopMarks
 examples = record {
   G-is = refl;
   history-3-1-0-2 = refl;
@@ -26,7 +27,7 @@ examples = record {
   history-0 = refl;
   history-0-marks = refl;
   step = refl;
-  step-doubtful = refl;
+  step-choices = refl;
   step-marks = refl;
   empty-step = refl;
   two-steps = refl;

@@ -8,7 +8,7 @@ use Rattle.vpg.specs.believed.Grammar.{Grammar}
 use Rattle.listing_model.specs.believed.Listing.{first, next, no-reading, no-further, refused}
 use Rattle.listing_model.specs.Calls.{callOn}
 use Rattle.vpg.specs.Runs.{entries}
-use Rattle.sets_theory.specs.believed.Sets.{doubtfulCount, stopMarks}
+use Rattle.sets_theory.specs.believed.Sets.{choiceCount, stopMarks}
 use Rattle.files.specs.believed.Files.{Files}
 use Rattle.files.specs.believed.Files
 use Rattle.service.specs.believed.Opened.{filesIn}
@@ -38,14 +38,14 @@ grammarG = record {
       ∷ [];
 }
 
--- of two files that pass: every reading in order, the doubtful count, the stop marks
+-- of two files that pass: every reading in order, the choice count, the stop marks
 abbrev pub readingsOf : Files → List (List ℕ)
 readingsOf (Files.accepted g ts) = entries g (tokensOf ts)
 readingsOf (Files.refused e) = []
 
-abbrev pub doubtfulOf : Files → List ℕ
-doubtfulOf (Files.accepted g ts) = doubtfulCount g (tokensOf ts) ∷ []
-doubtfulOf (Files.refused e) = []
+abbrev pub choicesOf : Files → List ℕ
+choicesOf (Files.accepted g ts) = choiceCount g (tokensOf ts) ∷ []
+choicesOf (Files.refused e) = []
 
 abbrev pub marksOf : Files → List ℕ
 marksOf (Files.accepted g ts) = stopMarks g (tokensOf ts)
@@ -66,7 +66,7 @@ pub record Examples : Type 0 where
   pub history-0-marks : marksOf (filesIn G (0 ∷ [])) ≡ 1 ∷ []
   -- "G, 3 1 0 2: as above; marks 1 0 0 1"
   pub step : readingsOf (filesIn G (3 ∷ 1 ∷ 0 ∷ 2 ∷ [])) ≡ (1 ∷ 3 ∷ 4 ∷ 0 ∷ []) ∷ (2 ∷ 5 ∷ 6 ∷ 0 ∷ []) ∷ []
-  pub step-doubtful : doubtfulOf (filesIn G (3 ∷ 1 ∷ 0 ∷ 2 ∷ [])) ≡ 3 ∷ []
+  pub step-choices : choicesOf (filesIn G (3 ∷ 1 ∷ 0 ∷ 2 ∷ [])) ≡ 1 ∷ []
   pub step-marks : marksOf (filesIn G (3 ∷ 1 ∷ 0 ∷ 2 ∷ [])) ≡ 1 ∷ 0 ∷ 0 ∷ 1 ∷ []
   -- "G, 2 1 2: 1 4 0, then 2 6 0"
   pub empty-step : readingsOf (filesIn G (2 ∷ 1 ∷ 2 ∷ [])) ≡ (1 ∷ 4 ∷ 0 ∷ []) ∷ (2 ∷ 6 ∷ 0 ∷ []) ∷ []

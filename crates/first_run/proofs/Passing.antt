@@ -11,8 +11,7 @@ use borrow.Author.Tests.{eqb-true, eq-eqb, ltb-true, ltb-false}
 use lib.Dec.{eqb, ltb}
 use lib.ListN.{length, drop}
 use Rattle.vpg.specs.declared.Token.{Token}
-use Rattle.vpg.specs.believed.Grammar.{Rules}
-use Rattle.vpg.specs.Steps.{left}
+use Rattle.vpg.specs.believed.Grammar.{Rules, left}
 use Rattle.laws.proofs.Bools.{and-left, and-right, both}
 use Rattle.level_theory.specs.Masks.{masks, Match}
 use Rattle.level_theory.specs.Pending.{pendingAt, closeOf, dueAt}

@@ -6,7 +6,7 @@ use mathlib.Core.Bool.{Bool, true, false, and-false}
 use mathlib.Core.List.{List}
 use borrow.Author.Tests.{ltb-true, ltb-false}
 use lib.Dec.{eqb, ltb}
-use Rattle.vpg.specs.Steps.{left}
+use Rattle.vpg.specs.believed.Grammar.{left}
 use Rattle.contexts.specs.declared.Context.{Context}
 use Rattle.contexts.specs.Context.{tokenHere}
 use Rattle.contexts.proofs.Contexts.{applies-apart}

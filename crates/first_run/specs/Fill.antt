@@ -8,10 +8,9 @@ use lib.Dec.{eqb}
 use lib.ListN.{length, take, drop}
 use Rattle.vpg.specs.declared.Rule.{Rule}
 use Rattle.vpg.specs.declared.Token.{Token}
-use Rattle.vpg.specs.believed.Grammar.{Rules}
+use Rattle.vpg.specs.believed.Grammar.{Rules, left}
 use Rattle.vpg.specs.Extremes.{Least}
 use Rattle.vpg.specs.Runs.{State}
-use Rattle.vpg.specs.Steps.{left}
 use Rattle.level_theory.specs.Masks.{masks, Fits}
 use Rattle.level_theory.specs.Pending.{pendingAt, dueAt}
 use Rattle.level_theory.specs.Walk.{Run}

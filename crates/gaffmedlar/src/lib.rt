@@ -74,12 +74,12 @@ pub extern "C" fn gaffmedlar_sets(grammar: &[u8], history: &[u8], words: &mut [u
     replies::outcome_code(sets::sets(grammar, history, words))
 }
 
-// How many positions have more than one rule in their set.
+// How many positions are choices: two rules of their set are for one nonterminal.
 #[no_mangle]
-pub extern "C" fn gaffmedlar_doubtful_count(grammar: &[u8], history: &[u8]) -> CountReply
+pub extern "C" fn gaffmedlar_choice_count(grammar: &[u8], history: &[u8]) -> CountReply
     ensures { λ r. ⌜ r ≡ countWire (countDue (now (grammar .entry)) (now (history .entry))) ⌝ }
 {
-    replies::count_reply(sets::doubtful_count(grammar, history))
+    replies::count_reply(sets::choice_count(grammar, history))
 }
 
 // Writes n + 1 bytes: byte i is 1 where the first i tokens alone have a reading, else 0.

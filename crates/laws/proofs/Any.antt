@@ -53,3 +53,8 @@ some-below (suc n) p i h q = go (decLt i n) (some-below n p i)
     go : Dec (i < n) → (i < n → p i ≡ true → anyBelow n p ≡ true) → (p n || anyBelow n p) ≡ true
     go (yes l) rest = rw (rest l q) (or-true (p n))
     go (no l) rest = let e : i ≡ n = omega arith in rw (rw e at q)
+
+-- two tests that agree below n
+pub below-same : (n : ℕ) (p p′ : ℕ → Bool) → ((i : ℕ) → i < n → p i ≡ p′ i) → anyBelow n p ≡ anyBelow n p′
+below-same zero p p′ h = refl
+below-same (suc n) p p′ h = rw (h n (omega arith), below-same n p p′ (λ i l. h i (omega arith)))

@@ -12,9 +12,8 @@ use Rattle.laws.proofs.Any.{any-some, some-any}
 use Rattle.vpg.specs.declared.CloseName.{CloseName}
 use Rattle.vpg.specs.declared.Rule.{Rule}
 use Rattle.vpg.specs.declared.Token.{Token}
-use Rattle.vpg.specs.believed.Grammar.{Rules}
+use Rattle.vpg.specs.believed.Grammar.{Rules, left}
 use Rattle.vpg.specs.Runs.{Stack, runs}
-use Rattle.vpg.specs.Steps.{left}
 use Rattle.vpg.specs.Tests.{isMark, isOpen}
 use Rattle.laws.proofs.Bools.{and-left, and-right, both}
 use Rattle.vpg.proofs.Take.{Move, by-empty, by-mark, by-step, taken, take, ended, end}

@@ -15,10 +15,9 @@ use Rattle.laws.specs.Any.{any}
 use Rattle.vpg.specs.declared.CloseName.{CloseName}
 use Rattle.vpg.specs.declared.Rule.{Rule}
 use Rattle.vpg.specs.declared.Token.{Token}
-use Rattle.vpg.specs.believed.Grammar.{Rules, Grammar}
+use Rattle.vpg.specs.believed.Grammar.{Rules, Grammar, left}
 use Rattle.vpg.specs.Runs.{Stack, runs, entries}
 use Rattle.sets_theory.specs.KeptTest.{kept}
-use Rattle.vpg.specs.Steps.{left}
 use Rattle.laws.proofs.Bools.{and-left, and-right, or-cases, both, same-test}
 use Rattle.sets_theory.proofs.Sets.{kept-entry}
 use Rattle.vpg.proofs.Take.{Move, by-empty, by-mark, by-step, moved, moves, Taken, taken, take, ended, end}

@@ -12,10 +12,9 @@ use lib.Seq.{drop-cons, getD-set-other, getD-set-same, take-suc}
 use Rattle.laws.proofs.Lists.{heads, tails}
 use Rattle.vpg.specs.declared.Rule.{Rule}
 use Rattle.vpg.specs.declared.Token.{Token}
-use Rattle.vpg.specs.believed.Grammar.{Rules}
+use Rattle.vpg.specs.believed.Grammar.{Rules, left}
 use Rattle.vpg.specs.Extremes.{Least, Next, Last}
 use Rattle.vpg.specs.Runs.{Stack, State, move}
-use Rattle.vpg.specs.Steps.{left}
 use Rattle.vpg.proofs.Take.{Move, moved, moves, taken}
 use Rattle.vpg.proofs.Take
 use Rattle.level_theory.specs.Masks.{applies, outer, masks, Match, Fits}

@@ -10,9 +10,8 @@ use Rattle.laws.proofs.Lists.{heads, tails}
 use Rattle.vpg.specs.declared.CloseName.{CloseName}
 use Rattle.vpg.specs.declared.Rule.{Rule}
 use Rattle.vpg.specs.declared.Token.{Token}
-use Rattle.vpg.specs.believed.Grammar.{Rules}
+use Rattle.vpg.specs.believed.Grammar.{Rules, left}
 use Rattle.vpg.specs.Runs.{Stack}
-use Rattle.vpg.specs.Steps.{left}
 use Rattle.vpg.proofs.Take.{Move, by-empty, by-mark, by-step}
 use Rattle.level_theory.specs.Masks.{applies, finishes, lefts, outer, masks, Match, Fits}
 use Rattle.level_theory.specs.Pending.{Closes, rest, pendingAt, closeOf, dueAt}

@@ -10,10 +10,9 @@ use lib.ListN.{drop, getElem?}
 use Rattle.laws.specs.Any.{any}
 use Rattle.vpg.specs.declared.Rule.{Rule}
 use Rattle.vpg.specs.declared.Token.{Token}
-use Rattle.vpg.specs.believed.Grammar.{Rules, Grammar}
+use Rattle.vpg.specs.believed.Grammar.{Rules, Grammar, left}
 use Rattle.vpg.specs.Runs.{Stack, move}
 use Rattle.vpg.specs.Parts.{onward, beyond, isIt}
-use Rattle.vpg.specs.Steps.{left}
 use Rattle.level_theory.specs.Masks.{Nonterminals, masks, Fits}
 use Rattle.level_theory.specs.Pending.{Closes, pendingAt}
 use Rattle.level_theory.specs.Walk.{testAt}

@@ -9,9 +9,8 @@ use Rattle.laws.specs.Any.{any}
 use Rattle.vpg.specs.declared.CloseName.{CloseName}
 use Rattle.vpg.specs.declared.Rule.{Rule}
 use Rattle.vpg.specs.declared.Token.{Token}
-use Rattle.vpg.specs.believed.Grammar.{Rules}
+use Rattle.vpg.specs.believed.Grammar.{Rules, left}
 use Rattle.vpg.specs.Runs.{Stack}
-use Rattle.vpg.specs.Steps.{left}
 use Rattle.vpg.specs.Tests.{isMark, isOpen, anyClose}
 
 -- a set of nonterminals

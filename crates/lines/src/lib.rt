@@ -1,10 +1,10 @@
 // The lines of a listing, written to a buffer; a full buffer goes out as a piece of the text. Each answers the place behind its line.
-ghost use Prim.Native.Nat.{_+_, _%_, _^_};
+ghost use Prim.Native.Nat.{_+_};
 ghost use mathlib.Core.Path.{_≡_};
 ghost use mathlib.Core.List.{_++_, _∷_, []};
 ghost use lib.ListN.{length};
 ghost use Rattle.lines.specs.Laid.{put, laid, behindFull};
-ghost use Rattle.lines.specs.believed.Text.{decimal, readingText, tokensLine, doubtfulLine, noneLine, readingLine, endLine, moreLine, refusedGrammarLine, refusedHistoryLine};
+ghost use Rattle.lines.specs.believed.Text.{decimal, readingText, tokensLine, choicesLine, noneLine, readingLine, endLine, moreLine, refusedGrammarLine, refusedHistoryLine};
 
 // How many bytes of the text went out before those in the buffer, and where in the buffer the next one goes.
 pub struct Cursor {
@@ -77,11 +77,11 @@ pub fn tokens_line(out: &mut [u8], p: Cursor, n: u64) -> Cursor
     number_line(out, p, b"tokens ", n)
 }
 
-// How many positions are doubtful.
-pub fn doubtful_line(out: &mut [u8], p: Cursor, d: u64) -> Cursor
-    ensures { λ r. ⌜ (r, now (out .exit)) ≡ laid (p, now (out .entry)) (doubtfulLine d) ⌝ }
+// How many positions are choices.
+pub fn choices_line(out: &mut [u8], p: Cursor, count: u64) -> Cursor
+    ensures { λ r. ⌜ (r, now (out .exit)) ≡ laid (p, now (out .entry)) (choicesLine count) ⌝ }
 {
-    number_line(out, p, b"doubtful ", d)
+    number_line(out, p, b"choices ", count)
 }
 
 // There is no reading.

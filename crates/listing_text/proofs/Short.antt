@@ -7,7 +7,7 @@ use mathlib.Core.List.{List, [], _∷_, _++_, List·Memᴰ, List·Memᴰ·head, 
 use lib.Dec.{ltb}
 use lib.ListN.{length, length-append, length-map}
 use Rattle.vpg.specs.Runs.{entries}
-use Rattle.sets_theory.specs.believed.Sets.{doubtfulCount}
+use Rattle.sets_theory.specs.believed.Sets.{choiceCount}
 use Rattle.listing_model.proofs.Listing.{entries-proper}
 use Rattle.grammar_file.specs.believed.GrammarFile.{GrammarFile, grammarOf}
 use Rattle.grammar_file.specs.believed.GrammarFile
@@ -15,7 +15,7 @@ use Rattle.history_file.specs.believed.HistoryFile.{HistoryFile, historyOf, tok
 use Rattle.history_file.specs.believed.HistoryFile
 use Rattle.history_file.proofs.Accepted.{history-wellformed}
 use Rattle.numbers.specs.believed.Number.{bytes}
-use Rattle.lines.specs.believed.Text.{decimalBy, decimal, lineEnd, numberLine, readingText, readingLine, tokensLine, doubtfulLine, tokensWord, doubtfulWord, endWord, moreWord, refusedWord, grammarWord, historyWord}
+use Rattle.lines.specs.believed.Text.{decimalBy, decimal, lineEnd, numberLine, readingText, readingLine, tokensLine, choicesLine, tokensWord, choicesWord, endWord, moreWord, refusedWord, grammarWord, historyWord}
 use Rattle.listing_text.specs.believed.Listing.{listedFrom, mostListed, readingsListed, filesListed, listing}
 
 -- ── lines ──
@@ -60,7 +60,7 @@ listed-short (suc left) k (e ∷ l) h =
 readings-short : (d : ℕ) (l : List (List ℕ)) → ((e : List ℕ) → List·Memᴰ e l → length e ≤ 1025) → length (readingsListed d l) ≤ 21547056
 readings-short d [] h = omega arith
 readings-short d (e ∷ l) h =
-    rw (length-append (doubtfulLine d) (listedFrom mostListed 0 (e ∷ l))) (omega (arith, number-line-short doubtfulWord d, listed-short 1000 0 (e ∷ l) h))
+    rw (length-append (choicesLine d) (listedFrom mostListed 0 (e ∷ l))) (omega (arith, number-line-short choicesWord d, listed-short 1000 0 (e ∷ l) h))
 
 -- the longest listing
 pub listing-short : (grammar history : List ℕ) → length (listing grammar history) ≤ 22000000
@@ -73,5 +73,5 @@ listing-short grammar history = go (grammarOf grammar) (historyOf history) refl
         let few = history-wellformed (bytes history) ts e .few in
         let sizes : (x : List ℕ) → List·Memᴰ x (entries g (tokensOf ts)) → length x ≤ 1025 =
         λ x m. omega (arith, entries-proper g (tokensOf ts) .1 x m, length-map ts tokenOf, few) in
-        rw (length-append (tokensLine (length ts)) (readingsListed (doubtfulCount g (tokensOf ts)) (entries g (tokensOf ts))))
-        (omega (arith, number-line-short tokensWord (length ts), readings-short (doubtfulCount g (tokensOf ts)) (entries g (tokensOf ts)) sizes))
+        rw (length-append (tokensLine (length ts)) (readingsListed (choiceCount g (tokensOf ts)) (entries g (tokensOf ts))))
+        (omega (arith, number-line-short tokensWord (length ts), readings-short (choiceCount g (tokensOf ts)) (entries g (tokensOf ts)) sizes))

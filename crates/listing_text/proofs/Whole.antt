@@ -9,7 +9,7 @@ use lib.ListN.{length, take, drop, getD, replicate, length-replicate}
 use lib.Seq.{take-at}
 use Rattle.vpg.specs.believed.Grammar.{Grammar}
 use Rattle.vpg.specs.Runs.{entries}
-use Rattle.sets_theory.specs.believed.Sets.{doubtfulCount}
+use Rattle.sets_theory.specs.believed.Sets.{choiceCount}
 use Rattle.listing_model.specs.believed.Listing.{Answer, Subject, over, first, overEntries}
 use Rattle.listing_model.specs.Calls.{callOn}
 use Rattle.listing_model.proofs.Listing.{Proper}
@@ -23,7 +23,7 @@ use Rattle.files.specs.believed.Checks as checks
 use Rattle.files.specs.declared.GrammarCheck.{GrammarCheck}
 use Rattle.lines.specs.Laid.{Laid, laid}
 use Rattle.lines.proofs.Laying.{laid-both}
-use Rattle.lines.specs.believed.Text.{tokensLine, doubtfulLine, noneLine, refusedGrammarLine, refusedHistoryLine}
+use Rattle.lines.specs.believed.Text.{tokensLine, choicesLine, noneLine, refusedGrammarLine, refusedHistoryLine}
 use Rattle.listing_text.specs.believed.Listing.{listedFrom, mostListed, readingsListed, filesListed}
 use Rattle.listing_text.specs.Passing.{Begun, isWritten}
 use Rattle.listing_text.proofs.Turns.{told, entries-are, entries-in-order}
@@ -70,13 +70,13 @@ module _ (g : Grammar) (ts : List ℕ) where
 pub none-listed : (t : List ℕ) (d : ℕ) (l : List (List ℕ)) → l ≡ [] → t ++ noneLine ≡ t ++ readingsListed d l
 none-listed t d l h = ap (λ (m : List (List ℕ)). t ++ readingsListed d m) (sym h)
 
-pub some-listed : (t : List ℕ) (d : ℕ) (l : List (List ℕ)) → 0 < length l → (t ++ doubtfulLine d) ++ listedFrom mostListed 0 l ≡ t ++ readingsListed d l
+pub some-listed : (t : List ℕ) (d : ℕ) (l : List (List ℕ)) → 0 < length l → (t ++ choicesLine d) ++ listedFrom mostListed 0 l ≡ t ++ readingsListed d l
 some-listed t d [] h = absurd (omega arith)
-some-listed t d (e ∷ l) h = append-assoc t (doubtfulLine d) (listedFrom mostListed 0 (e ∷ l))
+some-listed t d (e ∷ l) h = append-assoc t (choicesLine d) (listedFrom mostListed 0 (e ∷ l))
 
 -- the readings behind the two counts
-pub behind-counts : (p q r : Laid) (t : List ℕ) (d due : ℕ) (y : List ℕ) → d ≡ due → q ≡ laid p (t ++ doubtfulLine d) → r ≡ laid q y → r ≡ laid p ((t ++ doubtfulLine due) ++ y)
-behind-counts p q r t d due y i e f = laid-both p q r (t ++ doubtfulLine due) y (e ∙ ap (λ (x : ℕ). laid p (t ++ doubtfulLine x)) i) f
+pub behind-counts : (p q r : Laid) (t : List ℕ) (d due : ℕ) (y : List ℕ) → d ≡ due → q ≡ laid p (t ++ choicesLine d) → r ≡ laid q y → r ≡ laid p ((t ++ choicesLine due) ++ y)
+behind-counts p q r t d due y i e f = laid-both p q r (t ++ choicesLine due) y (e ∙ ap (λ (x : ℕ). laid p (t ++ choicesLine x)) i) f
 
 -- zeros for the longest reading
 abbrev pub zeros : List ℕ
@@ -97,7 +97,7 @@ history-refused (GrammarFile.accepted g) s r e q (HistoryFile.refused d) i = let
 history-refused (GrammarFile.accepted g) s r e q (HistoryFile.accepted ts) i = absurd (let z : _≡_ {A = ℕ} 0 1 = cc in omega arith)
 
 pub both-accepted : (f : GrammarFile) (h : HistoryFile) (g : Grammar) (ts : List ℕ) → filesOf f h ≡ accepted g ts →
-    filesListed f h ≡ tokensLine (length ts) ++ readingsListed (doubtfulCount g (tokensOf ts)) (entries g (tokensOf ts))
+    filesListed f h ≡ tokensLine (length ts) ++ readingsListed (choiceCount g (tokensOf ts)) (entries g (tokensOf ts))
 both-accepted (GrammarFile.refused d) h g ts i = absurd (let z : _≡_ {A = ℕ} 0 1 = cc in omega arith)
 both-accepted (GrammarFile.accepted x) (HistoryFile.refused d) g ts i = absurd (let z : _≡_ {A = ℕ} 0 1 = cc in omega arith)
 both-accepted (GrammarFile.accepted x) (HistoryFile.accepted y) g ts i = let a : x ≡ g = cc in let b : y ≡ ts = cc in rw (a, b)

@@ -12,7 +12,7 @@ ghost use mathlib.Core.Path.{_≡_};
 ghost use mathlib.Core.List.{_++_};
 ghost use lib.ListN.{length};
 ghost use Rattle.vpg.specs.Runs.{entries};
-ghost use Rattle.sets_theory.specs.believed.Sets.{doubtfulCount};
+ghost use Rattle.sets_theory.specs.believed.Sets.{choiceCount};
 ghost use Rattle.level_theory.specs.Pending.{WellMatched};
 ghost use Rattle.tables.specs.Ready.{grammarIn};
 ghost use Rattle.rule_index.specs.Index.{Indexed};
@@ -23,7 +23,7 @@ ghost use Rattle.files.specs.believed.Files.{refused, filesOf};
 ghost use Rattle.levels.specs.Levels.{Setting};
 ghost use Rattle.next_run.specs.Next.{nextSaid};
 ghost use Rattle.lines.specs.Laid.{laid};
-ghost use Rattle.lines.specs.believed.Text.{tokensLine, noneLine, doubtfulLine};
+ghost use Rattle.lines.specs.believed.Text.{tokensLine, noneLine, choicesLine};
 ghost use Rattle.listing_text.specs.believed.Listing.{listedFrom, mostListed, readingsListed, filesListed, listing};
 ghost use Rattle.listing_text.specs.Passing.{Begun, isWritten, atStart};
 
@@ -60,11 +60,11 @@ fn list_none(text: &mut [u8], n: u64) -> Cursor
 }
 
 // The lines before the first reading.
-fn list_counts(text: &mut [u8], n: u64, d: u64) -> Cursor
-    ensures { λ r. ⌜ (r, now (text .exit)) ≡ laid (atStart, now (text .entry)) (tokensLine n ++ doubtfulLine d) ⌝ }
+fn list_counts(text: &mut [u8], n: u64, choices: u64) -> Cursor
+    ensures { λ r. ⌜ (r, now (text .exit)) ≡ laid (atStart, now (text .entry)) (tokensLine n ++ choicesLine choices) ⌝ }
 {
     let at = lines::tokens_line(text, at_start(), n);
-    lines::doubtful_line(text, at, d)
+    lines::choices_line(text, at, choices)
 }
 
 // The text where the buffer holds the first reading: a thousand readings at most, and the last line.
@@ -79,11 +79,11 @@ fn list_readings(
 ) -> Cursor
     requires { ⌜ Setting (now table) head (now tokens) (now closes) (now masks) ⌝ }
     requires { ⌜ Begun (entries (grammarIn (now table) head) (tokensOf (now tokens))) (length (now tokens)) (now reading) ⌝ }
-    ensures { λ r. ⌜ (r, now (text .exit)) ≡ laid (atStart, now (text .entry)) ((tokensLine (length (now (tokens .entry))) ++ doubtfulLine (doubtfulCount (grammarIn (now (table .entry)) head) (tokensOf (now (tokens .entry))))) ++ listedFrom mostListed 0 (entries (grammarIn (now (table .entry)) head) (tokensOf (now (tokens .entry))))) ⌝ }
+    ensures { λ r. ⌜ (r, now (text .exit)) ≡ laid (atStart, now (text .entry)) ((tokensLine (length (now (tokens .entry))) ++ choicesLine (choiceCount (grammarIn (now (table .entry)) head) (tokensOf (now (tokens .entry))))) ++ listedFrom mostListed 0 (entries (grammarIn (now (table .entry)) head) (tokensOf (now (tokens .entry))))) ⌝ }
 {
     let n = tokens.len();
-    let d = sets_core::doubtful(table, head, tokens, closes, masks);
-    let mut cursor = list_counts(text, n as u64, d as u64);
+    let choices = sets_core::choices(table, head, tokens, closes, masks);
+    let mut cursor = list_counts(text, n as u64, choices as u64);
     let mut k: u64 = 0;
     while k < 1000 {
         k += 1;
@@ -100,7 +100,7 @@ fn list_readings(
 fn list_accepted(table: &Table, head: Head, tokens: &[u32], text: &mut [u8]) -> Cursor
     requires { ⌜ Indexed (now table) head ⌝ }
     requires { ⌜ Tokens (now tokens) × WellMatched (tokensOf (now tokens)) ⌝ }
-    ensures { λ r. ⌜ (r, now (text .exit)) ≡ laid (atStart, now (text .entry)) (tokensLine (length (now (tokens .entry))) ++ readingsListed (doubtfulCount (grammarIn (now (table .entry)) head) (tokensOf (now (tokens .entry)))) (entries (grammarIn (now (table .entry)) head) (tokensOf (now (tokens .entry))))) ⌝ }
+    ensures { λ r. ⌜ (r, now (text .exit)) ≡ laid (atStart, now (text .entry)) (tokensLine (length (now (tokens .entry))) ++ readingsListed (choiceCount (grammarIn (now (table .entry)) head) (tokensOf (now (tokens .entry)))) (entries (grammarIn (now (table .entry)) head) (tokensOf (now (tokens .entry))))) ⌝ }
 {
     let closes = levels::closes_of(tokens);
     let masks = levels::masks_of(table, head, tokens, &closes);

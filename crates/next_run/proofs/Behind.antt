@@ -10,7 +10,7 @@ use borrow.Author.Tests.{eqb-true}
 use lib.Dec.{eqb}
 use Rattle.laws.proofs.Bools.{and-left, and-right}
 use Rattle.bits.specs.Bit.{bit}
-use Rattle.vpg.specs.Steps.{left}
+use Rattle.vpg.specs.believed.Grammar.{left}
 use Rattle.contexts.specs.declared.Context.{Context}
 use Rattle.contexts.specs.Context.{tokenHere, afterClose, appliesTo}
 use Rattle.tables.specs.Table.{ruleIn}

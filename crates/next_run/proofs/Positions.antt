@@ -9,7 +9,7 @@ use mathlib.Core.List.{List}
 use lib.Dec.{eqb}
 use lib.ListN.{length, getD}
 use Rattle.vpg.specs.declared.Token.{Token}
-use Rattle.vpg.specs.Steps.{left}
+use Rattle.vpg.specs.believed.Grammar.{left}
 use Rattle.contexts.specs.declared.Context.{Context}
 use Rattle.tables.specs.Table.{ruleIn, rulesIn}
 use Rattle.levels.specs.Levels.{Leveled, Stands}

@@ -13,12 +13,11 @@ use lib.ListN.{length, take, drop, getD, getElem?, take-append-drop, drop-of-len
 use lib.Seq.{drop-cons, take-take}
 use Rattle.vpg.specs.declared.Rule.{Rule}
 use Rattle.vpg.specs.declared.Token.{Token}
-use Rattle.vpg.specs.believed.Grammar.{Rules}
+use Rattle.vpg.specs.believed.Grammar.{Rules, left}
 use Rattle.vpg.specs.Extremes.{Least, Next, Last}
 use Rattle.listing_model.specs.believed.Listing.{next, written, no-further, refused, overEntries}
 use Rattle.listing_model.specs.Calls.{callOn}
 use Rattle.vpg.specs.Runs.{State, entries}
-use Rattle.vpg.specs.Steps.{left}
 use Rattle.vpg.proofs.Ascends.{entries-ascending}
 use Rattle.laws.proofs.Bools.{and-left, and-right, both}
 use Rattle.listing_model.proofs.Calls.{next-refused, next-written, next-no-further}

@@ -8,11 +8,10 @@ use mathlib.Core.List.{List, [], _∷_, _++_}
 use lib.Dec.{eqb}
 use lib.ListN.{length, take, drop, getD, set}
 use Rattle.vpg.specs.declared.Token.{Token}
-use Rattle.vpg.specs.believed.Grammar.{Rules}
+use Rattle.vpg.specs.believed.Grammar.{Rules, left}
 use Rattle.vpg.specs.Extremes.{Least}
 use Rattle.listing_model.specs.believed.Listing.{Answer, written, no-further, refused}
 use Rattle.vpg.specs.Runs.{State}
-use Rattle.vpg.specs.Steps.{left}
 use Rattle.level_theory.specs.Walk.{Run, testAt, inner, later}
 use Rattle.tables.specs.declared.Head.{Head}
 use Rattle.tables.specs.Table.{ruleIn, rulesIn}

@@ -15,8 +15,7 @@ use Rattle.laws.proofs.Bools.{both, and-left, and-right, or-comm, same-test}
 use Rattle.bits.specs.Bit.{bit}
 use Rattle.bits.proofs.Bits.{bit-zero, bit-or}
 use Rattle.vpg.specs.declared.Rule.{Rule}
-use Rattle.vpg.specs.Steps.{left}
-use Rattle.vpg.specs.believed.Grammar.{Grammar}
+use Rattle.vpg.specs.believed.Grammar.{Grammar, left}
 use Rattle.vpg.proofs.Tests.{if-empty}
 use Rattle.pair_theory.specs.Pairs.{PairState, endsFrom, finished}
 use Rattle.tables.specs.declared.Head.{Head}

@@ -16,9 +16,8 @@ use Rattle.vpg.specs.declared.OpenName.{OpenName}
 use Rattle.vpg.specs.declared.CloseName.{CloseName}
 use Rattle.vpg.specs.declared.Rule.{Rule}
 use Rattle.vpg.specs.declared.Token.{Token}
-use Rattle.vpg.specs.Steps.{left}
 use Rattle.laws.specs.Any.{anyBelow}
-use Rattle.vpg.specs.believed.Grammar.{Rules, Grammar, Tree, code, Derives, by-empty, by-mark, by-step, Reading}
+use Rattle.vpg.specs.believed.Grammar.{Rules, Grammar, Tree, code, Derives, by-empty, by-mark, by-step, Reading, left}
 use Rattle.pair_theory.specs.Pairs.{PairState, PairStack, Configuration, single, begin, markTo, overMark, openTo, overOpen, endsFrom, finished, closeTo, overClose, closed, derivative, after, bottom, accepts, marksFrom, Takes, at-bottom, in-step, Proper, Contexts, Stacked, Within}
 use Rattle.sets_theory.specs.believed.Sets.{one, stopMark, listed, stopMarks}
 use Rattle.laws.proofs.Any.{any-some, some-any, below-some, some-below}

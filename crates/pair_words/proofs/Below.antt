@@ -2,8 +2,8 @@
 use Prim.Native.Nat.{ℕ, _<_}
 use mathlib.Core.Option.{Option, none, some}
 use Rattle.vpg.specs.declared.Rule.{Rule}
+use Rattle.vpg.specs.believed.Grammar.{left}
 use Rattle.vpg.specs.Parts.{onward, beyond}
-use Rattle.vpg.specs.Steps.{left}
 use Rattle.tables.specs.Ready.{Small, Below}
 use Rattle.pair_words.specs.declared.Pattern.{Pattern}
 use Rattle.pair_words.specs.Words.{stepFollows, nextBy, followsBy}

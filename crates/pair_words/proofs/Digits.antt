@@ -14,7 +14,7 @@ use Rattle.laws.proofs.Any.{below-some, some-below, any-snoc}
 use Rattle.bits.specs.Bit.{bit}
 use Rattle.bits.proofs.Bits.{bit-zero, bit-or, no-member}
 use Rattle.vpg.specs.declared.Rule.{Rule}
-use Rattle.vpg.specs.Steps.{left}
+use Rattle.vpg.specs.believed.Grammar.{left}
 use Rattle.tables.specs.Ready.{Below}
 use Rattle.tables.specs.Table.{ruleIn, rulesIn}
 use Rattle.pair_words.specs.declared.Pattern.{Pattern}

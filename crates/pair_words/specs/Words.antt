@@ -14,8 +14,8 @@ use Rattle.vpg.specs.declared.OpenName.{OpenName}
 use Rattle.vpg.specs.declared.CloseName.{CloseName}
 use Rattle.vpg.specs.declared.Rule.{Rule}
 use Rattle.vpg.specs.declared.Token.{Token}
+use Rattle.vpg.specs.believed.Grammar.{left}
 use Rattle.vpg.specs.Parts.{onward, beyond}
-use Rattle.vpg.specs.Steps.{left}
 use Rattle.tables.specs.Table.{ruleIn}
 use Rattle.rule_index.specs.Classes.{classAt}
 use Rattle.pair_words.specs.declared.Pattern.{Pattern}

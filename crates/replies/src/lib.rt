@@ -30,7 +30,7 @@ pub struct HistoryReply {
     pub tokens: u16,
 }
 
-// 0 and the number of doubtful positions; or the number of the refusal, and 0.
+// 0 and the number of choices; or the number of the refusal, and 0.
 #[repr(C)]
 pub struct CountReply {
     pub answer: u8,

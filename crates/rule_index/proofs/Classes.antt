@@ -10,7 +10,7 @@ use Rattle.laws.proofs.Bools.{and-left}
 use Rattle.vpg.specs.declared.CloseName.{CloseName}
 use Rattle.vpg.specs.declared.Rule.{Rule}
 use Rattle.vpg.specs.declared.Token.{Token}
-use Rattle.vpg.specs.Steps.{left}
+use Rattle.vpg.specs.believed.Grammar.{left}
 use Rattle.vpg.specs.Tests.{anyClose}
 use Rattle.level_theory.specs.Masks.{Nonterminals, stands}
 use Rattle.rule_index.specs.Classes.{spread, classAt, emptyClass, classOf}

@@ -7,7 +7,7 @@ use vpg::Token;
 ghost use mathlib.Core.Path.{_≡_};
 ghost use Prim.Native.Nat.{_<_, _≤_};
 ghost use lib.ListN.{length, take};
-ghost use Rattle.vpg.specs.Steps.{left};
+ghost use Rattle.vpg.specs.believed.Grammar.{left};
 ghost use Rattle.tables.specs.Table.{ruleIn};
 ghost use Rattle.tables.specs.Ready.{Ready};
 ghost use Rattle.rule_index.specs.Classes.{spread, classAt, classOf};

@@ -1,22 +1,22 @@
 -- At a close the rules of the set are the empty rules of the nonterminals that can stand there. A nonterminal has one at most, since no rule
 -- stands twice in a table: so it is enough to look at these nonterminals one by one, each with the rule that the index has of it.
-use Prim.Native.Nat.{ℕ, zero, suc, _+_, _-_, _/_, _%_, _^_, _<_, _≤_}
+use Prim.Native.Nat.{ℕ, zero, suc, _-_, _/_, _%_, _^_, _<_, _≤_}
 use native.Mathlib.Nat.{eq-or-lt-of-le}
 use native.Mathlib.Omega.{arith}
-use mathlib.Core.Path.{_≡_, refl, sym, _∙_, ap}
+use mathlib.Core.Path.{_≡_, refl, sym, _∙_, ap, ap₂}
 use mathlib.Core.Logic.{_⊎_, inl, inr}
 use mathlib.Core.Bool.{Bool, true, false, cond, _&&_, _||_, and-false, or-true, or-false, or-assoc}
 use mathlib.Core.List.{List}
 use borrow.Author.Tests.{eqb-true, eqb-false, eq-eqb, ne-eqb, lt-ltb, ltb-true, ltb-false}
 use lib.Bits.{bitAnd, and-zero-r, and-le-l}
-use lib.Count.{ones, trailingZeros}
+use lib.Count.{trailingZeros}
 use lib.Dec.{eqb, ltb}
 use lib.ListN.{length, getD, replicate}
 use Rattle.laws.proofs.Bools.{and-left, and-right, both, same-test, eqb-refl}
 use Rattle.bits.specs.Bit.{bit, addBit}
 use Rattle.bits.proofs.Bits.{bit-zero, bit-add, bit-and}
 use Rattle.vpg.specs.declared.Rule.{Rule}
-use Rattle.vpg.specs.Steps.{left}
+use Rattle.vpg.specs.believed.Grammar.{left}
 use Rattle.tables.specs.declared.Head.{Head}
 use Rattle.tables.specs.Table.{ruleIn}
 use Rattle.rule_index.specs.Index.{Indexed, endIn, endsIn}
@@ -27,8 +27,8 @@ use Rattle.contexts.proofs.Ends.{close-kind, empty-fits, fits-empty, level-ends
 use Rattle.rule_set.specs.Words.{bitIn, addIn}
 use Rattle.rule_set.specs.declared.Ways.{Ways}
 use Rattle.rule_set.specs.Ends.{endWays}
-use Rattle.rule_set.specs.RuleSet.{keepsAt, waysWith, waysIn, wordsIn}
-use Rattle.rule_set.proofs.Members.{ones-add, lowest}
+use Rattle.rule_set.specs.RuleSet.{keepsAt, twiceWith, waysWith, waysIn, wordsIn}
+use Rattle.rule_set.proofs.Members.{lowest, and-with, and-without, nothing-common}
 use Rattle.rule_set.proofs.Words.{add-length, add-small, zeros, bit-in-add, held-none, held-same}
 use Rattle.rule_set.proofs.RuleSet.{Keeps, words-held}
 
@@ -66,12 +66,15 @@ module _ {t : List ℕ} {head : Head} (x : Indexed t head) where
 with-end : (here : ℕ) (ways : Ways) (ends L : ℕ) → ways ≡ endWays here ends → bit ends L ≡ false → cond (bit here L && true) (waysWith ways (Rule.Empty L)) ways ≡ endWays here (addBit ends L)
 with-end here ways ends L e new = rw e (go (bit here L) refl)
   where
-    Of : ℕ → Ways
-    Of n = record { held = n; next = 0; behind = 0 }
+    Of : ℕ → ℕ → Ways
+    Of m n = record { met = m; twice = n; next = 0; behind = 0 }
 
-    go : (b : Bool) → bit here L ≡ b → cond (b && true) (Of (ones (bitAnd here ends) + 1)) (endWays here ends) ≡ endWays here (addBit ends L)
-    go true q = ap Of (sym (ones-add here ends L new ∙ rw q (omega arith)))
-    go false q = ap Of (sym (ones-add here ends L new ∙ rw q (omega arith)))
+    once : bit (bitAnd here ends) L ≡ false
+    once = bit-and here ends L ∙ rw (new, and-false)
+
+    go : (b : Bool) → bit here L ≡ b → cond (b && true) (Of (addBit (bitAnd here ends) L) (twiceWith 0 (bitAnd here ends) L)) (endWays here ends) ≡ endWays here (addBit ends L)
+    go true q = ap₂ Of (sym (and-with here ends L q)) (rw (nothing-common (bitAnd here ends) L once))
+    go false q = ap (λ (n : ℕ). Of n 0) (sym (and-without here ends L q))
 
 module _ {t : List ℕ} {head : Head} (x : Indexed t head) (p : Context) (h : 2 ≤ p .kind) (here : ℕ) where
   -- the nonterminal of an empty rule has none before it
@@ -89,7 +92,7 @@ module _ {t : List ℕ} {head : Head} (x : Indexed t head) (p : Context) (h : 2 
   Same n = waysIn t here p n ≡ endWays here (levelIn t p n)
 
   ways-level : (n : ℕ) → n ≤ head .rules → Same n
-  unfolding waysIn levelIn ones
+  unfolding waysIn levelIn
   ways-level zero l = rw (and-zero-r here)
   ways-level (suc n) l = go (appliesTo (ruleIn t n) p) refl (ways-level n (omega arith))
     where

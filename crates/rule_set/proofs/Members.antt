@@ -1,16 +1,17 @@
--- The members of a word: the lowest one, and how many there are.
-use Prim.Native.Nat.{ℕ, zero, suc, _+_, _-_, _*_, _/_, _%_, _^_, _<_, _≤_, min}
-use native.Mathlib.Nat.{pow-suc, mul-div-cancel, mul-mod-left, zero-min, min-zero, min-eq-left, min-le-left, max-zero, max-eq-right, zero-add, add-zero}
+-- The members of a word: the lowest one, those in common with another word, and whether there are any.
+use Prim.Native.Nat.{ℕ, zero, suc, _+_, _-_, _*_, _/_, _%_, _^_, _<_, _≤_}
+use native.Mathlib.Nat.{pow-suc, mul-div-cancel, mul-mod-left, zero-min, min-zero, max-zero, max-eq-right, add-zero}
 use native.Mathlib.Omega.{arith}
-use mathlib.Core.Path.{_≡_, refl, sym, _∙_, ap}
-use mathlib.Core.Bool.{false}
-use borrow.Author.Tests.{eqb-false}
-use lib.Bits.{bitAnd, and-step, or-step, and-self, or-zero-r}
-use lib.Count.{ones, ones-step, trailingZeros, under}
-use lib.Dec.{eqb, lit<}
+use mathlib.Core.Path.{_≡_, refl, sym, _∙_}
+use mathlib.Core.Logic.{⊎-elim}
+use mathlib.Core.Bool.{Bool, true, false, _&&_, _||_, false≢true, and-false, or-true, or-false}
+use borrow.Author.Tests.{eqb-true, lt-ltb, ltb-true, ltb-false}
+use lib.Bits.{bitAnd, bitOr, and-step, or-step, and-self, and-le-l, and-le-r, or-zero-r, or-add-and}
+use lib.Count.{trailingZeros, under}
+use lib.Dec.{eqb, ltb, lit<}
+use Rattle.laws.proofs.Bools.{both, or-cases, same-test, eqb-refl}
 use Rattle.bits.specs.Bit.{bit, addBit}
-use Rattle.bits.proofs.Bits.{bit-suc, bit-first}
-use Rattle.sets_theory.specs.believed.Sets.{one}
+use Rattle.bits.proofs.Bits.{bit-zero, bit-add, bit-and, same-members}
 
 -- ── a word with a member, digit by digit ──
 
@@ -57,33 +58,62 @@ lowest (suc k) n pos h = go (n % 2) refl (λ p. lowest k (n / 2) p (omega (arith
     go (suc zero) e below = record { within = omega arith; struck = rw (odd-rest n e, add-first, mul-div-cancel (n / 2) (lit< tt)) (omega arith) }
     go (suc (suc d)) e below = absurd (omega arith)
 
--- ── how many there are ──
+-- ── one member more, in common with h ──
 
-ones-and : (a b : ℕ) → ones (bitAnd a b) ≡ min (a % 2) (b % 2) + ones (bitAnd (a / 2) (b / 2))
-ones-and a b =
-    let least = min-le-left (a % 2) (b % 2) in
-    let low : bitAnd a b % 2 ≡ min (a % 2) (b % 2) = omega (arith, and-step a b) in
-    let high : bitAnd a b / 2 ≡ bitAnd (a / 2) (b / 2) = omega (arith, and-step a b) in
-    ones-step (bitAnd a b) ∙ rw (low, high)
+module _ (h m L : ℕ) where
+  digit : (b : ℕ) → bit (bitAnd h (addBit m L)) b ≡ (bit h b && (bit m b || eqb b L))
+  digit b = bit-and h (addBit m L) b ∙ rw (bit-add m L b)
 
-first-one : (h : ℕ) → one (bit h 0) ≡ h % 2
-first-one h = ap one (bit-first h) ∙ go (h % 2) (omega arith)
+  -- where h has it
+  pub and-with : bit h L ≡ true → bitAnd h (addBit m L) ≡ addBit (bitAnd h m) L
+  and-with e = same-members (bitAnd h (addBit m L)) (addBit (bitAnd h m) L) (λ b. digit b ∙ go b (eqb b L) refl ∙ sym (bit-add (bitAnd h m) L b ∙ rw (bit-and h m b)))
+    where
+      go : (b : ℕ) (x : Bool) → eqb b L ≡ x → (bit h b && (bit m b || x)) ≡ ((bit h b && bit m b) || x)
+      go b true q = let i : bit h b ≡ true = rw (eqb-true b L q) e in rw (i, or-true (bit m b))
+      go b false q = rw (or-false (bit m b), or-false (bit h b && bit m b))
+
+  -- and where it has not
+  pub and-without : bit h L ≡ false → bitAnd h (addBit m L) ≡ bitAnd h m
+  and-without e = same-members (bitAnd h (addBit m L)) (bitAnd h m) (λ b. digit b ∙ go b (eqb b L) refl ∙ sym (bit-and h m b))
+    where
+      go : (b : ℕ) (x : Bool) → eqb b L ≡ x → (bit h b && (bit m b || x)) ≡ (bit h b && bit m b)
+      go b true q = let i : bit h b ≡ false = rw (eqb-true b L q) e in rw i
+      go b false q = rw (or-false (bit m b))
+
+-- ── no member ──
+
+-- a word and the word of one number have something in common exactly where the number is a member
+common-digit : (m L b : ℕ) → bit (bitAnd m (addBit 0 L)) b ≡ (bit m b && eqb b L)
+common-digit m L b = bit-and m (addBit 0 L) b ∙ rw (bit-add 0 L b, bit-zero b)
+
+pub nothing-common : (m L : ℕ) → bit m L ≡ false → bitAnd m (addBit 0 L) ≡ 0
+nothing-common m L e = same-members (bitAnd m (addBit 0 L)) 0 (λ b. common-digit m L b ∙ go b (eqb b L) refl ∙ sym (bit-zero b))
   where
-    go : (d : ℕ) → d < 2 → one (eqb d 1) ≡ d
-    go zero l = refl
-    go (suc zero) l = refl
-    go (suc (suc d)) l = absurd (omega arith)
+    go : (b : ℕ) (x : Bool) → eqb b L ≡ x → (bit m b && x) ≡ false
+    go b true q = let i : bit m b ≡ false = rw (eqb-true b L q) e in rw i
+    go b false q = and-false (bit m b)
 
--- a new member of a word is one more in common with h where h has it
-pub ones-add : (h m L : ℕ) → bit m L ≡ false → ones (bitAnd h (addBit m L)) ≡ one (bit h L) + ones (bitAnd h m)
-ones-add h m zero e =
-    let even : m % 2 ≡ 0 = omega (arith, eqb-false (m % 2) 1 (sym (bit-first m) ∙ e)) in
-    let low : addBit m 0 % 2 ≡ 1 = omega (arith, add-first m) in
-    let high : addBit m 0 / 2 ≡ m / 2 = omega (arith, add-first m) in
-    let least : h % 2 ≤ 1 = omega arith in
-    ones-and h (addBit m 0) ∙ rw (low, high, min-eq-left least) (sym (rw (first-one h, ones-and h m, even, min-zero, zero-add)))
-ones-add h m (suc L) e =
-    let low : addBit m (suc L) % 2 ≡ m % 2 = omega (arith, add-later m L) in
-    let high : addBit m (suc L) / 2 ≡ addBit (m / 2) L = omega (arith, add-later m L) in
-    let rest = ones-add (h / 2) (m / 2) L (sym (bit-suc m L) ∙ e) in
-    ones-and h (addBit m (suc L)) ∙ rw (low, high, rest, bit-suc h L, ones-and h m) (omega arith)
+pub some-common : (m L : ℕ) → ltb 0 (bitAnd m (addBit 0 L)) ≡ bit m L
+some-common m L = go (bit m L) refl
+  where
+    go : (x : Bool) → bit m L ≡ x → ltb 0 (bitAnd m (addBit 0 L)) ≡ x
+    go true e = lt-ltb 0 (bitAnd m (addBit 0 L)) (above (bitAnd m (addBit 0 L)) (common-digit m L L ∙ both e (eqb-refl L)))
+      where
+        above : (n : ℕ) → bit n L ≡ true → 0 < n
+        above zero q = absurd (false≢true (sym (bit-zero L) ∙ q))
+        above (suc n) q = omega arith
+    go false e = rw (nothing-common m L e)
+
+-- a union has a member where one of both has
+pub some-union : (m n : ℕ) → ltb 0 (bitOr m n) ≡ (ltb 0 m || ltb 0 n)
+some-union m n = same-test _ _ left right
+  where
+    left : ltb 0 (bitOr m n) ≡ true → (ltb 0 m || ltb 0 n) ≡ true
+    left h = go (ltb 0 m) refl
+      where
+        go : (b : Bool) → ltb 0 m ≡ b → (b || ltb 0 n) ≡ true
+        go true e = refl
+        go false e = lt-ltb 0 n (omega (arith, ltb-true 0 (bitOr m n) h, ltb-false 0 m e, or-add-and m n))
+
+    right : (ltb 0 m || ltb 0 n) ≡ true → ltb 0 (bitOr m n) ≡ true
+    right h = lt-ltb 0 (bitOr m n) (⊎-elim (λ e. omega (arith, ltb-true 0 m e, or-add-and m n, and-le-r m n)) (λ e. omega (arith, ltb-true 0 n e, or-add-and m n, and-le-l m n)) (or-cases (ltb 0 m) (ltb 0 n) h))

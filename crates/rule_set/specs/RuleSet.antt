@@ -1,14 +1,15 @@
 -- The set of rules at a position, rule by rule.
--- Law: words-held, held-count (rule_set/proofs/RuleSet.antt)
-use Prim.Native.Nat.{ℕ, zero, suc, _+_}
+-- Law: words-held, choice-two (rule_set/proofs/RuleSet.antt)
+use Prim.Native.Nat.{ℕ, zero, suc}
 use mathlib.Core.Bool.{Bool, cond, _&&_}
 use mathlib.Core.List.{List}
 use mathlib.Core.Option.{Option, none, some}
+use lib.Bits.{bitAnd, bitOr}
 use lib.ListN.{replicate}
 use Rattle.bits.specs.Bit.{bit, addBit}
 use Rattle.vpg.specs.declared.Rule.{Rule}
+use Rattle.vpg.specs.believed.Grammar.{left}
 use Rattle.vpg.specs.Parts.{onward, beyond}
-use Rattle.vpg.specs.Steps.{left}
 use Rattle.tables.specs.Table.{ruleIn}
 use Rattle.contexts.specs.declared.Context.{Context}
 use Rattle.contexts.specs.Context.{appliesTo}
@@ -31,14 +32,18 @@ nextWith x R = withSome x (onward R)
 abbrev pub behindWith : ℕ → Rule → ℕ
 behindWith x R = withSome x (beyond R)
 
+-- the nonterminals that two rules are for, with one rule more, which is for L
+abbrev pub twiceWith : ℕ → ℕ → ℕ → ℕ
+twiceWith twice met L = bitOr twice (bitAnd met (addBit 0 L))
+
 abbrev pub waysWith : Ways → Rule → Ways
-waysWith x R = record { held = x .held + 1; next = nextWith (x .next) R; behind = behindWith (x .behind) R }
+waysWith x R = record { met = addBit (x .met) (left R); twice = twiceWith (x .twice) (x .met) (left R); next = nextWith (x .next) R; behind = behindWith (x .behind) R }
 
 abbrev pub waysTurn : Ways → ℕ → Context → Rule → Ways
 waysTurn x here context R = cond (keepsAt here context R) (waysWith x R) x
 
 abbrev pub noWays : Ways
-noWays = record { held = 0; next = 0; behind = 0 }
+noWays = record { met = 0; twice = 0; next = 0; behind = 0 }
 
 -- the ways on of those of the first n rules of a table that are in the set
 unfoldable pub waysIn : List ℕ → ℕ → Context → ℕ → Ways

@@ -1,4 +1,4 @@
-// The set of rules at a position: in words, how many rules it holds, and the nonterminals with which they go on.
+// The set of rules at a position: in words, the nonterminals that two of its rules are for, and those with which they go on.
 use contexts::Context;
 use tables::Head;
 use tables::Table;
@@ -14,11 +14,13 @@ ghost use Rattle.contexts.specs.declared.Context.{Context};
 ghost use Rattle.contexts.specs.Context.{tokenHere};
 ghost use Rattle.rule_set.specs.Words.{addIn};
 ghost use Rattle.rule_set.specs.Ends.{endWays};
-ghost use Rattle.rule_set.specs.RuleSet.{keepsAt, nextWith, behindWith, waysWith, waysTurn, noWays, waysIn, wordsIn};
+ghost use Rattle.rule_set.specs.RuleSet.{keepsAt, nextWith, behindWith, twiceWith, waysWith, waysTurn, noWays, waysIn, wordsIn};
 
-// How many rules the set at a position holds, the nonterminals at the next position and those behind the close.
+// What the set at a position says: the nonterminals that its rules are for, those that two rules are for, the nonterminals at the next position
+// and those behind the close. They are four words: a flag beside them would leave bytes that the compiled loop copies at every rule.
 pub struct Ways {
-    pub held: u32,
+    pub met: u32,
+    pub twice: u32,
     pub next: u32,
     pub behind: u32,
 }
@@ -67,15 +69,28 @@ fn add(words: &mut [u32], r: usize)
     words[r / 32] = bits::with(words[r / 32], r % 32);
 }
 
-// The ways on, with those of a rule of the set.
-fn ways_with(ways: Ways, rule: Rule) -> Ways
-    requires { ⌜ (ways .held < 128) × Below 32 rule ⌝ }
-    ensures { λ x. ⌜ x ≡ waysWith ways rule ⌝ }
+// The nonterminals that two rules are for, with one rule more, which is for l: it is the second where l was met before.
+fn twice_with(twice: u32, met: u32, l: usize) -> u32
+    requires { ⌜ l < 32 ⌝ }
+    ensures { λ r. ⌜ r ≡ twiceWith twice met l ⌝ }
 {
+    twice | (met & bits::with(0, l))
+}
+
+// The ways on, with those of rule r of the set.
+fn ways_with(ways: Ways, table: &Table, r: usize) -> Ways
+    requires { ⌜ (r < 128) × Below 32 (ruleIn (now table) r) ⌝ }
+    ensures { λ x. ⌜ x ≡ waysWith ways (ruleIn (now (table .entry)) r) ⌝ }
+{
+    let l = tables::left_in(table, r) as usize;
+    let rule = tables::rule_of(table, r);
+    let twice = twice_with(ways.twice, ways.met, l);
+    let met = bits::with(ways.met, l);
     let next = next_with(ways.next, rule);
     let behind = behind_with(ways.behind, rule);
     Ways {
-        held: ways.held + 1,
+        met,
+        twice,
         next,
         behind,
     }
@@ -86,7 +101,8 @@ fn no_ways() -> Ways
     ensures { λ x. ⌜ x ≡ noWays ⌝ }
 {
     Ways {
-        held: 0,
+        met: 0,
+        twice: 0,
         next: 0,
         behind: 0,
     }
@@ -125,7 +141,7 @@ fn class_set(table: &Table, head: Head, here: u32, context: Context, words: &mut
         r = rule_index::next_of(table, k);
         if keeps(here, table, k, context) {
             add(words, k);
-            ways = ways_with(ways, tables::rule_of(table, k));
+            ways = ways_with(ways, table, k);
         }
     }
     ways
@@ -149,12 +165,13 @@ fn ends_words(table: &Table, head: Head, here: u32, words: &mut [u32])
     }
 }
 
-// The ways on at a close: these rules lead nowhere.
+// The ways on at a close: these rules lead nowhere, and no two are for one nonterminal.
 fn ends_ways(table: &Table, here: u32) -> Ways
     ensures { λ x. ⌜ x ≡ endWays here (endsIn (now (table .entry))) ⌝ }
 {
     Ways {
-        held: u32::count_ones(here & rule_index::ends(table)),
+        met: here & rule_index::ends(table),
+        twice: 0,
         next: 0,
         behind: 0,
     }
@@ -175,11 +192,11 @@ pub fn set_at(table: &Table, head: Head, here: u32, context: Context, words: &mu
 
 // The ways on, with those of rule r where it is in the set.
 fn ways_turn(ways: Ways, here: u32, table: &Table, r: usize, context: Context) -> Ways
-    requires { ⌜ (ways .held < 128) × (r < 128) × Below 32 (ruleIn (now table) r) ⌝ }
+    requires { ⌜ (r < 128) × Below 32 (ruleIn (now table) r) ⌝ }
     ensures { λ x. ⌜ x ≡ waysTurn ways here context (ruleIn (now (table .entry)) r) ⌝ }
 {
     if keeps(here, table, r, context) {
-        ways_with(ways, tables::rule_of(table, r))
+        ways_with(ways, table, r)
     } else {
         ways
     }

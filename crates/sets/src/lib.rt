@@ -1,4 +1,4 @@
-// The services sets and doubtful count, over the two files as bytes.
+// The services sets and choice count, over the two files as bytes.
 use service::Opened;
 use service::Outcome;
 use tables::Head;
@@ -7,7 +7,7 @@ ghost use mathlib.Core.Path.{_≡_};
 ghost use mathlib.Core.List.{_++_};
 ghost use Prim.Native.Nat.{_+_, _*_, _≤_};
 ghost use lib.ListN.{length, drop};
-ghost use Rattle.sets_theory.specs.believed.Sets.{setWords, doubtfulCount};
+ghost use Rattle.sets_theory.specs.believed.Sets.{setWords, choiceCount};
 ghost use Rattle.level_theory.specs.Pending.{WellMatched};
 ghost use Rattle.tables.specs.Ready.{grammarIn};
 ghost use Rattle.rule_index.specs.Index.{Indexed};
@@ -16,7 +16,7 @@ ghost use Rattle.history_file.specs.HistoryTokens.{Tokens};
 ghost use Rattle.service.specs.believed.Given.{outcomeSaid};
 ghost use Rattle.sets.specs.believed.Sets.{setsDue, countSaid, countDue};
 
-// How many positions are doubtful, or document 01's number of the refusal.
+// How many positions are choices, or document 01's number of the refusal.
 pub enum CountAnswer {
     Count(u32),
     Refused(u8),
@@ -33,14 +33,14 @@ fn sets_on(table: &Table, head: Head, tokens: &[u32], words: &mut [u32])
     sets_core::sets(table, head, tokens, &closes, &masks, words);
 }
 
-fn doubtful_on(table: &Table, head: Head, tokens: &[u32]) -> u32
+fn choices_on(table: &Table, head: Head, tokens: &[u32]) -> u32
     requires { ⌜ Indexed (now table) head ⌝ }
     requires { ⌜ Tokens (now tokens) × WellMatched (tokensOf (now tokens)) ⌝ }
-    ensures { λ r. ⌜ r ≡ doubtfulCount (grammarIn (now (table .entry)) head) (tokensOf (now (tokens .entry))) ⌝ }
+    ensures { λ r. ⌜ r ≡ choiceCount (grammarIn (now (table .entry)) head) (tokensOf (now (tokens .entry))) ⌝ }
 {
     let closes = levels::closes_of(tokens);
     let masks = levels::masks_of(table, head, tokens, &closes);
-    sets_core::doubtful(table, head, tokens, &closes, &masks)
+    sets_core::choices(table, head, tokens, &closes, &masks)
 }
 
 // Writes four words for each position: the set of rules that stand there in some reading.
@@ -57,8 +57,8 @@ pub fn sets(grammar: &[u8], history: &[u8], words: &mut [u32]) -> Outcome
     Outcome::Done
 }
 
-// How many positions have more than one rule in their set.
-pub fn doubtful_count(grammar: &[u8], history: &[u8]) -> CountAnswer
+// How many positions are choices: two rules of their set are for one nonterminal.
+pub fn choice_count(grammar: &[u8], history: &[u8]) -> CountAnswer
     ensures { λ r. ⌜ countSaid r ≡ countDue (now (grammar .entry)) (now (history .entry)) ⌝ }
 {
     let mut table = [0u16; 1154];
@@ -67,5 +67,5 @@ pub fn doubtful_count(grammar: &[u8], history: &[u8]) -> CountAnswer
     let Opened::Files(head, n) = opened else {
         return CountAnswer::Refused(service::refusal_of(opened));
     };
-    CountAnswer::Count(doubtful_on(&table, head, &tokens[..n]))
+    CountAnswer::Count(choices_on(&table, head, &tokens[..n]))
 }

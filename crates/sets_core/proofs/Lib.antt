@@ -1,3 +1,3 @@
-pub mod Doubts
+pub mod Counts
 pub mod Pass
 pub mod Written

@@ -1,5 +1,5 @@
 -- The pass over the positions: where it begins, one turn of it, and the set that it finds at a position.
-use Prim.Native.Nat.{ℕ, zero, suc, _*_, _+_, _<_, _≤_}
+use Prim.Native.Nat.{ℕ, suc, _*_, _+_, _<_, _≤_}
 use native.Mathlib.Numerals.{add-one}
 use native.Mathlib.Omega.{arith}
 use mathlib.Core.Path.{_≡_, refl, sym, _∙_, ap, fun-ext}
@@ -11,14 +11,16 @@ use lib.Bits.{bitOr}
 use lib.Dec.{eqb, ltb}
 use lib.ListN.{length, getD, set, drop, replicate, getElem?, length-set}
 use lib.Seq.{ext-getD, getD-set-same, getD-set-other}
+use Rattle.laws.specs.Any.{anyBelow}
+use Rattle.laws.proofs.Any.{below-same}
 use Rattle.bits.specs.Bit.{bit, addBit}
 use Rattle.bits.proofs.Bits.{bit-zero, bit-add, bit-or}
 use Rattle.vpg.specs.declared.Rule.{Rule}
 use Rattle.vpg.specs.declared.Token.{Token}
-use Rattle.vpg.specs.believed.Grammar.{Rules, Grammar}
-use Rattle.vpg.specs.Steps.{left}
+use Rattle.vpg.specs.believed.Grammar.{Rules, Grammar, left}
+use Rattle.sets_theory.specs.ChoiceTest.{metBefore, choice}
 use Rattle.sets_theory.specs.KeptTest.{kept}
-use Rattle.sets_theory.specs.believed.Sets.{count, doubtful, listed, wordOf, setWord}
+use Rattle.sets_theory.specs.believed.Sets.{listed, wordOf, setWord}
 use Rattle.sets_theory.proofs.Sets.{length-listed, getD-listed}
 use Rattle.level_theory.specs.Pending.{pendingAt, closeOf}
 use Rattle.level_theory.specs.Kept.{keeps, going, returning, passed, Front}
@@ -35,7 +37,7 @@ use Rattle.levels.proofs.Setting.{closing, closing-room, close-room}
 use Rattle.rule_set.specs.declared.Ways.{Ways}
 use Rattle.rule_set.specs.RuleSet.{keepsAt, waysIn, wordsIn}
 use Rattle.rule_set.specs.Words.{Held}
-use Rattle.rule_set.proofs.RuleSet.{held-count, words-held, next-going, behind-returning}
+use Rattle.rule_set.proofs.RuleSet.{Again, choice-two, words-held, next-going, behind-returning}
 use Rattle.rule_set.proofs.Words.{zeros, held-word}
 use Rattle.sets_core.specs.Start.{startSet}
 
@@ -49,12 +51,6 @@ start-bit m s L = go (bit m s) refl (eqb L s) refl
     go true e false q = bit-add 0 s L ∙ rw (bit-zero L, q)
     go false e true q = bit-zero L ∙ sym (rw (eqb-true L s q) e)
     go false e false q = bit-zero L
-
--- how many pass, of two tests that agree below n
-count-same : (n : ℕ) (f f′ : ℕ → Bool) → ((r : ℕ) → r < n → f r ≡ f′ r) → count n f ≡ count n f′
-unfolding count
-count-same zero f f′ h = refl
-count-same (suc n) f f′ h = rw (h n (omega arith), count-same n f f′ (λ r l. h r (omega arith)))
 
 -- `here` are the nonterminals that can stand at position p, and `behind` has those that can stand behind each close
 abbrev pub Fronted : List ℕ → Head → List ℕ → ℕ → ℕ → List ℕ → Type 0
@@ -168,9 +164,15 @@ module _ {t : List ℕ} {head : Head} {ts m mask : List ℕ} (x : Setting t head
               ∙ ap (wordOf 32) (fun-ext (λ b. sym (set-here (32 * i + b))))
               ∙ sym (getD-listed 4 (setWord g W p) i 0 (rw (held .0) at l))
 
-      -- "a position is doubtful when its set holds more than one rule"
-      pub doubtful-here : {r : Ways} → r ≡ waysIn t here context n → doubtful g W p ≡ ltb 1 (r .held)
-      unfolding doubtful
-      doubtful-here {r} e =
-          let d : r .held ≡ count n (kept g W p) = rw e (held-count t here context n) ∙ sym (count-same n (kept g W p) (λ q. keepsAt here context (ruleIn t q)) (λ q l. set-here q ∙ rw (lt-ltb q n l))) in
-          rw (length-rules t n, d)
+      in-set : (q : ℕ) → q < n → kept g W p q ≡ keepsAt here context (ruleIn t q)
+      in-set q l = set-here q ∙ rw (lt-ltb q n l)
+
+      met-here : (q : ℕ) → q < n → metBefore g W p q ≡ anyBelow q (λ q′. keepsAt here context (ruleIn t q′) && eqb (left (ruleIn t q′)) (left (ruleIn t q)))
+      met-here q l = below-same q _ _ (λ q′ l′. let b : q′ < n = omega arith in rw (in-set q′ b, rules-at t n q′ b, rules-at t n q l))
+
+      -- "a position is now a choice when its set holds two rules of one and the same stage"
+      pub choice-here : {r : Ways} → r ≡ waysIn t here context n → choice g W p ≡ ltb 0 (r .twice)
+      unfolding choice
+      choice-here {r} e =
+          rw (length-rules t n) (below-same n _ (Again t here context) (λ q l. rw (in-set q l, met-here q l)))
+          ∙ sym (ap (λ (x : Ways). ltb 0 (x .twice)) e ∙ choice-two t here context n)

@@ -1,4 +1,4 @@
-// The cores of sets and of the doubtful count: one pass from left to right over the positions.
+// The cores of sets and of the choice count: one pass from left to right over the positions.
 use levels::Closes;
 use levels::Masks;
 use rule_set::Ways;
@@ -10,7 +10,7 @@ ghost use Prim.Native.Nat.{_+_, _*_, _<_, _≤_};
 ghost use lib.Bits.{bitOr};
 ghost use lib.Dec.{ltb};
 ghost use lib.ListN.{length, drop, getD, set};
-ghost use Rattle.sets_theory.specs.believed.Sets.{one, doubtfulCount, setWords};
+ghost use Rattle.sets_theory.specs.believed.Sets.{one, choiceCount, setWords};
 ghost use Rattle.tables.specs.Ready.{grammarIn};
 ghost use Rattle.history_file.specs.believed.HistoryFile.{tokensOf};
 ghost use Rattle.levels.specs.Levels.{Setting};
@@ -67,18 +67,18 @@ pub fn sets(
     }
 }
 
-// One more where the set holds more than one rule.
-fn counted(total: u32, held: u32) -> u32
+// One more where the position is a choice: some nonterminal has two rules in its set.
+fn counted(total: u32, twice: u32) -> u32
     requires { ⌜ total < 2000 ⌝ }
-    ensures { λ r. ⌜ r ≡ one (ltb 1 held) + total ⌝ }
+    ensures { λ r. ⌜ r ≡ one (ltb 0 twice) + total ⌝ }
 {
-    if 1 < held { total + 1 } else { total }
+    if 0 < twice { total + 1 } else { total }
 }
 
-// How many positions are doubtful.
-pub fn doubtful(table: &Table, head: Head, tokens: &[u32], closes: &Closes, masks: &Masks) -> u32
+// How many positions are choices.
+pub fn choices(table: &Table, head: Head, tokens: &[u32], closes: &Closes, masks: &Masks) -> u32
     requires { ⌜ Setting (now table) head (now tokens) (now closes) (now masks) ⌝ }
-    ensures { λ r. ⌜ r ≡ doubtfulCount (grammarIn (now (table .entry)) head) (tokensOf (now (tokens .entry))) ⌝ }
+    ensures { λ r. ⌜ r ≡ choiceCount (grammarIn (now (table .entry)) head) (tokensOf (now (tokens .entry))) ⌝ }
 {
     let mut behind = [0u32; 1025];
     let mut here = start_set(masks[0], head.start);
@@ -91,7 +91,7 @@ pub fn doubtful(table: &Table, head: Head, tokens: &[u32], closes: &Closes, mask
             here,
             levels::context_at(tokens, closes, masks, p),
         );
-        total = counted(total, ways.held);
+        total = counted(total, ways.twice);
         here = onward(&mut behind, p, closes[p], ways);
         p += 1;
     }

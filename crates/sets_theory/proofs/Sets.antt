@@ -1,21 +1,19 @@
--- The tests say what they are to say: sets, doubtful positions and stop marks, of readings and of entries.
-use Prim.Native.Nat.{ℕ, zero, suc, _+_, _≤_, _<_}
-use native.Mathlib.Nat.{le-of-suc-le-suc, eq-or-lt-of-le}
+-- The tests say what they are to say: sets and stop marks, of readings and of entries.
+use Prim.Native.Nat.{ℕ, zero, suc, _≤_, _<_}
+use native.Mathlib.Nat.{le-of-suc-le-suc}
 use native.Mathlib.Omega.{arith}
-use mathlib.Core.Path.{_≡_, refl, sym, _∙_, ap, ap₂}
-use mathlib.Core.Logic.{_⊎_, ⊎-elim, _↔_, _≢_}
-use mathlib.Core.Bool.{Bool, true, false, false≢true, or-true}
-use mathlib.Core.List.{List, [], _∷_, List·Memᴰ, List·Memᴰ·head, List·Memᴰ·tail, List·Memᴰ·not-nil, List·Memᴰ·cases-cons, List·Memᴰ·eq-of-singleton}
+use mathlib.Core.Path.{_≡_, refl, ap, ap₂}
+use mathlib.Core.Logic.{⊎-elim, _↔_}
+use mathlib.Core.Bool.{true, false≢true, or-true}
+use mathlib.Core.List.{List, [], _∷_, List·Memᴰ, List·Memᴰ·head, List·Memᴰ·tail, List·Memᴰ·not-nil, List·Memᴰ·cases-cons}
 use mathlib.Core.Option.{some, Option·none-ne-some, Option·some-injective}
-use borrow.Author.Tests.{eqb-true, eq-eqb, ltb-true, lt-ltb}
+use borrow.Author.Tests.{eqb-true, eq-eqb}
 use lib.ListN.{length, take, getD, getElem?}
-use Rattle.laws.specs.Distinct.{Distinct}
 use Rattle.vpg.specs.declared.Token.{Token}
 use Rattle.vpg.specs.believed.Grammar.{Rules, Grammar, Tree, code, Derives, by-empty, by-mark, by-step, Reading}
-use Rattle.sets_theory.specs.Counted.{Counted}
 use Rattle.vpg.specs.Runs.{entries}
 use Rattle.sets_theory.specs.KeptTest.{standsAt, standsIn, kept}
-use Rattle.sets_theory.specs.believed.Sets.{Kept, one, count, doubtful, doubtfulCount, marked, stopMark, listed, stopMarks}
+use Rattle.sets_theory.specs.believed.Sets.{Kept, marked, stopMark, listed, stopMarks}
 use Rattle.laws.proofs.Bools.{or-cases}
 use Rattle.laws.proofs.Lists.{at-cases, at-below}
 use Rattle.vpg.proofs.Entries.{reading-length}
@@ -64,79 +62,6 @@ code-below g (by-step {t} {u} q d d′) (suc p) r h = ⊎-elim (λ k. code-below
 -- no set reaches past the rules, or past position n
 pub kept-below : (g : Grammar) (w : List Token) (p r : ℕ) → Kept g w p r → (r < length (g .rules)) × (p ≤ length w)
 kept-below g w p r (e, h, s) = (code-below (g .rules) (h .1) p r (rw (h .2) s), omega (arith, at-below e p s, reading-length g w e h))
-
--- ── doubtful positions ──
-
--- `count` counts
-counted : (n : ℕ) (f : ℕ → Bool) → Counted (λ i. (i < n) × (f i ≡ true)) (count n f)
-unfolding count
-counted zero f = record { numbers = []; distinct = tt; members = λ i. (λ m. absurd (List·Memᴰ·not-nil m), λ h. absurd (omega arith)); size = refl }
-counted (suc n) f = go (f n) refl (counted n f)
-  where
-    go : (b : Bool) → f n ≡ b → Counted (λ i. (i < n) × (f i ≡ true)) (count n f) → Counted (λ i. (i < suc n) × (f i ≡ true)) (one b + count n f)
-    go true q c =
-        record {
-          numbers = n ∷ c .numbers;
-          distinct = (λ m. omega (arith, c .members n .0 m .0), c .distinct);
-          members = λ i. (
-            λ m. ⊎-elim (λ e. (omega arith, rw e q)) (λ m′. let h = c .members i .0 m′ in (omega arith, h .1)) (List·Memᴰ·cases-cons m),
-            λ h. ⊎-elim (λ e. List·Memᴰ·head e) (λ l. List·Memᴰ·tail (c .members i .1 (l, h .1))) (eq-or-lt-of-le (le-of-suc-le-suc (h .0))),
-          );
-          size = omega (arith, c .size);
-        }
-    go false q c =
-        record {
-          numbers = c .numbers;
-          distinct = c .distinct;
-          members = λ i. (
-            λ m. let h = c .members i .0 m in (omega arith, h .1),
-            λ h. ⊎-elim (λ e. absurd (false≢true (sym q ∙ rw e at (h .1)))) (λ l. c .members i .1 (l, h .1)) (eq-or-lt-of-le (le-of-suc-le-suc (h .0))),
-          );
-          size = omega (arith, c .size);
-        }
-
-two-of : (l : List ℕ) → Distinct l → 1 < length l → (a : ℕ) × (b : ℕ) × (a ≢ b) × List·Memᴰ a l × List·Memᴰ b l
-two-of [] d h = absurd (omega arith)
-two-of (a ∷ []) d h = absurd (omega arith)
-two-of (a ∷ b ∷ l) d h = (a, b, λ e. d .0 (List·Memᴰ·head e), List·Memᴰ·head refl, List·Memᴰ·tail (List·Memᴰ·head refl))
-
-of-two : (l : List ℕ) (a b : ℕ) → a ≢ b → List·Memᴰ a l → List·Memᴰ b l → 1 < length l
-of-two [] a b d m m′ = absurd (List·Memᴰ·not-nil m)
-of-two (x ∷ []) a b d m m′ = absurd (d (List·Memᴰ·eq-of-singleton m ∙ sym (List·Memᴰ·eq-of-singleton m′)))
-of-two (x ∷ y ∷ l) a b d m m′ = omega arith
-
--- "its set holds more than one rule"
-pub doubtful-is : (g : Grammar) (w : List Token) (p : ℕ) → (doubtful g w p ≡ true) ↔ ((r : ℕ) × (r′ : ℕ) × (r ≢ r′) × Kept g w p r × Kept g w p r′)
-unfolding doubtful
-doubtful-is g w p = (
-  λ h.
-      let t = two-of (c .numbers) (c .distinct) (omega (arith, ltb-true, c .size)) in
-      (t .0, t .1, t .2, kept-is g w p (t .0) .0 (c .members (t .0) .0 (t .3) .1), kept-is g w p (t .1) .0 (c .members (t .1) .0 (t .4) .1)),
-  λ h. lt-ltb 1 (count (length (g .rules)) (kept g w p)) (omega (arith, c .size, of-two (c .numbers) (h .0) (h .1) (h .2) (member (h .3)) (member (h .4)))),
-)
-  where
-    c : Counted (λ r. (r < length (g .rules)) × (kept g w p r ≡ true)) (count (length (g .rules)) (kept g w p))
-    c = counted (length (g .rules)) (kept g w p)
-
-    member : {r : ℕ} → Kept g w p r → List·Memᴰ r (c .numbers)
-    member {r} k = c .members r .1 (kept-below g w p r k .0, kept-is g w p r .1 k)
-
--- "how many positions are doubtful"
-pub doubtful-count-is : (g : Grammar) (w : List Token) → Counted (λ p. doubtful g w p ≡ true) (doubtfulCount g w)
-unfolding doubtfulCount
-doubtful-count-is g w =
-    let c = counted (suc (length w)) (doubtful g w) in
-    record {
-      numbers = c .numbers;
-      distinct = c .distinct;
-      members = λ p. (λ m. c .members p .0 m .1, λ h. c .members p .1 (within p h, h));
-      size = c .size;
-    }
-  where
-    within : (p : ℕ) → doubtful g w p ≡ true → p < suc (length w)
-    within p h =
-        let k = doubtful-is g w p .0 h in
-        omega (arith, kept-below g w p (k .0) (k .3) .1)
 
 -- ── stop marks ──
 

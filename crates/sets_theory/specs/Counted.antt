@@ -1,5 +1,5 @@
 -- How many numbers have a property.
--- Law: doubtful-count-is (sets_theory/proofs/Sets.antt)
+-- Law: choice-count-is (sets_theory/proofs/Choices.antt)
 use Prim.Native.Nat.{ℕ}
 use mathlib.Core.Path.{_≡_}
 use mathlib.Core.Logic.{_↔_}

@@ -1,3 +1,4 @@
 pub mod believed
+pub mod ChoiceTest
 pub mod Counted
 pub mod KeptTest

@@ -1,1 +1,1 @@
-// The set at a position, doubtful positions and stop marks: what they are. Definitions and theorems alone.
+// The set at a position, choices and stop marks: what they are. Definitions and theorems alone.

@@ -9,7 +9,7 @@ use native.Mathlib.Omega.{arith}
 use lib.Dec.{eqb}
 use borrow.Author.Tests.{eqb-true, eq-eqb}
 use Rattle.vpg.specs.declared.Rule.{Rule}
-use Rattle.vpg.specs.Steps.{left}
+use Rattle.vpg.specs.believed.Grammar.{left}
 use Rattle.tables.specs.declared.Six.{Six}
 use Rattle.tables.specs.Table.{sixOf, ruleFrom, sameSix, sameRule, earlier, ruleIn, rulesIn}
 use Rattle.tables.proofs.Tables.{from-of}

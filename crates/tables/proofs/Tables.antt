@@ -13,7 +13,7 @@ use lib.Dec.{eqb}
 use lib.ListN.{length, getD, getElem?, set, replicate, length-set, length-append, List·getD-append}
 use lib.Seq.{getD-set-same, getD-set-other, ext-getD}
 use Rattle.vpg.specs.declared.Rule.{Rule}
-use Rattle.vpg.specs.Steps.{left}
+use Rattle.vpg.specs.believed.Grammar.{left}
 use Rattle.laws.proofs.Lists.{at-left, at-below}
 use Rattle.tables.specs.declared.Six.{Six}
 use Rattle.tables.specs.Table.{sixOf, sixIn, ruleFrom, ruleIn, rulesIn, putSix, fill, tableOf}

@@ -6,9 +6,8 @@ use mathlib.Core.Logic.{_≢_}
 use mathlib.Core.Option.{Option, none, some}
 use lib.ListN.{length}
 use Rattle.vpg.specs.declared.Rule.{Rule}
-use Rattle.vpg.specs.believed.Grammar.{Rules, Grammar}
+use Rattle.vpg.specs.believed.Grammar.{Rules, Grammar, left}
 use Rattle.vpg.specs.Parts.{onward, beyond}
-use Rattle.vpg.specs.Steps.{left}
 use Rattle.tables.specs.declared.Head.{Head}
 use Rattle.tables.specs.Table.{ruleIn, rulesIn}
 

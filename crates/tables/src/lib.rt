@@ -6,7 +6,7 @@ use vpg::Rule;
 ghost use mathlib.Core.Path.{_≡_};
 ghost use mathlib.Core.Bool.{_&&_};
 ghost use Prim.Native.Nat.{_*_, _≤_, _<_};
-ghost use Rattle.vpg.specs.Steps.{left};
+ghost use Rattle.vpg.specs.believed.Grammar.{left};
 ghost use Rattle.tables.specs.Table.{sixOf, ruleFrom, sixIn, ruleIn, rulesIn, putSix, sameRule, earlier};
 ghost use Rattle.tables.specs.Keys.{keyIn, hasKey, withKey, Keyed};
 

@@ -33,12 +33,23 @@ struct Turn {
 const TURNS: u32 = 4000000;
 
 // Field k of rule r: the form, then the fields in file order. The start stands before the first rule.
-fn field(rules: &[u32], r: u8, k: u8) -> usize {
+fn field(rules: &[u32], r: u8, k: u8) -> usize
+    ensures { λ x. ⌜ x ≤ 4294967295 ⌝ }
+{
     number_at(rules, 1 + wide(r) * 6 + wide(k))
 }
 
+// The nonterminal on the left of rule r.
+pub fn left_side(rules: &[u32], r: u8) -> usize
+    ensures { λ x. ⌜ x ≤ 4294967295 ⌝ }
+{
+    field(rules, r, 1)
+}
+
 // How many rules there are; the start is less than a rule.
-fn rule_count(rules: &[u32]) -> u8 {
+pub fn rule_count(rules: &[u32]) -> u8
+    ensures { λ r. ⌜ r ≤ 255 ⌝ }
+{
     (rules.len() / 6 % 256) as u8
 }
 
@@ -103,7 +114,7 @@ fn makes(rules: &[u32], tokens: &[u32], path: &[u8], p: usize, r: u8) -> bool
 fn fits(rules: &[u32], tokens: &[u32], path: &[u8], p: usize, r: u8) -> bool
     requires { ⌜ p < 2000 ⌝ }
 {
-    if field(rules, r, 1) != nonterminal_at(rules, tokens, path, p) {
+    if left_side(rules, r) != nonterminal_at(rules, tokens, path, p) {
         return false;
     }
     if p < tokens.len() {

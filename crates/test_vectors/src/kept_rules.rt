@@ -1,7 +1,6 @@
-// Sets and doubtful count, compared with what the enumerator's list has at each position.
+// Sets, compared with the rules that the enumerator's list has at each position.
 use crate::entries::Entries;
 use service::Outcome;
-use sets::CountAnswer;
 use test_enumerator::at;
 ghost use Prim.Native.Nat.{_≤_, _<_};
 
@@ -9,7 +8,7 @@ ghost use Prim.Native.Nat.{_≤_, _<_};
 pub const FILLER: u32 = 4026531847;
 
 // Whether some entry has rule r at position p.
-fn stands(list: &[u8], entries: Entries, p: usize, r: usize) -> bool
+pub(crate) fn stands(list: &[u8], entries: Entries, p: usize, r: usize) -> bool
     requires { ⌜ p ≤ 70000 ⌝ }
 {
     let size = entries.size as usize;
@@ -65,42 +64,4 @@ pub(crate) fn same_sets(grammar: &[u8], history: &[u8], list: &[u8], entries: En
         return false;
     }
     right_bits(words, list, entries)
-}
-
-// 1 where some entry has another rule at position p than the first entry has.
-fn doubtful_at(list: &[u8], entries: Entries, p: usize) -> u32
-    requires { ⌜ p ≤ 70000 ⌝ }
-    ensures { λ r. ⌜ r ≤ 1 ⌝ }
-{
-    let size = entries.size as usize;
-    let end = entries.end as usize;
-    if size == 0 {
-        return 0;
-    }
-    let first = at(list, p);
-    let mut i = p;
-    while i < end && at(list, i) == first {
-        i += size;
-    }
-    if i < end { 1 } else { 0 }
-}
-
-fn doubtful(list: &[u8], entries: Entries) -> u32 {
-    let size = entries.size as usize;
-    let mut total: u32 = 0;
-    let mut p: usize = 0;
-    while p < size {
-        total += doubtful_at(list, entries, p);
-        p += 1;
-    }
-    total
-}
-
-// Whether the doubtful count is the number of positions at which the entries differ.
-pub(crate) fn same_count(grammar: &[u8], history: &[u8], list: &[u8], entries: Entries) -> bool {
-    let answer = sets::doubtful_count(grammar, history);
-    let CountAnswer::Count(count) = answer else {
-        return false;
-    };
-    count == doubtful(list, entries)
 }

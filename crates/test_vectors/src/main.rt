@@ -2,6 +2,7 @@
 // A case is 13 bytes: the number that is due (0: both files pass), what to do (1: show what is found, 2: compare the marks), then two
 // bytes each, low byte first: how many bytes of readings to list, the lengths of label, grammar, history, buffer; one for the calls.
 mod called;
+mod choices;
 mod compare;
 mod entries;
 mod kept_rules;
@@ -33,10 +34,6 @@ fn compare_whole(
     tell(
         b"sets",
         kept_rules::same_sets(grammar, history, list, entries),
-    );
-    tell(
-        b"doubtful count",
-        kept_rules::same_count(grammar, history, list, entries),
     );
     tell(
         b"calls",
@@ -85,6 +82,7 @@ fn compare_read(
     shown::say_count(entries);
     tell(b"list", listed::same_list(grammar, history, list, entries));
     compare_short(grammar, history, rules, tokens, what / 2 % 2 == 1);
+    choices::compare_count(grammar, history, rules, list, entries);
     compare_whole(grammar, history, kinds, answers, buffer, list, entries);
     io::write_all(libc::STDOUT_FILENO, b"\n");
     if what % 2 == 1 {

@@ -16,7 +16,7 @@ fn sets_refused(grammar: &[u8], history: &[u8], buffer: &mut [u32], due: u8) -> 
 }
 
 fn count_refused(grammar: &[u8], history: &[u8], due: u8) -> bool {
-    let answer = sets::doubtful_count(grammar, history);
+    let answer = sets::choice_count(grammar, history);
     let CountAnswer::Refused(number) = answer else {
         return false;
     };

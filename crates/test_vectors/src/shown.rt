@@ -26,6 +26,13 @@ pub(crate) fn say_count(entries: Entries) {
     say(b";");
 }
 
+// How many choices the service counts.
+pub(crate) fn say_choices(count: u32) {
+    say(b" choices ");
+    io::print_decimal(OUT, count as u64);
+    say(b";");
+}
+
 // What was compared, and whether it is the same.
 pub(crate) fn tell(what: &[u8], same: bool) {
     say(b" ");

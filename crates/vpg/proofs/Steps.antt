@@ -7,8 +7,8 @@ use mathlib.Core.Option.{some}
 use lib.ListN.{getElem?}
 use Rattle.vpg.specs.declared.Rule.{Rule}
 use Rattle.vpg.specs.declared.Token.{Token}
-use Rattle.vpg.specs.believed.Grammar.{Rules, Grammar, Tree, code, Derives, by-empty, by-mark, by-step, Reading}
-use Rattle.vpg.specs.Steps.{Symbol, terminal, nonterminal, left, right, OneStep, replace, Steps, no-step, and-then}
+use Rattle.vpg.specs.believed.Grammar.{Rules, Grammar, Tree, code, Derives, by-empty, by-mark, by-step, Reading, left}
+use Rattle.vpg.specs.Steps.{Symbol, terminal, nonterminal, right, OneStep, replace, Steps, no-step, and-then}
 
 -- a tree for each nonterminal of a string
 data Forest (g : Rules) : List Symbol → List Token → Type 0 where

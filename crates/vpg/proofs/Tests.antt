@@ -9,7 +9,7 @@ use Rattle.vpg.specs.declared.OpenName.{OpenName}
 use Rattle.vpg.specs.declared.CloseName.{CloseName}
 use Rattle.vpg.specs.declared.Rule.{Rule}
 use Rattle.vpg.specs.declared.Token.{Token}
-use Rattle.vpg.specs.Steps.{left}
+use Rattle.vpg.specs.believed.Grammar.{left}
 use Rattle.vpg.specs.Tests.{isMark, isOpen, isClose, anyClose, ifEmpty, ifMark, ifStep}
 
 -- ── names ──

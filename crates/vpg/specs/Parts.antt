@@ -1,4 +1,4 @@
--- With which nonterminals a rule goes on. The passes tell the forms of rule apart by these and `left` (Steps.antt), not by cases of their own.
+-- With which nonterminals a rule goes on. The passes tell the forms of rule apart by these and `left` (believed/Grammar.antt), not by cases of their own.
 -- Law: placed (level_theory/proofs/Walk.antt)
 use Prim.Native.Nat.{ℕ}
 use mathlib.Core.Bool.{Bool, false}

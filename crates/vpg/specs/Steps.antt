@@ -7,18 +7,13 @@ use mathlib.Core.Option.{some}
 use lib.ListN.{getElem?}
 use Rattle.vpg.specs.declared.Rule.{Rule}
 use Rattle.vpg.specs.declared.Token.{Token}
-use Rattle.vpg.specs.believed.Grammar.{Rules}
+use Rattle.vpg.specs.believed.Grammar.{Rules, left}
 
 pub data Symbol : Type 0 where
   terminal : Token → Symbol
   nonterminal : ℕ → Symbol
 
--- the two sides of a rule of Definition 2.1
-abbrev pub left : Rule → ℕ
-left (Rule.Empty L) = L
-left (Rule.Mark L c L₁) = L
-left (Rule.Step L a L₁ b L₂) = L
-
+-- the right side of a rule of Definition 2.1
 abbrev pub right : Rule → List Symbol
 right (Rule.Empty L) = []
 right (Rule.Mark L c L₁) = terminal (Token.Mark c) ∷ nonterminal L₁ ∷ []

@@ -5,8 +5,9 @@
 //!
 //! Prints a table, and writes bench.csv and bench.svg into DIR: target/bench of the repository unless given, docs/ with
 //! `--docs`. A time is processor time, the best of several short rounds; the sides take turns. BENCH is this program
-//! built with another archive (GAFFMEDLAR_LIB_DIR): its library takes turns with the others, but for files with names above 63,
-//! which an older one refuses.
+//! built with another archive (GAFFMEDLAR_LIB_DIR), or, where that archive lacks a function, as it was when the archive was made:
+//! its library takes turns with the others, but for files with names above 63, which an older one refuses. It is asked for services
+//! by their places, so it answers for what then stood in the place of one.
 
 mod clock;
 mod index;
@@ -33,8 +34,8 @@ Prints a table of times, and writes bench.csv and bench.svg into target/bench. I
   --quick          short rounds, for a try
   --docs           writes into docs/, whose files are under version control
   --out DIR        writes into DIR
-  --before BENCH   times another library too: that of BENCH, this program built with another archive, on all
-                   files but those with wide names
+  --before BENCH   times another library too: that of BENCH, this program built with another archive or an older
+                   one, on all files but those with wide names
   --answer         makes the rounds that another bench asks for on standard input: what --before calls";
 
 struct Options {

@@ -41,19 +41,26 @@ pub fn has(set: u32, stage: u16) -> bool {
     set >> stage & 1 == 1
 }
 
-/// The rules at a position, the stages with which they go on, and those behind their close.
+/// The rules at a position, their own stages and whether two have the same one, the stages with which they go on, and those behind
+/// their close.
 #[derive(Default)]
 struct Set {
     words: [u32; 4],
-    held: u32,
+    met: u32,
+    choice: bool,
     next: u32,
     later: u32,
 }
 
 impl Set {
-    fn add(&mut self, number: usize) {
+    fn put(&mut self, number: usize) {
         self.words[number / 32] |= 1 << (number % 32);
-        self.held += 1;
+    }
+
+    fn add(&mut self, number: usize, stage: u16) {
+        self.put(number);
+        self.choice |= has(self.met, stage);
+        self.met |= 1 << stage;
     }
 }
 
@@ -172,16 +179,17 @@ impl<I: Index> Levels<I> {
     fn set_at(&self, here: u32, place: usize) -> Set {
         let mut set = Set::default();
         if let Some(ends) = self.ends_at(place) {
+            // one rule to a stage, so there is no choice
             let mut left = here & ends.stages;
             while left != 0 {
-                set.add(ends.rule[left.trailing_zeros() as usize].into());
+                set.put(ends.rule[left.trailing_zeros() as usize].into());
                 left &= left - 1;
             }
             return set;
         }
         for (number, rule) in self.rules_at(place) {
             if has(here, rule.from()) && self.applies(rule, place) {
-                set.add(number);
+                set.add(number, rule.from());
                 match *rule {
                     Rule::Ends { .. } => {}
                     Rule::Marks { then, .. } => set.next |= 1 << then,
@@ -195,14 +203,14 @@ impl<I: Index> Levels<I> {
         set
     }
 
-    /// For each position the rules that stand there in some reading, and how many they are.
-    fn kept(&self, mut each: impl FnMut(usize, [u32; 4], u32)) {
+    /// For each position the rules that stand there in some reading, and whether two of them are of one stage.
+    fn kept(&self, mut each: impl FnMut(usize, [u32; 4], bool)) {
         let n = self.read.tokens.len();
         let mut behind = vec![0u32; n + 1];
         let mut here = self.able[0] & 1 << self.read.start;
         for (place, &close) in self.close.iter().enumerate() {
             let set = self.set_at(here, place);
-            each(place, set.words, set.held);
+            each(place, set.words, set.choice);
             here = behind[place] | set.next;
             behind[close] |= set.later;
         }
@@ -300,9 +308,9 @@ pub fn sets<I: Index>(grammar: &[u8], history: &[u8], words: &mut [u32]) -> u8 {
     )
 }
 
-pub fn doubtful_count<I: Index>(grammar: &[u8], history: &[u8]) -> Result<u32, u8> {
+pub fn choice_count<I: Index>(grammar: &[u8], history: &[u8]) -> Result<u32, u8> {
     let levels = levels::<I>(grammar, history, 0, |_| 0)?;
     let mut count = 0;
-    levels.kept(|_, _, held| count += u32::from(held > 1));
+    levels.kept(|_, _, choice| count += u32::from(choice));
     Ok(count)
 }

@@ -13,7 +13,7 @@ pub enum Service {
     TenCalls,
     ThousandCalls,
     Sets,
-    DoubtfulCount,
+    ChoiceCount,
     StopMarks,
 }
 
@@ -25,7 +25,7 @@ pub const SERVICES: [(Service, &str); 9] = [
     (Service::TenCalls, "list of 10 calls"),
     (Service::ThousandCalls, "list of 1000 calls"),
     (Service::Sets, "sets"),
-    (Service::DoubtfulCount, "doubtful count"),
+    (Service::ChoiceCount, "choice count"),
     (Service::StopMarks, "stop marks"),
 ];
 
@@ -113,7 +113,7 @@ fn library(service: Service, grammar: &[u8], history: &History, to: &mut Buffers
             raw::run_calls(grammar, file, &to.calls, &mut to.answers, &mut to.bytes).into()
         }
         Service::Sets => raw::sets(grammar, file, &mut to.words).into(),
-        Service::DoubtfulCount => raw::doubtful_count(grammar, file).count,
+        Service::ChoiceCount => raw::choice_count(grammar, file).count,
         Service::StopMarks => raw::stop_marks(grammar, file, &mut to.bytes).into(),
     }
 }
@@ -132,7 +132,7 @@ fn in_rust<I: Index>(service: Service, grammar: &[u8], history: &History, to: &m
             plain::run_calls::<I>(grammar, file, &to.calls, &mut to.answers, &mut to.bytes).into()
         }
         Service::Sets => plain::sets::<I>(grammar, file, &mut to.words).into(),
-        Service::DoubtfulCount => plain::doubtful_count::<I>(grammar, file).unwrap_or(0),
+        Service::ChoiceCount => plain::choice_count::<I>(grammar, file).unwrap_or(0),
         Service::StopMarks => pair_states::by_currents(grammar, file, &mut to.bytes).into(),
     }
 }
@@ -140,11 +140,11 @@ fn in_rust<I: Index>(service: Service, grammar: &[u8], history: &History, to: &m
 #[cfg(test)]
 mod tests {
     use super::*;
-    use frames::wide::{Example, EXAMPLES};
-    use frames::{g_from, G_EXCHANGED};
+    use frames::choices::{self, EITHER};
+    use frames::{g_from, wide, Example, G, G_EXCHANGED};
 
     /// What a side gives: the first reading if there is one, what "next reading" answers after it, the sets' first words,
-    /// the doubtful count, and the stop marks.
+    /// the choice count, and the stop marks.
     type Given = (Vec<u8>, u32, Vec<u32>, u32, Vec<u8>);
 
     fn given(side: Side, grammar: &[u8], file: &[u8]) -> Given {
@@ -164,9 +164,9 @@ mod tests {
         let (next, _) = made(Service::NextReading);
         let (_, to) = made(Service::Sets);
         let words = to.words.chunks(4).map(|words| words[0]).collect();
-        let (doubtful, _) = made(Service::DoubtfulCount);
+        let (choices, _) = made(Service::ChoiceCount);
         let (_, to) = made(Service::StopMarks);
-        (first, next, words, doubtful, to.bytes)
+        (first, next, words, choices, to.bytes)
     }
 
     /// Every side goes by the start that the file says.
@@ -176,7 +176,7 @@ mod tests {
         let step = &[3, 1, 0, 2];
         let none = (vec![], 16, vec![0; 4], 0, vec![1, 0, 0, 0]);
         let two = vec![1, 3, 4, 0];
-        let two = (two, 0, vec![6, 40, 80, 1], 3, vec![1, 0, 0, 1]);
+        let two = (two, 0, vec![6, 40, 80, 1], 1, vec![1, 0, 0, 1]);
         let cases: [(&[u8], &[u8], Given); 4] = [
             (from_1, &[0], (vec![4], 101, vec![16], 0, vec![1])),
             (
@@ -209,18 +209,38 @@ mod tests {
                 .fold(0, |set, rules| set | bit(rules[place]))
         };
         let words: Vec<u32> = (0..example.marks.len()).map(word).collect();
-        let doubtful = words.iter().filter(|word| word.count_ones() > 1).count() as u32;
-        (first, next, words, doubtful, example.marks.to_vec())
+        let choices = example.choices.len() as u32;
+        (first, next, words, choices, example.marks.to_vec())
+    }
+
+    fn each_side_gives(examples: &[Example]) {
+        for example in examples {
+            for side in SIDES {
+                let given = given(side, example.grammar, example.history);
+                assert_eq!(given, due(example));
+            }
+        }
     }
 
     /// No side loses a bit of a name.
     #[test]
     fn wide_names() {
-        for example in &EXAMPLES {
-            for side in SIDES {
-                let given = given(side, example.grammar, example.history);
-                assert_eq!(given, due(example));
-            }
+        each_side_gives(&wide::EXAMPLES);
+    }
+
+    /// Every side counts two rules of one stage, and not those of different stages.
+    #[test]
+    fn choices_of_examples() {
+        each_side_gives(&choices::EXAMPLES);
+        let counted = |side, grammar, file: &[u8]| {
+            let first = vec![];
+            let history = History { file, first };
+            let mut to = Buffers::of(Service::ChoiceCount, 0);
+            call(side, Service::ChoiceCount, grammar, &history, &mut to)
+        };
+        for side in SIDES {
+            assert_eq!(counted(side, &EITHER, &choices::marks(1024)), 1024);
+            assert_eq!(counted(side, &G, &choices::steps(512)), 512);
         }
     }
 }

@@ -45,7 +45,9 @@ pub enum Service {
     NextReading,
     RunCalls,
     Sets,
-    DoubtfulCount,
+    ChoiceCount,
+    /// Whether there is more than one reading: by the library there is exactly when it counts a choice.
+    SeveralReadings,
     StopMarks,
     /// Both functions: where the part is, and the number.
     StepBytes,
@@ -57,14 +59,15 @@ pub enum Service {
     HistoryAgain,
 }
 
-pub const SERVICES: [Service; 13] = [
+pub const SERVICES: [Service; 14] = [
     Service::GrammarCheck,
     Service::HistoryCheck,
     Service::FirstReading,
     Service::NextReading,
     Service::RunCalls,
     Service::Sets,
-    Service::DoubtfulCount,
+    Service::ChoiceCount,
+    Service::SeveralReadings,
     Service::StopMarks,
     Service::StepBytes,
     Service::WriteGrammar,
@@ -190,9 +193,13 @@ pub fn library(case: &Case, service: Service) -> Outcome {
             let answer = raw::sets(grammar, history, words.part());
             Outcome::of(answer, &[], &[], &words.checked(WORD))
         }
-        Service::DoubtfulCount => {
-            let reply = raw::doubtful_count(grammar, history);
+        Service::ChoiceCount => {
+            let reply = raw::choice_count(grammar, history);
             Outcome::of(reply.answer, &[reply.count.into()], &[], &[])
+        }
+        Service::SeveralReadings => {
+            let reply = raw::choice_count(grammar, history);
+            Outcome::of(reply.answer, &[u64::from(reply.count > 0)], &[], &[])
         }
         Service::StopMarks => {
             let mut lent = Lent::new(&case.marks, BYTE);
@@ -244,8 +251,12 @@ pub fn due(case: &Case, work: &Work, service: Service) -> Outcome {
             let answer = work.sets(&mut words);
             Outcome::of(answer, &[], &[], &words)
         }
-        Service::DoubtfulCount => match work.doubtful_count() {
+        Service::ChoiceCount => match work.choice_count() {
             Ok(count) => Outcome::of(0, &[count.into()], &[], &[]),
+            Err(number) => Outcome::of(number, &[0], &[], &[]),
+        },
+        Service::SeveralReadings => match work.several_readings() {
+            Ok(several) => Outcome::of(0, &[several.into()], &[], &[]),
             Err(number) => Outcome::of(number, &[0], &[], &[]),
         },
         Service::StopMarks => {

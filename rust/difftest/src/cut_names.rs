@@ -36,7 +36,7 @@ const SERVICES: [Service; 6] = [
     Service::NextReading,
     Service::RunCalls,
     Service::Sets,
-    Service::DoubtfulCount,
+    Service::ChoiceCount,
     Service::StopMarks,
 ];
 

@@ -2,6 +2,7 @@
 use crate::case::{library, library_step, Case, Outcome, Service};
 use crate::cut_names::{self, CutName};
 use crate::heads;
+use crate::miscount::{self, Miscount};
 use crate::misread::{self, Misread};
 use crate::writing::{self, Kind};
 use frames::Token;
@@ -35,7 +36,7 @@ pub enum Fault {
     NextFromStage0,
     CallsFromStage0,
     SetsFromStage0,
-    DoubtfulFromStage0,
+    ChoicesFromStage0,
     MarksFromStage0,
     /// A start that is no stage gets 3.
     StartAsThree,
@@ -69,6 +70,8 @@ pub enum Fault {
     StartLost,
     /// A step's bytes counted as if no number had more than two.
     StepOfTwoBytes,
+    /// Choices counted in a wrong way.
+    Miscount(Miscount),
     /// A name of which the low bits count alone.
     CutName(CutName),
     /// A number read or written in a wrong way, or a wrong limit of names.
@@ -77,9 +80,11 @@ pub enum Fault {
 
 /// Every fault.
 pub fn all() -> Vec<Fault> {
+    let choices = miscount::all().into_iter().map(Fault::Miscount);
     let names = cut_names::all().into_iter().map(Fault::CutName);
     let numbers = misread::all().into_iter().map(Fault::Misread);
-    FAULTS.into_iter().chain(names).chain(numbers).collect()
+    let drawn_up = choices.chain(names).chain(numbers);
+    FAULTS.into_iter().chain(drawn_up).collect()
 }
 
 const FAULTS: [Fault; 32] = [
@@ -97,7 +102,7 @@ const FAULTS: [Fault; 32] = [
     Fault::NextFromStage0,
     Fault::CallsFromStage0,
     Fault::SetsFromStage0,
-    Fault::DoubtfulFromStage0,
+    Fault::ChoicesFromStage0,
     Fault::MarksFromStage0,
     Fault::StartAsThree,
     Fault::StartAtCount,
@@ -123,13 +128,14 @@ const FROM_STAGE_0: [(Fault, Service); 6] = [
     (Fault::NextFromStage0, Service::NextReading),
     (Fault::CallsFromStage0, Service::RunCalls),
     (Fault::SetsFromStage0, Service::Sets),
-    (Fault::DoubtfulFromStage0, Service::DoubtfulCount),
+    (Fault::ChoicesFromStage0, Service::ChoiceCount),
     (Fault::MarksFromStage0, Service::StopMarks),
 ];
 
 /// A true outcome turned into a wrong one, where the planted fault shows.
 pub fn spoiled(fault: Fault, case: &Case, service: Service, outcome: Outcome) -> Outcome {
     match fault {
+        Fault::Miscount(miscount) => return miscount.spoiled(case, service, outcome),
         Fault::CutName(cut) => return cut.spoiled(case, service, outcome),
         Fault::Misread(misread) => return misread.spoiled(case, service, outcome),
         _ => {}

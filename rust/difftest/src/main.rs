@@ -4,10 +4,10 @@
 //!     difftest [--cases N] [--long] [--seed S] [--self-test]
 //!     difftest --help
 //!
-//! A case is a grammar file and a history file, with which every service is called once, and a list of calls made; the
-//! bytes of a step are asked for at a position. The writers are called with elements, what they write is read back, and both
-//! files are written again from their numbers. Half of the grammars say their start. Names are up to 65,535, and many differ in
-//! their high bits alone.
+//! A case is a grammar file and a history file, with which every service is called once, and a list of calls made; that there is
+//! a choice exactly where there is more than one reading is seen to, and the bytes of a step are asked for at a position. The
+//! writers are called with elements, what they write is read back, and both files are written again from their numbers. Half of
+//! the grammars say their start. Names are up to 65,535, and many differ in their high bits alone.
 //! `--long` runs ten million cases. `--self-test` plants a fault after the other in the library's answers and sees that
 //! each is found and made small. How far it is goes to stderr.
 
@@ -19,11 +19,14 @@ mod faults;
 mod grammars;
 mod heads;
 mod histories;
+mod kept;
 mod make;
+mod miscount;
 mod misread;
 mod names;
 mod progress;
 mod random;
+mod rows;
 mod seen;
 mod shrink;
 mod sweeps;
@@ -54,7 +57,7 @@ Compares the proved library with the reference, on 200,000 cases unless told.
   --seed S       on other cases; the same for the same S, which is 1 unless given
   --self-test    plants faults in the library's answers and sees that each is found
 
-Status: 0 no difference, 1 a difference or an answer, a start or a name that was not met, 2 wrong words.";
+Status: 0 no difference, 1 a difference or an answer, a start, a name or a set that was not met, 2 wrong words.";
 
 struct Options {
     cases: u64,
@@ -177,7 +180,7 @@ fn compare_all(options: &Options) -> bool {
         start.elapsed().as_secs_f64()
     );
     if !whole {
-        println!("an answer, a start or a name was not met: more cases are needed");
+        println!("an answer, a start, a name or a set was not met: more cases are needed");
     }
     whole
 }

@@ -1,5 +1,6 @@
-//! What a run has met: every answer of every service, every kind of start, and names of every width.
+//! What a run has met: every answer of every service, every kind of start, names of every width, and every kind of set.
 use crate::case::{self, Case, Outcome, Service};
+use crate::kept::{kept, Kept};
 use frames::{history_numbers, numbers_file, Token};
 use reference::{parse_grammar, parse_history, Work};
 use std::collections::HashSet;
@@ -16,6 +17,8 @@ pub struct Seen {
     starts: [[u64; 2]; STARTS.len()],
     /// The same by the names of both files.
     names: [[u64; 2]; NAMES.len()],
+    /// The sets of these cases.
+    sets: [u64; SETS.len()],
 }
 
 /// What a grammar can say of its start.
@@ -33,6 +36,18 @@ const NAMES: [&str; 8] = [
     "apart above bit 14 alone",
 ];
 
+/// What a set can be by the stages of its rules. The last ones are choices.
+const SETS: [&str; 8] = [
+    "empty",
+    "one rule",
+    "rules of different stages",
+    "two rules of one stage, next to each other",
+    "two rules of one stage, only with another stage's between them",
+    "two rules of one stage, only in different words",
+    "three rules of one stage",
+    "two rules of each of two stages",
+];
+
 impl Seen {
     pub fn new() -> Seen {
         Seen {
@@ -41,6 +56,7 @@ impl Seen {
             listed: [0; 256],
             starts: [[0; 2]; STARTS.len()],
             names: [[0; 2]; NAMES.len()],
+            sets: [0; SETS.len()],
         }
     }
 
@@ -55,7 +71,7 @@ impl Seen {
         }
     }
 
-    /// Whether the reference agrees with itself on a case, whose start and names are counted.
+    /// Whether the reference agrees with itself on a case, whose start, names and sets are counted.
     pub fn work(&mut self, case: &Case) -> bool {
         let work = Work::new(&case.grammar, &case.history);
         if work.positions().is_some() {
@@ -68,6 +84,11 @@ impl Seen {
             self.starts[start][some] += 1;
             for name in names_met(case) {
                 self.names[name][some] += 1;
+            }
+            for set in kept(&case.grammar, &case.history) {
+                for kind in kinds_of(&set) {
+                    self.sets[kind] += 1;
+                }
             }
         }
         work.agrees_with_itself()
@@ -93,7 +114,7 @@ impl Seen {
             Service::FirstReading => both.chain([15, 100]).collect(),
             Service::NextReading => both.chain([15, 16, 101]).collect(),
             Service::Sets | Service::StopMarks | Service::RunCalls => both.chain([15]).collect(),
-            Service::DoubtfulCount => both.collect(),
+            Service::ChoiceCount | Service::SeveralReadings => both.collect(),
             Service::StepBytes => [0].into_iter().chain(history).chain([17]).collect(),
             // elements have no form, so 2 is never given
             Service::WriteGrammar => [0, 1].into_iter().chain(3..=9).chain([15]).collect(),
@@ -108,6 +129,15 @@ impl Seen {
         self.report_answers()
             & Seen::report_kinds("starts", &STARTS, &self.starts)
             & Seen::report_kinds("names", &NAMES, &self.names)
+            & self.report_sets()
+    }
+
+    fn report_sets(&self) -> bool {
+        println!("sets met");
+        for (name, count) in SETS.iter().zip(self.sets) {
+            println!("  {name}  {count}");
+        }
+        self.sets.iter().all(|&count| count > 0)
     }
 
     fn report_answers(&self) -> bool {
@@ -139,6 +169,26 @@ impl Seen {
         line("calls in lists".into(), listed, &self.listed);
         whole
     }
+}
+
+/// Which of [`SETS`] hold of a set.
+fn kinds_of(set: &[Kept]) -> Vec<usize> {
+    let held = |stage: u16| set.iter().filter(|kept| kept.stage == stage).count();
+    let stages: HashSet<u16> = set.iter().map(|kept| kept.stage).collect();
+    let repeated = stages.iter().filter(|&&stage| held(stage) > 1).count();
+    if repeated == 0 {
+        return vec![set.len().min(2)];
+    }
+    let apart = set.windows(2).all(|two| two[0].stage != two[1].stage);
+    let by_word: HashSet<(u16, usize)> = set
+        .iter()
+        .map(|kept| (kept.stage, kept.rule / 32))
+        .collect();
+    let mut kinds = vec![if apart { 4 } else { 3 }];
+    kinds.extend((by_word.len() == set.len()).then_some(5));
+    kinds.extend(stages.iter().any(|&stage| held(stage) > 2).then_some(6));
+    kinds.extend((repeated > 1).then_some(7));
+    kinds
 }
 
 /// Which of [`NAMES`] hold of a case whose files pass.

@@ -1,9 +1,10 @@
 //! What is tried whole before the random cases: short files, every number of three bytes and every name, beginnings of grammars,
-//! values of elements, lengths of buffers.
+//! stages in a set, values of elements, lengths of buffers.
 use crate::case::{self, compare, Case, Difference, Service};
 use crate::heads;
 use crate::make;
 use crate::random::Random;
+use crate::rows;
 use crate::writing::{Kind, Writing};
 use frames::{grammar_file, history_file, Rule, Token};
 use gaffmedlar::raw;
@@ -23,6 +24,7 @@ pub fn all(seed: u64) -> Option<(Case, Difference)> {
         .or_else(three_bytes)
         .or_else(all_names)
         .or_else(all_heads)
+        .or_else(all_rows)
         .or_else(all_elements)
         .or_else(|| all_lengths(seed))
 }
@@ -30,9 +32,10 @@ pub fn all(seed: u64) -> Option<(Case, Difference)> {
 /// What that was.
 pub fn in_words() -> String {
     format!(
-        "all files of three bytes at most, all tokens and names of three, {} names told apart, {} beginnings of grammars, {} elements at all places, {LENGTHS} files at all lengths of buffers and all positions",
+        "all files of three bytes at most, all tokens and names of three, {} names told apart, {} beginnings of grammars, {} rows of stages in a set, {} elements at all places, {LENGTHS} files at all lengths of buffers and all positions",
         NAMES,
         heads::all().count(),
+        rows::all().count(),
         element_values().count()
     )
 }
@@ -183,6 +186,27 @@ fn all_heads() -> Option<(Case, Difference)> {
     for head in heads::all() {
         case.grammar = frames::numbers_file(&head);
         case.write_grammar.elements = head;
+        if let Some(difference) = compare_some(&case, &services) {
+            return Some((case, difference));
+        }
+    }
+    None
+}
+
+/// Stages in a set, in every order.
+fn all_rows() -> Option<(Case, Difference)> {
+    let services = [
+        Service::Sets,
+        Service::ChoiceCount,
+        Service::SeveralReadings,
+    ];
+    let mut case = Case {
+        history: rows::HISTORY.to_vec(),
+        words: vec![77; 12],
+        ..Case::default()
+    };
+    for grammar in rows::all() {
+        case.grammar = grammar;
         if let Some(difference) = compare_some(&case, &services) {
             return Some((case, difference));
         }

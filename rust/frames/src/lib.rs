@@ -1,6 +1,16 @@
 //! Writes the two files: for the comparison, the times and the tests. Nothing here reads one.
 
+pub mod choices;
 pub mod wide;
+
+/// A grammar, a history, and what is due for them: all readings in order, the stop marks, and the positions that are choices.
+pub struct Example {
+    pub grammar: &'static [u8],
+    pub history: &'static [u8],
+    pub readings: &'static [&'static [u8]],
+    pub marks: &'static [u8],
+    pub choices: &'static [usize],
+}
 
 /// Document 01's grammar G: each of its steps has two readings.
 pub const G: [u8; 28] = [

@@ -1,4 +1,5 @@
 //! Files with names of two and three bytes, and what is due for them, worked out by hand.
+use crate::Example;
 
 /// Stage 0 ends, or goes on by mark 1 (rule 1) or by mark 257 (rule 2), which differ above bit 8 alone.
 pub const MARKS: [u8; 13] = [1, 3, 0, 0, 1, 0, 1, 0, 1, 0, 129, 2, 0];
@@ -15,14 +16,6 @@ pub const CLOSES: [u8; 24] = [
 
 /// Stage 0 ends (rule 0), or goes on by mark 40,000 to itself (rule 1) or to stage 1 (rule 2), which ends (rule 3).
 pub const TWO_WAYS: [u8; 18] = [2, 4, 0, 0, 1, 0, 192, 184, 2, 0, 1, 0, 192, 184, 2, 1, 0, 1];
-
-/// A grammar, a history, all readings of it in order, and its stop marks.
-pub struct Example {
-    pub grammar: &'static [u8],
-    pub history: &'static [u8],
-    pub readings: &'static [&'static [u8]],
-    pub marks: &'static [u8],
-}
 
 /// The names that a grammar has, beside others that are equal to one of them in their low bits.
 pub const EXAMPLES: [Example; 17] = [
@@ -59,16 +52,20 @@ pub const EXAMPLES: [Example; 17] = [
     ),
     example(&CLOSES, &[2, 129, 226, 9, 254, 247, 15], &[], &[1, 0, 0]),
     example(&CLOSES, &[2, 129, 226, 9, 254, 255, 3], &[], &[1, 0, 0]),
-    // mark 40,000; then 23,616, whose low 14 bits are the same
-    example(
-        &TWO_WAYS,
-        &[2, 128, 226, 9, 128, 226, 9],
-        &[&[1, 1, 0], &[1, 2, 3]],
-        &[1, 1, 1],
-    ),
+    // mark 40,000, the second of which is a choice; then 23,616, whose low 14 bits are the same
+    Example {
+        choices: &[1],
+        ..example(
+            &TWO_WAYS,
+            &[2, 128, 226, 9, 128, 226, 9],
+            &[&[1, 1, 0], &[1, 2, 3]],
+            &[1, 1, 1],
+        )
+    },
     example(&TWO_WAYS, &[2, 128, 226, 9, 128, 226, 5], &[], &[1, 1, 0]),
 ];
 
+/// One without a choice.
 const fn example(
     grammar: &'static [u8],
     history: &'static [u8],
@@ -80,6 +77,7 @@ const fn example(
         history,
         readings,
         marks,
+        choices: &[],
     }
 }
 

@@ -334,9 +334,27 @@ impl Sets {
     }
 }
 
-/// How many positions have more than one rule in their set.
-pub fn doubtful_count(grammar: &[u8], history: &[u8]) -> Result<usize, Refused> {
-    let reply = wire::doubtful_count(grammar, history);
+/// How many positions are choices. A position is a choice when its set holds two rules of one and the same stage: a reading that
+/// has come to this stage there can go on by either. Where readings have different rules at a position only because each has come
+/// to a stage of its own, that is no choice: they differed before.
+///
+/// There is more than one reading exactly when the count isn't 0. Where there is no reading it is 0.
+///
+/// ```
+/// // stage 0 ends, or makes a step with stage 1 or with stage 2 inside, each of which goes on by marks and ends
+/// let grammar = [
+///     3, 7, 0, 0, 2, 0, 0, 1, 0, 0, 2, 0, 0, 2, 0, 0, 1, 1, 0, 1, 0, 1, 1, 2, 0, 2, 0, 2,
+/// ];
+/// // a step: its two readings differ at all three tokens, and the open alone is a choice
+/// assert_eq!(gaffmedlar::choice_count(&grammar, &[3, 1, 0, 2]), Ok(1));
+/// // two steps
+/// assert_eq!(gaffmedlar::choice_count(&grammar, &[4, 1, 2, 1, 2]), Ok(2));
+/// // one reading, and none
+/// assert_eq!(gaffmedlar::choice_count(&grammar, &[0]), Ok(0));
+/// assert_eq!(gaffmedlar::choice_count(&grammar, &[1, 0]), Ok(0));
+/// ```
+pub fn choice_count(grammar: &[u8], history: &[u8]) -> Result<usize, Refused> {
+    let reply = wire::choice_count(grammar, history);
     done(reply.answer, grammar)?;
     Ok(reply.count as usize)
 }

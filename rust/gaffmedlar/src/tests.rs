@@ -1,6 +1,9 @@
 //! The wrapper on examples: every service, both beginnings of a grammar, names of up to three bytes, refusals.
 use super::*;
+use choices::choices_of;
 use frames::{g_from, wide, G, G_EXCHANGED};
+
+mod choices;
 
 #[test]
 fn numbers_and_words() {
@@ -34,7 +37,7 @@ fn services() {
     let mut words = [9; 17];
     assert_eq!(sets_into(&G, &history, &mut words), Ok(()));
     assert_eq!(words, [6, 0, 0, 0, 40, 0, 0, 0, 80, 0, 0, 0, 1, 0, 0, 0, 9]);
-    assert_eq!(doubtful_count(&G, &history), Ok(3));
+    assert_eq!(choice_count(&G, &history), Ok(1));
     let mut marks = [9; 5];
     assert_eq!(stop_marks(&G, &history, &mut marks), Ok(()));
     assert_eq!(marks, [1, 0, 0, 1, 9]);
@@ -43,17 +46,18 @@ fn services() {
 /// A grammar, a history, all its readings and its stop marks.
 type Example = (Vec<u8>, Vec<u8>, Vec<Vec<u8>>, Vec<u8>);
 
+fn example(example: &frames::Example) -> Example {
+    let readings = example.readings.iter().map(|reading| reading.to_vec());
+    (
+        example.grammar.to_vec(),
+        example.history.to_vec(),
+        readings.collect(),
+        example.marks.to_vec(),
+    )
+}
+
 /// Names of two and three bytes, and others that are equal to them in their low bits.
 fn examples_of_wide_names() -> Vec<Example> {
-    let example = |example: &wide::Example| {
-        let readings = example.readings.iter().map(|reading| reading.to_vec());
-        (
-            example.grammar.to_vec(),
-            example.history.to_vec(),
-            readings.collect(),
-            example.marks.to_vec(),
-        )
-    };
     wide::EXAMPLES.iter().map(example).collect()
 }
 
@@ -84,27 +88,31 @@ fn reads(grammar: &[u8], history: &[u8], due: &[Vec<u8>], due_marks: &[u8]) {
     lists(grammar, history, due.len(), positions);
     let sets = sets(grammar, history).unwrap();
     assert_eq!(sets.positions(), positions);
-    let mut doubtful = 0;
     for position in 0..positions {
         let mut rules: Vec<u8> = due.iter().map(|reading| reading[position]).collect();
+        rules.sort_unstable();
         rules.dedup();
-        doubtful += usize::from(rules.len() > 1);
         assert_eq!(sets.rules(position).collect::<Vec<_>>(), rules);
     }
-    assert_eq!(doubtful_count(grammar, history), Ok(doubtful));
+    let choices = choice_count(grammar, history).unwrap();
+    assert_eq!(choices, choices_of(grammar, due).len());
+    assert_eq!(choices > 0, due.len() > 1);
     let mut marks = vec![9; positions];
     assert_eq!(stop_marks(grammar, history, &mut marks), Ok(()));
     assert_eq!(marks, due_marks);
 }
 
-/// A list of calls on a history with so many readings, two at most.
+/// A list of calls on a history with so many readings.
 fn lists(grammar: &[u8], history: &[u8], readings: usize, positions: usize) {
     let calls = [Call::First, Call::Next, Call::Next];
-    let written = [CallAnswer::Written; 2];
     let not_one = CallAnswer::Refused(of_call(Refusal::NotAReading));
     let answers = match readings {
         0 => vec![CallAnswer::NoReading, not_one, not_one],
-        m => [&written[..m], &vec![CallAnswer::NoFurther; 3 - m]].concat(),
+        m => {
+            let mut answers = vec![CallAnswer::Written; m.min(3)];
+            answers.resize(3, CallAnswer::NoFurther);
+            answers
+        }
     };
     // 255 is no rule
     let mut buffer = vec![255; positions];
@@ -280,7 +288,7 @@ fn which_file() {
             );
             assert_eq!(stop_marks(grammar, bad_history, buffer), due);
             assert_eq!(sets_into(grammar, bad_history, &mut []), due);
-            assert_eq!(doubtful_count(grammar, bad_history), due.map(|()| 0));
+            assert_eq!(choice_count(grammar, bad_history), due.map(|()| 0));
             assert_eq!(readings(grammar, bad_history).err(), due.err());
             let answers = run_calls(grammar, bad_history, &[Call::Next], buffer);
             assert_eq!(answers, [CallAnswer::Refused(due.unwrap_err())]);

@@ -17,7 +17,7 @@ pub struct HistoryReply {
     pub tokens: u16,
 }
 
-/// 0 and the number of doubtful positions, or the number of the refusal and 0.
+/// 0 and the number of choices, or the number of the refusal and 0.
 #[repr(C)]
 #[derive(Clone, Copy, Debug, PartialEq, Eq)]
 pub struct CountReply {
@@ -83,7 +83,7 @@ mod linked {
             words: *mut u32,
             words_len: usize,
         ) -> u8;
-        pub fn gaffmedlar_doubtful_count(
+        pub fn gaffmedlar_choice_count(
             grammar: *const u8,
             grammar_len: usize,
             history: *const u8,
@@ -196,9 +196,9 @@ pub fn sets(grammar: &[u8], history: &[u8], words: &mut [u32]) -> u8 {
     }
 }
 
-pub fn doubtful_count(grammar: &[u8], history: &[u8]) -> CountReply {
+pub fn choice_count(grammar: &[u8], history: &[u8]) -> CountReply {
     unsafe {
-        linked::gaffmedlar_doubtful_count(
+        linked::gaffmedlar_choice_count(
             grammar.as_ptr(),
             grammar.len(),
             history.as_ptr(),

@@ -2,11 +2,13 @@
 //!
 //! The algorithms are other ones on purpose. A history with few readings is worked through by writing down every
 //! reading ([`listed`]); one with many by counting readings with exact numbers of any size ([`counted`]), where the
-//! successor of a reading is found by its place in the order. Stop marks recognise each beginning by itself
-//! ([`marks`]). The bytes of one step are found by reading it whole ([`steps`]). Files are written from elements that are
-//! judged as they are, without the reader ([`writers`]). Nothing here is fast.
+//! successor of a reading is found by its place in the order. Choices are looked for stage by stage, and between readings
+//! ([`choices`]). Stop marks recognise each beginning by itself ([`marks`]). The bytes of one step are found by reading it
+//! whole ([`steps`]). Files are written from elements that are judged as they are, without the reader ([`writers`]). Nothing
+//! here is fast.
 
 pub mod big;
+pub mod choices;
 pub mod counted;
 pub mod files;
 pub mod listed;

@@ -2,7 +2,7 @@
 use crate::big::Big;
 use crate::counted::Counter;
 use crate::files::{parse_grammar, parse_history, Grammar};
-use crate::{listed, marks, NO_FURTHER, NO_READING};
+use crate::{choices, listed, marks, NO_FURTHER, NO_READING};
 use frames::Token;
 use std::cell::OnceCell;
 
@@ -27,6 +27,7 @@ struct Served {
     few: OnceCell<Option<Vec<Vec<u8>>>>,
     marks: OnceCell<Vec<u8>>,
     sets: OnceCell<Vec<u32>>,
+    choices: OnceCell<Vec<usize>>,
 }
 
 /// Where the plain listing stands (document 01): at an entry, by its place from 0, or at none.
@@ -157,11 +158,19 @@ impl Work {
         }
     }
 
-    /// The number of doubtful positions, or the refusal.
-    pub fn doubtful_count(&self) -> Result<u32, u8> {
+    /// The number of choices, or the refusal.
+    pub fn choice_count(&self) -> Result<u32, u8> {
         let served = self.served(|_| 0, 0)?;
-        let ones = |set: &[u32]| set.iter().map(|word| word.count_ones()).sum::<u32>();
-        Ok(served.sets().chunks(4).filter(|set| ones(set) > 1).count() as u32)
+        Ok(served.choices().len() as u32)
+    }
+
+    /// Whether there is more than one reading, or the refusal. Choices are not looked at.
+    pub fn several_readings(&self) -> Result<bool, u8> {
+        let served = self.served(|_| 0, 0)?;
+        Ok(match served.few() {
+            Some(few) => few.len() > 1,
+            None => *served.counter.total() > Big::new(1),
+        })
     }
 
     pub fn stop_marks(&self, marks: &mut [u8]) -> u8 {
@@ -175,11 +184,15 @@ impl Work {
         }
     }
 
-    /// Whether both ways agree on everything where readings are few, and whether all stays as it is where the stages are
-    /// numbered so that stage 0 starts. A fault here is one of the reference.
+    /// Whether both ways agree on everything where readings are few, whether there are choices exactly where there is more than
+    /// one reading, and whether all stays as it is where the stages are numbered so that stage 0 starts. A fault here is one of
+    /// the reference.
     pub fn agrees_with_itself(&self) -> bool {
         let Ok(served) = &self.0 else { return true };
-        served.both_ways_agree() && served.goes_by_the_start()
+        let choices = !served.choices().is_empty();
+        served.both_ways_agree()
+            && self.several_readings() == Ok(choices)
+            && served.goes_by_the_start()
     }
 }
 
@@ -190,6 +203,7 @@ impl Served {
             few: OnceCell::new(),
             marks: OnceCell::new(),
             sets: OnceCell::new(),
+            choices: OnceCell::new(),
         }
     }
 
@@ -201,7 +215,13 @@ impl Served {
             self.counter.reading_at(&place) == *reading
                 && self.counter.place_of(reading) == Some(place)
         });
-        ordered && counted && self.sets_counted() == self.sets_listed(few)
+        let all = *self.counter.total() == Big::new(few.len() as u32);
+        let choices = choices::of_readings(self.counter.grammar(), few);
+        ordered
+            && counted
+            && all
+            && self.sets_counted() == self.sets_listed(few)
+            && self.choices() == choices
     }
 
     fn goes_by_the_start(&self) -> bool {
@@ -214,6 +234,7 @@ impl Served {
         self.counter.total() == other.counter.total()
             && self.few() == other.few()
             && self.sets() == other.sets()
+            && self.choices() == other.choices()
             && self.marks() == other.marks()
     }
 
@@ -275,6 +296,11 @@ impl Served {
         words
     }
 
+    fn choices(&self) -> &[usize] {
+        self.choices
+            .get_or_init(|| choices::of_sets(self.counter.grammar(), self.sets()))
+    }
+
     fn marks(&self) -> &[u8] {
         self.marks.get_or_init(|| {
             marks::stop_marks(self.counter.grammar(), self.counter.tokens())
@@ -288,9 +314,10 @@ impl Served {
 #[cfg(test)]
 mod tests {
     use super::*;
-    use frames::{g_from, history_file, wide, G, G_EXCHANGED};
+    use frames::choices::{marks, steps, EITHER, EXAMPLES, SAMPLES};
+    use frames::{g_from, history_file, wide, Example, G, G_EXCHANGED};
 
-    /// Every reading, the stop marks and the doubtful count.
+    /// Every reading, the stop marks and the choice count.
     fn all(grammar: &[u8], history: &[u8]) -> (Vec<Vec<u8>>, Vec<u8>, u32) {
         let work = Work::new(grammar, history);
         let mut readings = Vec::new();
@@ -302,7 +329,7 @@ mod tests {
         let mut marks = vec![9; work.positions().unwrap()];
         assert_eq!(work.stop_marks(&mut marks), 0);
         assert!(work.agrees_with_itself());
-        (readings, marks, work.doubtful_count().unwrap())
+        (readings, marks, work.choice_count().unwrap())
     }
 
     #[test]
@@ -313,7 +340,7 @@ mod tests {
             (
                 vec![vec![1, 3, 4, 0], vec![2, 5, 6, 0]],
                 vec![1, 0, 0, 1],
-                3
+                1
             )
         );
         assert_eq!(all(&G, &[2, 1, 2]).0, vec![vec![1, 4, 0], vec![2, 6, 0]]);
@@ -355,15 +382,46 @@ mod tests {
         assert_eq!(none, (vec![], vec![1, 0, 0, 0], 0));
     }
 
+    fn due(example: &Example) -> (Vec<Vec<u8>>, Vec<u8>, u32) {
+        let readings = example.readings.iter().map(|reading| reading.to_vec());
+        let choices = example.choices.len() as u32;
+        (readings.collect(), example.marks.to_vec(), choices)
+    }
+
+    #[test]
+    fn examples_of_choices() {
+        for example in &EXAMPLES {
+            assert_eq!(all(example.grammar, example.history), due(example));
+        }
+        for (grammar, history, choices) in SAMPLES {
+            let work = Work::new(grammar, history);
+            assert_eq!(work.choice_count(), Ok(choices.len() as u32));
+            assert!(work.agrees_with_itself());
+        }
+        assert_eq!(Work::new(&[1, 0], &[0]).choice_count(), Err(4));
+        assert_eq!(Work::new(&G, &[1, 1]).choice_count(), Err(13));
+    }
+
+    /// As many choices as there are marks or steps: more readings than can be listed.
+    #[test]
+    fn many_choices() {
+        for count in [0, 1, 2, 63, 64, 511, 512, 1024] {
+            let work = Work::new(&EITHER, &marks(count));
+            assert_eq!(work.choice_count(), Ok(count as u32));
+            assert!(work.agrees_with_itself());
+        }
+        for count in [0, 1, 5, 6, 512] {
+            let work = Work::new(&G, &steps(count));
+            assert_eq!(work.choice_count(), Ok(count as u32));
+            assert!(work.agrees_with_itself());
+        }
+    }
+
     /// Names that are equal in their low 8 or 14 bits are told apart.
     #[test]
     fn wide_names() {
         for example in &wide::EXAMPLES {
-            let readings: Vec<Vec<u8>> = example.readings.iter().map(|r| r.to_vec()).collect();
-            let differ = |place: &usize| readings.iter().any(|r| r[*place] != readings[0][*place]);
-            let doubtful = (0..example.marks.len()).filter(differ).count() as u32;
-            let due = (readings.clone(), example.marks.to_vec(), doubtful);
-            assert_eq!(all(example.grammar, example.history), due);
+            assert_eq!(all(example.grammar, example.history), due(example));
         }
         // what reads the one history is no reading of the other
         let mut reading = [1, 0];

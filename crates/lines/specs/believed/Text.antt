@@ -23,12 +23,12 @@ colon = 58
 abbrev pub lineEnd : List ℕ
 lineEnd = 10 ∷ []
 
--- "tokens ", "doubtful ", "none", "end ", "more ", "refused grammar " and "refused history " in ASCII
+-- "tokens ", "choices ", "none", "end ", "more ", "refused grammar " and "refused history " in ASCII
 abbrev pub tokensWord : List ℕ
 tokensWord = 116 ∷ 111 ∷ 107 ∷ 101 ∷ 110 ∷ 115 ∷ blank ∷ []
 
-abbrev pub doubtfulWord : List ℕ
-doubtfulWord = 100 ∷ 111 ∷ 117 ∷ 98 ∷ 116 ∷ 102 ∷ 117 ∷ 108 ∷ blank ∷ []
+abbrev pub choicesWord : List ℕ
+choicesWord = 99 ∷ 104 ∷ 111 ∷ 105 ∷ 99 ∷ 101 ∷ 115 ∷ blank ∷ []
 
 abbrev pub noneWord : List ℕ
 noneWord = 110 ∷ 111 ∷ 110 ∷ 101 ∷ []
@@ -54,8 +54,8 @@ numberLine word n = word ++ decimal n ++ lineEnd
 abbrev pub tokensLine : ℕ → List ℕ
 tokensLine n = numberLine tokensWord n
 
-abbrev pub doubtfulLine : ℕ → List ℕ
-doubtfulLine d = numberLine doubtfulWord d
+abbrev pub choicesLine : ℕ → List ℕ
+choicesLine k = numberLine choicesWord k
 
 abbrev pub noneLine : List ℕ
 noneLine = noneWord ++ lineEnd

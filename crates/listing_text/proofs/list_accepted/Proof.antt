@@ -4,7 +4,7 @@ use mathlib.Core.Bool.{Bool}
 use borrow.Author.Needs.{needs}
 use lib.ListN.{length}
 use Rattle.vpg.specs.Runs.{entries}
-use Rattle.sets_theory.specs.believed.Sets.{doubtfulCount}
+use Rattle.sets_theory.specs.believed.Sets.{choiceCount}
 use Rattle.tables.specs.Ready.{grammarIn}
 use Rattle.history_file.specs.believed.HistoryFile.{tokensOf}
 use Rattle.first_run.specs.declared.FirstAnswer.{FirstAnswer}
@@ -60,7 +60,7 @@ returns c =
     let g = (grammarIn (a .table .now) (a .head)) in
     let w = tokensOf (a .tokens .now) in
     c .before .before .list-none .ensures
-    ∙ ap (laid (atStart, a .text .now)) (none-listed (tokensLine (length (a .tokens .now))) (doubtfulCount g w) (entries g w) (first-none g (a .tokens .now) zeros (firstSaid (c .before .before .before .before .before .before .before .first .result)) _ (ap found (c .before .before .before .before .enum-told .given .1)) (c .before .before .before .before .before .before .before .first .ensures)))
+    ∙ ap (laid (atStart, a .text .now)) (none-listed (tokensLine (length (a .tokens .now))) (choiceCount g w) (entries g w) (first-none g (a .tokens .now) zeros (firstSaid (c .before .before .before .before .before .before .before .first .result)) _ (ap found (c .before .before .before .before .enum-told .given .1)) (c .before .before .before .before .before .before .before .first .ensures)))
 
 same-length-2 : tie.Need-same-length-2
 same-length-2 c = search needs
@@ -72,7 +72,7 @@ returns-2 c =
     let g = (grammarIn (a .table .now) (a .head)) in
     let w = tokensOf (a .tokens .now) in
     c .before .before .before .list-readings .ensures
-    ∙ ap (laid (atStart, a .text .now)) (some-listed (tokensLine (length (a .tokens .now))) (doubtfulCount g w) (entries g w) (first-begun (grammarIn (a .table .now) (a .head)) (a .tokens .now) zeros (enough _ (s .pre .1 .0 .few)) (firstSaid (c .before .before .before .before .before .before .before .before .before .before .before .first .result)) _ (ap found (c .before .before .before .before .before .before .before .before .enum-told2 .given .1)) (c .before .before .before .before .before .before .before .before .before .before .reading2 .given) (c .before .before .before .before .before .before .before .before .before .before .before .first .ensures) .some-one))
+    ∙ ap (laid (atStart, a .text .now)) (some-listed (tokensLine (length (a .tokens .now))) (choiceCount g w) (entries g w) (first-begun (grammarIn (a .table .now) (a .head)) (a .tokens .now) zeros (enough _ (s .pre .1 .0 .few)) (firstSaid (c .before .before .before .before .before .before .before .before .before .before .before .first .result)) _ (ap found (c .before .before .before .before .before .before .before .before .enum-told2 .given .1)) (c .before .before .before .before .before .before .before .before .before .before .reading2 .given) (c .before .before .before .before .before .before .before .before .before .before .before .first .ensures) .some-one))
 
 pub list-accepted-spec : {M : Type 1} → statement M
 list-accepted-spec =

@@ -23,8 +23,8 @@ Inv-loop table head tokens closes masks reading₀ text₀ n d cursor₀ k₀ re
 abbrev μ-loop : tie.MeasureT-loop
 μ-loop table head tokens closes masks reading₀ text₀ n d cursor₀ k₀ reading text cursor k = 1000 - k
 
-doubtful-requires : tie.Need-doubtful-requires Inv-loop μ-loop
-doubtful-requires c κs = c .before .before .before .pre .0
+choices-requires : tie.Need-choices-requires Inv-loop μ-loop
+choices-requires c κs = c .before .before .before .pre .0
 
 cast-list-counts : tie.Need-cast-list-counts Inv-loop μ-loop
 cast-list-counts c = search needs
@@ -72,7 +72,7 @@ returns : tie.Need-returns Inv-loop μ-loop
 returns c =
     let a = c .before .before .before .before .before .before .before .before .before .before .before .before .before .before .before .before .before .before .before .before .before .before .before .before .before .args in
     let g = (grammarIn (a .table .now) (a .head)) in
-    behind-counts (atStart, a .text .now) _ _ (tokensLine (length (a .tokens .now))) _ _ (listedFrom mostListed 0 (entries g (tokensOf (a .tokens .now)))) (c .before .before .before .before .before .before .before .before .before .before .before .before .before .before .before .before .before .before .before .before .before .doubtful .ensures) (c .before .before .before .before .before .before .before .before .before .before .before .before .before .before .before .before .before .before .before .list-counts .ensures)
+    behind-counts (atStart, a .text .now) _ _ (tokensLine (length (a .tokens .now))) _ _ (listedFrom mostListed 0 (entries g (tokensOf (a .tokens .now)))) (c .before .before .before .before .before .before .before .before .before .before .before .before .before .before .before .before .before .before .before .before .before .choices .ensures) (c .before .before .before .before .before .before .before .before .before .before .before .before .before .before .before .before .before .before .before .list-counts .ensures)
     (turns-end g (a .tokens .now) (a .reading .now) _ _ (c .before .before .before .before .before .before .before .before .before .before .before .before .before .before .before .before .loop .inv) (c .before .before .before .before .before .before .before .before .before .before .before .before .before .before .before .loop-test .taken) _ (c .before .before .before .before .before .before .before .before .before .before .before .before .reading-line .ensures)
     (nextSaid (c .before .before .before .before .before .before .before .before .next .result)) (c .before .before .before .before .before .is-written .result) _ (c .before .before .before .before .before .is-written .ensures) (denied _ (c .before .before .before .before .if1 .taken)) (c .before .before .before .before .before .before .before .before .next .ensures) _ (c .before .before .end-line .ensures))
 
@@ -98,7 +98,7 @@ returns-2 : tie.Need-returns-2 Inv-loop μ-loop
 returns-2 c =
     let a = c .before .before .before .before .before .before .before .before .before .before .before .before .before .before .args in
     let g = (grammarIn (a .table .now) (a .head)) in
-    behind-counts (atStart, a .text .now) _ _ (tokensLine (length (a .tokens .now))) _ _ (listedFrom mostListed 0 (entries g (tokensOf (a .tokens .now)))) (c .before .before .before .before .before .before .before .before .before .before .doubtful .ensures) (c .before .before .before .before .before .before .before .before .list-counts .ensures)
+    behind-counts (atStart, a .text .now) _ _ (tokensLine (length (a .tokens .now))) _ _ (listedFrom mostListed 0 (entries g (tokensOf (a .tokens .now)))) (c .before .before .before .before .before .before .before .before .before .before .choices .ensures) (c .before .before .before .before .before .before .before .before .list-counts .ensures)
     (turns-more g (a .tokens .now) (a .reading .now) _ _ (c .before .before .before .before .before .loop .inv) (c .before .before .before .before .loop-test .left) _ (c .before .before .more-line .ensures))
 
 pub list-readings-spec : {M : Type 1} → statement M
@@ -107,7 +107,7 @@ list-readings-spec =
     (tie.spec
     Inv-loop
     μ-loop
-    doubtful-requires
+    choices-requires
     cast-list-counts
     list-counts-requires
     loop-holds

@@ -3,7 +3,7 @@ use Prim.Native.Nat.{ℕ, _+_, _-_, _<_, _≤_}
 use native.Mathlib.Omega.{arith}
 use mathlib.Core.Path.{_≡_, refl, _∙_}
 use borrow.Author.Needs.{needs}
-use Rattle.vpg.specs.Steps.{left}
+use Rattle.vpg.specs.believed.Grammar.{left}
 use Rattle.tables.specs.Table.{ruleIn}
 use Rattle.rule_index.specs.Building.{SameRules, IndexedFrom}
 use Rattle.rule_index.proofs.Classes.{rule-class-small}

@@ -8,10 +8,9 @@ use Rattle.tables.specs.Table.{ruleIn}
 use Rattle.rule_index.specs.Classes.{classAt, classOf}
 use Rattle.rule_index.proofs.Walk.{starts, goes-on}
 use Rattle.contexts.specs.Context.{tokenHere}
-use Rattle.rule_set.specs.declared.Ways.{Ways}
 use Rattle.rule_set.specs.RuleSet.{waysIn, wordsIn}
 use Rattle.rule_set.proofs.Words.{add-length}
-use Rattle.rule_set.proofs.RuleSet.{ways-passed, words-passed, held-most}
+use Rattle.rule_set.proofs.RuleSet.{ways-passed, words-passed}
 use Rattle.rule_set.proofs.class_set.Statement.{statement}
 use Rattle.rule_set.proofs.class_set.Tie as tie
 
@@ -54,34 +53,28 @@ add-requires c κs =
     let l = c .before .before .before .before .before in
     (l .loop .inv .1, omega (arith, l .before .before .before .before .before .before .before .before .pre .0 .0 .ready .few))
 
-rule-of-requires : tie.Need-rule-of-requires Inv-loop μ-loop
-rule-of-requires c κs = omega (arith, c .before .before .before .before .before .before .before .before .before .before .before .before .before .before .before .before .pre .0 .0 .ready .few)
-
 ways-with-requires : tie.Need-ways-with-requires Inv-loop μ-loop
 ways-with-requires c κs =
-    let l = c .before .before .before .before .before .before .before .before .before in
-    let s = l .before .before .before .before .before .before .before .before in
-    let held : l .loop .ways .held ≡ waysIn (s .args .table .now) (s .args .here) (s .args .context) (l .loop .r) .held = ap (λ (x : Ways). x .held) (l .loop .inv .2) in
-    let most = held-most (s .args .table .now) (s .args .here) (s .args .context) (l .loop .r) in
-    (omega (arith, s .pre .0 .0 .ready .few, held, most), rw (c .rule-of .ensures) (s .pre .0 .0 .ready .small _ (c .before .before .before .before .before .before .before .before .loop-test .taken)))
+    let s = c .before .before .before .before .before .before .before .before .before .before .before .before .before .before .before .before in
+    (omega (arith, s .pre .0 .0 .ready .few), s .pre .0 .0 .ready .small _ (c .before .before .before .before .before .before .before .loop-test .taken))
 
 loop-less : tie.Need-loop-less Inv-loop μ-loop
 loop-less c =
-    let l = c .before .before .before .before .before .before .before .before .before .before in
-    omega (arith, c .before .before .before .before .before .before .before .before .next-of .ensures, l .before .before .before .before .before .before .before .before .pre .0 .0 .nexts (l .loop .r) (c .before .before .before .before .before .before .before .before .before .loop-test .taken) .from)
+    let l = c .before .before .before .before .before .before .before .before .before in
+    omega (arith, c .before .before .before .before .before .before .before .next-of .ensures, l .before .before .before .before .before .before .before .before .pre .0 .0 .nexts (l .loop .r) (c .before .before .before .before .before .before .before .before .loop-test .taken) .from)
 
 loop-again : tie.Need-loop-again Inv-loop μ-loop
 unfolding waysIn wordsIn
 loop-again c =
-    let n = c .before .before .before .before .before .before .before .before in
-    let l = c .before .before .before .before .before .before .before .before .before .before in
+    let n = c .before .before .before .before .before .before .before in
+    let l = c .before .before .before .before .before .before .before .before .before in
     let s = l .before .before .before .before .before .before .before .before in
     let p = s .args .context in
     let f = goes-on (s .pre .0 .0) (l .loop .r) (classAt (tokenHere p)) (n .next-of .result) (n .before .loop-test .taken) (l .loop .inv .4 (n .before .loop-test .taken)) (n .next-of .ensures) in
-    let yes = sym (c .before .before .before .before .before .before .before .keeps .ensures) ∙ c .before .before .before .before .before .before .if1 .taken in
-    let added = c .before .before .before .before .add .ensures in
-    let ways : c .ways-with .result ≡ waysIn (s .args .table .now) (s .args .here) p (suc (l .loop .r)) = rw (yes, ← (l .loop .inv .2)) (c .ways-with .ensures ∙ rw (c .before .rule-of .ensures)) in
-    let words : c .before .before .before .before .add .last .0 ≡ wordsIn (s .args .table .now) (s .args .here) p (suc (l .loop .r)) = rw (yes, ← (l .loop .inv .3)) added in (
+    let yes = sym (c .before .before .before .before .before .before .keeps .ensures) ∙ c .before .before .before .before .before .if1 .taken in
+    let added = c .before .before .before .add .ensures in
+    let ways : c .ways-with .result ≡ waysIn (s .args .table .now) (s .args .here) p (suc (l .loop .r)) = rw (yes, ← (l .loop .inv .2)) (c .ways-with .ensures) in
+    let words : c .before .before .before .add .last .0 ≡ wordsIn (s .args .table .now) (s .args .here) p (suc (l .loop .r)) = rw (yes, ← (l .loop .inv .3)) added in (
       f .most,
       ap length added ∙ add-length 32 (l .loop .words) (l .loop .r) ∙ l .loop .inv .1,
       ways ∙ sym (ways-passed (s .args .table .now) (s .args .here) p (s .pre .0 .1) f),
@@ -126,7 +119,6 @@ class-set-spec =
     next-of-requires
     keeps-requires
     add-requires
-    rule-of-requires
     ways-with-requires
     loop-less
     loop-again

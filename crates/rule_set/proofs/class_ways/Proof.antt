@@ -1,15 +1,14 @@
 -- `class_ways`: on the way through the class of the token, up to rule r the ways are those of the first r rules.
 use borrow.Author.Needs.{needs}
 use Prim.Native.Nat.{suc, _-_, _<_, _≤_}
-use mathlib.Core.Path.{_≡_, refl, sym, ap, _∙_}
+use mathlib.Core.Path.{_≡_, refl, sym, _∙_}
 use native.Mathlib.Omega.{arith}
 use Rattle.tables.specs.Table.{ruleIn}
 use Rattle.rule_index.specs.Classes.{classAt, classOf}
 use Rattle.rule_index.proofs.Walk.{starts, goes-on}
 use Rattle.contexts.specs.Context.{tokenHere}
-use Rattle.rule_set.specs.declared.Ways.{Ways}
 use Rattle.rule_set.specs.RuleSet.{waysIn}
-use Rattle.rule_set.proofs.RuleSet.{ways-passed, held-most}
+use Rattle.rule_set.proofs.RuleSet.{ways-passed}
 use Rattle.rule_set.proofs.class_ways.Statement.{statement}
 use Rattle.rule_set.proofs.class_ways.Tie as tie
 
@@ -35,11 +34,8 @@ loop-holds c =
 
 ways-turn-requires : tie.Need-ways-turn-requires Inv-loop μ-loop
 ways-turn-requires c κs =
-    let l = c .before .loop in
     let s = c .before .before .before .before in
-    let held : l .ways .held ≡ waysIn (s .args .table .now) (s .args .here) (s .args .context) (l .r) .held = ap (λ (x : Ways). x .held) (l .inv .1) in
-    let most = held-most (s .args .table .now) (s .args .here) (s .args .context) (l .r) in
-    (omega (arith, s .pre .0 .ready .few, held, most), omega (arith, s .pre .0 .ready .few), s .pre .0 .ready .small _ (c .loop-test .taken))
+    (omega (arith, s .pre .0 .ready .few), s .pre .0 .ready .small _ (c .loop-test .taken))
 
 next-of-requires : tie.Need-next-of-requires Inv-loop μ-loop
 next-of-requires c κs = omega (arith, c .before .before .before .before .before .pre .0 .ready .few)

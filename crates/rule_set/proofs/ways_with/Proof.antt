@@ -1,19 +1,44 @@
--- `ways_with`: each part by its own function.
+-- `ways_with`: each part by its own function; the nonterminals of a rule of the table are below 32.
 use borrow.Author.Needs.{needs}
 use Rattle.rule_set.proofs.ways_with.Statement.{statement}
 use Rattle.rule_set.proofs.ways_with.Tie as tie
 
+left-in-requires : tie.Need-left-in-requires
+left-in-requires c κs = search needs
+
+cast-l : tie.Need-cast-l
+cast-l c = search needs
+
+rule-of-requires : tie.Need-rule-of-requires
+rule-of-requires c κs = search needs
+
+twice-with-requires : tie.Need-twice-with-requires
+twice-with-requires c κs = search needs
+
+with-requires : tie.Need-with-requires
+with-requires c κs = search needs
+
 next-with-requires : tie.Need-next-with-requires
-next-with-requires c κs = search needs
+next-with-requires c κs = rw (c .before .before .rule-of .ensures) (c .before .before .before .before .pre .1)
 
 behind-with-requires : tie.Need-behind-with-requires
-behind-with-requires c κs = search needs
-
-add-t5 : tie.Need-add-t5
-add-t5 c = search needs
+behind-with-requires c κs = rw (c .before .before .before .rule-of .ensures) (c .before .before .before .before .before .pre .1)
 
 returns : tie.Need-returns
-returns c = simp (c .before .behind-with .ensures, c .before .before .next-with .ensures)
+returns c =
+    let left = c .before .before .before .before .before .left-in .ensures in
+    let rule = c .before .before .before .before .rule-of .ensures in
+    simp (c .behind-with .ensures, c .before .next-with .ensures, c .before .before .with .ensures, c .before .before .before .twice-with .ensures, rule, left)
 
 pub ways-with-spec : {M : Type 1} → statement M
-ways-with-spec = tie.close (tie.spec next-with-requires behind-with-requires add-t5 returns)
+ways-with-spec =
+    tie.close
+    (tie.spec
+    left-in-requires
+    cast-l
+    rule-of-requires
+    twice-with-requires
+    with-requires
+    next-with-requires
+    behind-with-requires
+    returns)

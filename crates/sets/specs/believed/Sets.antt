@@ -1,9 +1,9 @@
--- What the services sets and doubtful count give (document 01, "Services").
+-- What the services sets and choice count give (document 01, "Services"; document 02, 2.5).
 -- Clauses: 7.6, 7.7 (docs/SPECIFICATION.md)
 use Prim.Native.Nat.{ℕ, _+_, _*_}
 use mathlib.Core.List.{List, _++_}
 use lib.ListN.{length, drop}
-use Rattle.sets_theory.specs.believed.Sets.{doubtfulCount, setWords}
+use Rattle.sets_theory.specs.believed.Sets.{choiceCount, setWords}
 use Rattle.service.specs.believed.Given.{Given, given, refused, written, untouched}
 use Rattle.service.specs.believed.Opened.{filesIn, opened, served}
 use Rattle.sets.specs.declared.CountAnswer.{CountAnswer}
@@ -19,6 +19,6 @@ abbrev pub countSaid : CountAnswer → Given ℕ
 countSaid (CountAnswer.Count n) = given n
 countSaid (CountAnswer.Refused k) = refused k
 
--- "how many positions are doubtful"; no buffer is asked for
+-- document 02, 2.5, "the count of choices"; no buffer is asked for
 abbrev pub countDue : List ℕ → List ℕ → Given ℕ
-countDue grammar history = served refused (λ g w. given (doubtfulCount g w)) (filesIn grammar history)
+countDue grammar history = served refused (λ g w. given (choiceCount g w)) (filesIn grammar history)

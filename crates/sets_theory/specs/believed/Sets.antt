@@ -1,20 +1,30 @@
--- The set at a position, doubtful positions and stop marks (document 01, "Readings").
+-- The set at a position, choices and stop marks (document 01, "Readings"; document 02, 2.5).
 -- Clauses: 4.1, 4.3, 4.4, 7.6 (docs/SPECIFICATION.md)
 use Prim.Native.Nat.{ℕ, zero, suc, _+_, _*_, _/_, _%_, _^_}
 use mathlib.Core.Path.{_≡_}
+use mathlib.Core.Logic.{_≢_}
 use mathlib.Core.Bool.{Bool, true, false}
 use mathlib.Core.List.{List, [], _∷_}
 use mathlib.Core.Option.{some}
-use lib.Dec.{ltb}
 use lib.ListN.{getElem?, length, take}
+use Rattle.vpg.specs.declared.Rule.{Rule}
 use Rattle.vpg.specs.declared.Token.{Token}
-use Rattle.vpg.specs.believed.Grammar.{Grammar, Reading}
+use Rattle.vpg.specs.believed.Grammar.{Grammar, Reading, left}
 use Rattle.vpg.specs.Runs.{entries}
+use Rattle.sets_theory.specs.ChoiceTest.{choice}
 use Rattle.sets_theory.specs.KeptTest.{kept}
 
 -- "the rules that stand there in at least one reading": rule number r is in the set at position p
 abbrev pub Kept : Grammar → List Token → ℕ → ℕ → Type 0
 Kept g w p r = (e : List ℕ) × Reading g w e × (getElem? e p ≡ some r)
+
+-- and it is a rule of the nonterminal L
+abbrev pub KeptFor : Grammar → List Token → ℕ → ℕ → ℕ → Type 0
+KeptFor g w p L r = Kept g w p r × ((R : Rule) × (getElem? (g .rules) r ≡ some R) × (left R ≡ L))
+
+-- document 02, 2.5: "a position is now a choice when its set holds two rules of one and the same stage"
+abbrev pub Choice : Grammar → List Token → ℕ → Type 0
+Choice g w p = (L : ℕ) × (r : ℕ) × (r′ : ℕ) × (r ≢ r′) × KeptFor g w p L r × KeptFor g w p L r′
 
 -- 1 where a test passes, else 0
 abbrev pub one : Bool → ℕ
@@ -26,13 +36,9 @@ unfoldable pub count : ℕ → (ℕ → Bool) → ℕ
 count zero f = 0
 count (suc n) f = one (f n) + count n f
 
--- "a position is doubtful when its set holds more than one rule"
-unfoldable pub doubtful : Grammar → List Token → ℕ → Bool
-doubtful g w p = ltb 1 (count (length (g .rules)) (kept g w p))
-
--- document 01, "Services": how many positions are doubtful, of 0 to n
-unfoldable pub doubtfulCount : Grammar → List Token → ℕ
-doubtfulCount g w = count (suc (length w)) (doubtful g w)
+-- document 02, 2.5, "the count of choices": how many of the positions 0 to n are choices
+unfoldable pub choiceCount : Grammar → List Token → ℕ
+choiceCount g w = count (suc (length w)) (choice g w)
 
 -- 1 where there is an entry
 abbrev pub marked : List (List ℕ) → ℕ

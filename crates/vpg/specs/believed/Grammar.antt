@@ -15,6 +15,12 @@ use Rattle.vpg.specs.declared.Token.{Token}
 abbrev pub Rules : Type 0
 Rules = List Rule
 
+-- the stage that a rule is for, the left side of Definition 2.1: what becomes nothing, a mark or a step
+abbrev pub left : Rule → ℕ
+left (Rule.Empty L) = L
+left (Rule.Mark L c L₁) = L
+left (Rule.Step L a L₁ b L₂) = L
+
 -- (V, Σ, P, L₀) of the paper: V is the numbers below `nonterminals` (document 01: stages), P the rules, L₀ the start
 pub record Grammar : Type 0 where
   pub nonterminals : ℕ
