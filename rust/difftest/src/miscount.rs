@@ -25,6 +25,8 @@ enum Wrong {
     EachRule,
     /// The first position is left out.
     FirstLeftOut,
+    /// The last token's position is left out, and the one behind it, which is never a choice.
+    LastLeftOut,
     /// One too many.
     OneMore,
     /// As many as there are tokens, whatever the sets are.
@@ -51,6 +53,7 @@ pub fn all() -> Vec<Miscount> {
         Wrong::OneRule,
         Wrong::EachRule,
         Wrong::FirstLeftOut,
+        Wrong::LastLeftOut,
         Wrong::OneMore,
         Wrong::Invented,
     ];
@@ -60,6 +63,7 @@ pub fn all() -> Vec<Miscount> {
         Wrong::EachWord,
         Wrong::OneRule,
         Wrong::FirstLeftOut,
+        Wrong::LastLeftOut,
         Wrong::OneMore,
         Wrong::Invented,
     ];
@@ -137,6 +141,7 @@ impl Wrong {
                 sets.map(|set| met_again(&mut HashSet::new(), set)).sum()
             }
             Wrong::FirstLeftOut => taken(&sets[1..]),
+            Wrong::LastLeftOut => taken(&sets[..sets.len().saturating_sub(2)]),
             Wrong::OneMore => taken(sets) + 1,
             Wrong::Invented => sets.len() - 1,
             _ => taken(sets),
@@ -171,7 +176,8 @@ mod tests {
         assert_eq!(counts(&WITHIN, &step, &[JustBefore, EachRule]), [2, 2]);
         // one choice; at the other position of each no stage was met before
         let marks = [1, 0];
-        assert_eq!(counts(&ECHO, &marks, &[AnyTwo, StillNoted]), [2, 1]);
+        let some = [AnyTwo, StillNoted, LastLeftOut];
+        assert_eq!(counts(&ECHO, &marks, &some), [2, 1, 0]);
         assert_eq!(counts(&THREE, &marks, &[EachRule, JustBefore]), [2, 1]);
         // stages 1 and 2 stand at two positions, and stage 0 at the first and at the last
         assert_eq!(counts(&G, &step, &[StillNoted, EachWord]), [3, 1]);
