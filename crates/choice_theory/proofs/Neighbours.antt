@@ -6,7 +6,7 @@ use mathlib.Core.Logic.{_⊎_, inl, inr, _↔_, _≢_}
 use mathlib.Core.List.{List, [], _∷_, List·Memᴰ, List·Memᴰ·head, List·Memᴰ·tail, List·Memᴰ·not-nil, List·Memᴰ·cases-cons}
 use mathlib.Core.Option.{some, Option·some-injective}
 use lib.ListN.{length, take, getElem?}
-use Rattle.laws.proofs.Lists.{trichotomy, heads, tails, at-below}
+use Rattle.laws.proofs.Lists.{trichotomy, heads, tails, at-below, at-some}
 use Rattle.vpg.specs.declared.Token.{Token}
 use Rattle.vpg.specs.believed.Grammar.{Grammar}
 use Rattle.vpg.specs.believed.Order.{Before, Ascending}
@@ -39,11 +39,6 @@ between (suc p) (a ∷ x) (d ∷ y) (e ∷ z) b c q = go b c (heads q) (between 
 other-way : {e f : List ℕ} {p : ℕ} → Differ e f p → Differ f e p
 other-way d = record { one = d .other; other = d .one; before = sym (d .before); one-at = d .other-at; other-at = d .one-at; differ = λ q. d .differ (sym q) }
 
-some-at : (l : List ℕ) (p : ℕ) → p < length l → (r : ℕ) × (getElem? l p ≡ some r)
-some-at [] p h = absurd (omega arith)
-some-at (x ∷ l) zero h = (x, refl)
-some-at (x ∷ l) (suc p) h = some-at l p (omega arith)
-
 -- ── neighbours ──
 
 -- lists of one length
@@ -60,7 +55,7 @@ from-head p n x [] f a long m d = absurd (List·Memᴰ·not-nil m)
 from-head p n x (y ∷ l) f a long m d = go (List·Memᴰ·cases-cons m) (from-head p n y l f (a .1) (λ e k. long e (List·Memᴰ·tail k)))
   where
     there : (r : ℕ) × (getElem? y p ≡ some r)
-    there = some-at y p (omega (arith, at-below x p (d .one-at), long x (List·Memᴰ·head refl), long y (List·Memᴰ·tail (List·Memᴰ·head refl))))
+    there = at-some y p (omega (arith, at-below x p (d .one-at), long x (List·Memᴰ·head refl), long y (List·Memᴰ·tail (List·Memᴰ·head refl))))
 
     go : (f ≡ y) ⊎ List·Memᴰ f l → (List·Memᴰ f l → Differ y f p → Neighbours (y ∷ l) p) → Neighbours (x ∷ y ∷ l) p
     go (inl q) on = inl (rw q at d)

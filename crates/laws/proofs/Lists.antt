@@ -55,6 +55,11 @@ module _ {A : Type 0} where
   at-below (y ∷ s) zero h = omega arith
   at-below (y ∷ s) (suc p) h = omega (arith, at-below s p h)
 
+  pub at-some : (s : List A) (p : ℕ) → p < length s → (x : A) × (getElem? s p ≡ some x)
+  at-some [] p h = absurd (omega arith)
+  at-some (y ∷ s) zero h = (y, refl)
+  at-some (y ∷ s) (suc p) h = at-some s p (omega arith)
+
   pub at-member : (s : List A) (p : ℕ) (d : A) → p < length s → List·Memᴰ (getD s p d) s
   at-member [] p d h = absurd (omega arith)
   at-member (y ∷ s) zero d h = List·Memᴰ·head refl

@@ -11,7 +11,7 @@ use Rattle.vpg.specs.declared.OpenName.{OpenName}
 use Rattle.vpg.specs.declared.CloseName.{CloseName}
 use Rattle.vpg.specs.declared.Token.{Token}
 use Rattle.vpg.specs.believed.Grammar.{Rules}
-use Rattle.level_theory.specs.Masks.{Outer, tail, masks}
+use Rattle.level_theory.specs.Masks.{tail, outer, masks}
 use Rattle.level_theory.specs.Pending.{Closes, rest, pendingOver, pending, pendingAt, dueAt}
 
 abbrev Close : Type 0
@@ -130,20 +130,30 @@ pending-rest w p d l e = rw e at (at-next w (drop p w) p refl 0 d (rw e))
 
 -- ── masks and stacks over the pending closes ──
 
-levels-in : (g : Rules) (w v : List Token) (p : ℕ) → drop p w ≡ v → masks g v .1 ≡ map (λ d. (d .0, masks g (drop (suc (d .1)) w) .0)) (pending v p)
-unfolding pending masks
-levels-in g w [] p e = refl
-levels-in g w (Token.Mark c ∷ v) p e = levels-in g w v (suc p) (drop-next w p e)
-levels-in g w (Token.Open a ∷ v) p e = ap tail (levels-in g w v (suc p) (drop-next w p e)) ∙ tails (pending v (suc p))
-  where
-    tails : (l : Closes) → tail (map (λ d. (d .0, masks g (drop (suc (d .1)) w) .0)) l) ≡ map (λ d. (d .0, masks g (drop (suc (d .1)) w) .0)) (rest l)
-    tails [] = refl
-    tails (d ∷ l) = refl
-levels-in g w (Token.Close b ∷ v) p e = rw (drop-next w p e) (ap (λ (l : Outer). (b, masks g v .0) ∷ l) (levels-in g w v (suc p) (drop-next w p e)))
+-- whatever is known of the levels: it goes from right to left, token by token
+module _ {A : Type 0} (m : ℕ → List Token → A × List (CloseName × A)) (none : (p : ℕ) → m p [] .1 ≡ []) (over : (p : ℕ) (t : Token) (v : List Token) → m p (t ∷ v) .1 ≡ outer t (m (suc p) v)) where
+  abbrev behind-closes : List Token → Closes → List (CloseName × A)
+  behind-closes w l = map (λ d. (d .0, m (suc (d .1)) (drop (suc (d .1)) w) .0)) l
 
--- the outer levels are those behind the pending closes
+  tails : (w : List Token) (l : Closes) → tail (behind-closes w l) ≡ behind-closes w (rest l)
+  tails w [] = refl
+  tails w (d ∷ l) = refl
+
+  levels-in : (w v : List Token) (p : ℕ) → drop p w ≡ v → m p v .1 ≡ behind-closes w (pending v p)
+  unfolding pending
+  levels-in w [] p e = none p
+  levels-in w (Token.Mark c ∷ v) p e = over p (Token.Mark c) v ∙ levels-in w v (suc p) (drop-next w p e)
+  levels-in w (Token.Open a ∷ v) p e = over p (Token.Open a) v ∙ ap (tail {A = CloseName × A}) (levels-in w v (suc p) (drop-next w p e)) ∙ tails w (pending v (suc p))
+  levels-in w (Token.Close b ∷ v) p e =
+      over p (Token.Close b) v ∙ rw (drop-next w p e) (ap (λ (l : List (CloseName × A)). (b, m (suc p) v .0) ∷ l) (levels-in w v (suc p) (drop-next w p e)))
+
+  -- the outer levels are those behind the pending closes
+  pub outer-levels : (w : List Token) (p : ℕ) → m p (drop p w) .1 ≡ map (λ d. (d .0, m (suc (d .1)) (drop (suc (d .1)) w) .0)) (pendingAt w p)
+  outer-levels w p = levels-in w (drop p w) p refl
+
 pub masks-outer : (g : Rules) (w : List Token) (p : ℕ) → masks g (drop p w) .1 ≡ map (λ d. (d .0, masks g (drop (suc (d .1)) w) .0)) (pendingAt w p)
-masks-outer g w p = levels-in g w (drop p w) p refl
+unfolding masks
+masks-outer g w p = outer-levels (λ q v. masks g v) (λ q. refl) (λ q t v. refl) w p
 
 -- a store behind a close that is not among them
 pub due-set : (f : List ℕ) (j v : ℕ) (l : Closes) → ((d : Close) → List·Memᴰ d l → d .1 ≡ j → ⊥) → dueAt (set f j v) l ≡ dueAt f l

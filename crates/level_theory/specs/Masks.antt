@@ -49,12 +49,12 @@ finishes R = stands (λ L. false) (λ b L. false) (Token.Close (record { 0 = 0 }
 abbrev pub lefts : (Rule → Bool) → Rules → Nonterminals
 lefts p g L = any (λ R. eqb (left R) L && p R) g
 
-abbrev pub tail : Outer → Outer
+abbrev pub tail : {A : Type 0} → List A → List A
 tail [] = []
 tail (d ∷ ms) = ms
 
--- the outer levels before a token
-abbrev pub outer : Token → Masks → Outer
+-- the outer levels before a token, from what is known of the levels behind it
+abbrev pub outer : {A : Type 0} → Token → A × List (CloseName × A) → List (CloseName × A)
 outer (Token.Mark c) m = m .1
 outer (Token.Open a) m = tail (m .1)
 outer (Token.Close b) m = (b, m .0) ∷ m .1

@@ -1,0 +1,4 @@
+pub mod Counting
+pub mod Here
+pub mod Kth
+pub mod Places

@@ -1,0 +1,5 @@
+pub mod Chosen
+pub mod Dues
+pub mod Sizes
+pub mod Walking
+pub mod Whole

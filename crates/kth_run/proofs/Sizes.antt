@@ -1,0 +1,110 @@
+-- The search over the rules at one position, by capped sizes.
+use Prim.Native.Nat.{ℕ, zero, suc, _+_, _*_, _-_, _<_, _≤_}
+use native.Mathlib.Nat.{add-zero, zero-add}
+use native.Mathlib.Omega.{arith}
+use mathlib.Core.Path.{_≡_, refl, sym, _∙_, ap}
+use mathlib.Core.Logic.{_⊎_, inl, inr, _≢_}
+use mathlib.Core.Bool.{Bool, true, false}
+use mathlib.Core.List.{List}
+use borrow.Author.Tests.{ltb-true, lt-ltb, le-ltb}
+use lib.Dec.{ltb}
+use Rattle.laws.proofs.Lists.{trichotomy}
+use Rattle.tables.specs.declared.Head.{Head}
+use Rattle.tables.specs.Table.{ruleIn}
+use Rattle.rule_index.specs.Classes.{classAt, classOf}
+use Rattle.rule_index.specs.Index.{FirstFrom, Indexed}
+use Rattle.rule_index.proofs.Chains.{passed}
+use Rattle.contexts.specs.declared.Context.{Context}
+use Rattle.contexts.specs.Context.{tokenHere}
+use Rattle.contexts.proofs.Ends.{close-kind, fits-empty}
+use Rattle.first_run.specs.Fill.{ruleFits, Smallest}
+use Rattle.first_run.proofs.Walking.{fits-apart}
+use Rattle.capped.specs.Capped.{cap, value}
+use Rattle.count_theory.specs.Tally.{sumBelow}
+use Rattle.count_theory.specs.Counts.{given}
+use Rattle.count_theory.proofs.Places.{below-none}
+use Rattle.count_rows.specs.declared.Place.{Place}
+use Rattle.count_rows.specs.Rows.{partsAt}
+use Rattle.kth_run.specs.declared.Sought.{Sought}
+use Rattle.kth_run.specs.Search.{sizeIn, LocatedIn, Finds}
+
+-- before rule r all are passed
+pub record Passed (f : ℕ → ℕ) (k r i : ℕ) : Type 0 where
+  pub skipped : sumBelow r f + i ≡ k
+
+module _ (t : List ℕ) (sought : Sought) (context : Context) (place : Place) (rows overs : List ℕ) where
+  abbrev pub Size : ℕ → ℕ
+  Size = sizeIn t sought context place rows overs
+
+  -- at a mark or an open a rule of another class has none
+  none-apart : context .kind < 2 → (q : ℕ) → classOf (ruleIn t q) ≢ classAt (tokenHere context) → sumBelow (suc q) Size ≡ sumBelow q Size
+  none-apart h q d = rw (fits-apart t (sought .nonterminal) context h q d) (add-zero (sumBelow q Size))
+
+  pub pass-class : {rules k n a i : ℕ} → context .kind < 2 → FirstFrom t rules (classAt (tokenHere context)) k n → Passed Size a k i → Passed Size a n i
+  pass-class h f z = record { skipped = rw (passed (λ r. sumBelow r Size) t (classAt (tokenHere context)) (none-apart h) f) (z .skipped) }
+
+  pub pass-first : {rules n a : ℕ} → context .kind < 2 → FirstFrom t rules (classAt (tokenHere context)) 0 n → Passed Size a n a
+  pass-first {a = a} h f = pass-class h f (record { skipped = omega arith })
+
+  -- a rule that doesn't fit
+  pub pass-none : {a i : ℕ} (q : ℕ) → ruleFits (ruleIn t q) (sought .nonterminal) context ≡ false → Passed Size a q i → Passed Size a (suc q) i
+  pass-none q e z = record { skipped = rw e (rw (add-zero (sumBelow q Size)) (z .skipped)) }
+
+  -- one that fits, and has too few
+  pub pass-some : {a i : ℕ} (q n : ℕ) → ruleFits (ruleIn t q) (sought .nonterminal) context ≡ true → n ≡ cap (partsAt rows overs place (ruleIn t q) * value (sought .due)) → n ≤ i → Passed Size a q i → Passed Size a (suc q) (i - n)
+  pass-some q n e s l z = record { skipped = rw (e, ← s) (omega (arith, z .skipped)) }
+
+  -- and enough
+  pub located : {rules a i : ℕ} (q n : ℕ) → q < rules → ruleFits (ruleIn t q) (sought .nonterminal) context ≡ true → n ≡ cap (partsAt rows overs place (ruleIn t q) * value (sought .due)) → i < n → Passed Size a q i → LocatedIn rules Size a q i
+  located q n b e s l z = record { below = b; skipped = z .skipped; inside = rw (e, ← s) l }
+
+  -- past all rules
+  pub not-located : {a i : ℕ} (rules r : ℕ) → rules ≤ r → r ≤ rules → Passed Size a r i → a < sumBelow rules Size → ⊥
+  not-located rules r l m z h = let e : r ≡ rules = omega arith in let s = rw e at (z .skipped) in omega (arith, s)
+
+-- ── empty rules ──
+
+-- a sum of which one number alone is not 0
+only-one : (f : ℕ → ℕ) (r n : ℕ) → ((q : ℕ) → q < n → q ≢ r → f q ≡ 0) → sumBelow n f ≡ given (ltb r n) (f r)
+only-one f r zero h = rw (le-ltb r 0 (omega arith))
+only-one f r (suc n) h = rw (only-one f r n (λ q l d. h q (omega arith) d)) (go (trichotomy r n))
+  where
+    go : (r ≡ n) ⊎ ((r < n) ⊎ (n < r)) → given (ltb r n) (f r) + f n ≡ given (ltb r (suc n)) (f r)
+    go (inl e) = rw (le-ltb r n (omega (arith, e)), lt-ltb r (suc n) (omega (arith, e))) (zero-add (f n) ∙ ap f (sym e))
+    go (inr (inl l)) = rw (lt-ltb r n l, lt-ltb r (suc n) (omega arith), h n (omega arith) (λ e. omega (arith, e))) (add-zero (f r))
+    go (inr (inr l)) = rw (le-ltb r n (omega arith), le-ltb r (suc n) (omega arith), h n (omega arith) (λ e. omega (arith, e)))
+
+-- where empty rules alone can stand, the smallest that fits is the only one
+pub end-finds : {t : List ℕ} {head : Head} (x : Indexed t head) (sought : Sought) (context : Context) (place : Place) (rows overs : List ℕ) (r : ℕ) → 2 ≤ context .kind → Smallest t head (sought .nonterminal) context r →
+    Finds t head sought context place rows overs (record { rule = r; number = sought .number })
+end-finds {t} {head} x sought context place rows overs r h s l = go (ltb r (head .rules)) refl (rw (only-one f r (head .rules) others) at l)
+  where
+    L : ℕ
+    L = sought .nonterminal
+
+    a : ℕ
+    a = sought .number
+
+    f : ℕ → ℕ
+    f = sizeIn t sought context place rows overs
+
+    none : (q : ℕ) → ruleFits (ruleIn t q) L context ≡ false → f q ≡ 0
+    none q e = rw e
+
+    fits-twice : (q : ℕ) → q < head .rules → r < q → (b : Bool) → ruleFits (ruleIn t q) L context ≡ b → b ≡ false
+    fits-twice q l m true e =
+        let c = close-kind context h in
+        absurd (x .ready .distinct r q m l (fits-empty t head context c r L (s .found (omega arith)) ∙ sym (fits-empty t head context c q L e)))
+    fits-twice q l m false e = refl
+
+    others : (q : ℕ) → q < head .rules → q ≢ r → f q ≡ 0
+    others q l d = go′ (trichotomy q r)
+      where
+        go′ : (q ≡ r) ⊎ ((q < r) ⊎ (r < q)) → f q ≡ 0
+        go′ (inl e) = absurd (d e)
+        go′ (inr (inl m)) = none q (s .least q m)
+        go′ (inr (inr m)) = none q (fits-twice q l m (ruleFits (ruleIn t q) L context) refl)
+
+    go : (b : Bool) → ltb r (head .rules) ≡ b → a < given b (f r) → LocatedIn (head .rules) f a r a
+    go true e m = record { below = ltb-true r (head .rules) e; skipped = rw (below-none r f (λ q k. none q (s .least q k))) (zero-add a); inside = m }
+    go false e m = absurd (omega arith)

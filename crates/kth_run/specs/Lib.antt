@@ -1,0 +1,3 @@
+pub mod Kth
+pub mod Search
+pub mod Walk
