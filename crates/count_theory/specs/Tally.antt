@@ -7,6 +7,7 @@ use mathlib.Core.List.{List, [], _∷_}
 use lib.Dec.{eqb}
 use Rattle.sets_theory.specs.believed.Sets.{one}
 
+-- how many of the lists pass
 abbrev pub tally : (List ℕ → Bool) → List (List ℕ) → ℕ
 tally f [] = 0
 tally f (e ∷ l) = one (f e) + tally f l
