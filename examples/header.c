@@ -1,6 +1,7 @@
 /* Checks what gaffmedlar.h does by itself: NULL for what has length 0, the words of the answers, the part of a file as a
  * struct, on the examples of one step's bytes, and the reply of a writer, on the examples of written files. Then the services
- * on grammars that say their start, and on names of up to three bytes; and the choices on examples.
+ * on grammars that say their start, and on names of up to three bytes; the choices, and how many readings there are and the
+ * k-th of them, on examples.
  *
  * Build, in the repository's root:
  *     tools/build library
@@ -8,6 +9,7 @@
  */
 #include "gaffmedlar.h"
 
+#include <inttypes.h>
 #include <stdio.h>
 #include <string.h>
 
@@ -416,6 +418,238 @@ static void choices(void)
     DUE_CHOICES("three rules of one stage", three, mark, 1);
 }
 
+static void due_readings(const char *what, struct gaffmedlar_readings given, int answer, uint64_t count)
+{
+    due(what, given.answer, answer);
+    if (given.count != count) {
+        printf("%s: %" PRIu64 " readings, and %" PRIu64 " are due\n", what, given.count, count);
+        faults++;
+    }
+}
+
+/* Two files, with how many bytes they have. */
+struct frame {
+    const uint8_t *grammar;
+    size_t grammar_len;
+    const uint8_t *history;
+    size_t history_len;
+};
+
+#define FRAME(grammar, history) {grammar, sizeof grammar, history, sizeof history}
+
+static void due_total(const char *what, struct frame of, int answer, uint64_t count)
+{
+    due_readings(what, gaffmedlar_reading_count(of.grammar, of.grammar_len, of.history, of.history_len), answer, count);
+}
+
+static void due_at(const char *what, struct frame of, size_t position, size_t rule, int answer, uint64_t count)
+{
+    struct gaffmedlar_readings given =
+        gaffmedlar_reading_count_at(of.grammar, of.grammar_len, of.history, of.history_len, position, rule);
+    due_readings(what, given, answer, count);
+}
+
+/* What is due for a k and a buffer of room bytes: so many bytes of a reading, with number 0; or no byte, with the number. */
+static void due_kth(const char *what, struct frame of, uint64_t k, size_t room, int number, const uint8_t *reading,
+                    size_t reading_len)
+{
+    static uint8_t memory[BESIDE + GAFFMEDLAR_READING_MAX + BESIDE];
+    memset(memory, FILLING, sizeof memory);
+    due(what,
+        gaffmedlar_reading_at(of.grammar, of.grammar_len, of.history, of.history_len, k, room > 0 ? memory + BESIDE : NULL,
+                              room),
+        number);
+    for (size_t i = 0; i < sizeof memory; i++) {
+        int due_byte = i >= BESIDE && i < BESIDE + reading_len ? reading[i - BESIDE] : FILLING;
+        if (memory[i] != due_byte) {
+            printf("%s, reading %" PRIu64 ": byte %td is %d, and %d is due\n", what, k, (ptrdiff_t)i - BESIDE, memory[i],
+                   due_byte);
+            faults++;
+        }
+    }
+}
+
+static void refused_kth(const char *what, struct frame of, uint64_t k, size_t room, int number)
+{
+    due_kth(what, of, k, room, number, NULL, 0);
+}
+
+/* Steps through all readings of two files that pass, and counts them and their rules. Reading k is the one that this comes to
+ * with k; the counts are these, and at each position add up. */
+static void due_as_stepwise(const char *what, struct frame of)
+{
+    static uint8_t reading[GAFFMEDLAR_READING_MAX];
+    static uint64_t at[GAFFMEDLAR_READING_MAX][GAFFMEDLAR_RULES_MAX];
+    size_t n = gaffmedlar_history_check(of.history, of.history_len).tokens;
+    uint64_t k = 0;
+    int answer = gaffmedlar_first_reading(of.grammar, of.grammar_len, of.history, of.history_len, reading, n + 1);
+
+    memset(at, 0, sizeof at);
+    while (answer == GAFFMEDLAR_OK) {
+        k++;
+        due_kth(what, of, k, n + 1, GAFFMEDLAR_OK, reading, n + 1);
+        for (size_t p = 0; p <= n; p++)
+            at[p][reading[p]]++;
+        answer = gaffmedlar_next_reading(of.grammar, of.grammar_len, of.history, of.history_len, reading, n + 1);
+    }
+    due_total(what, of, GAFFMEDLAR_OK, k);
+    refused_kth(what, of, k + 1, n + 1, GAFFMEDLAR_REFUSED_OUT_OF_RANGE);
+    for (size_t p = 0; p <= n; p++) {
+        uint64_t sum = 0;
+        for (size_t rule = 0; rule < GAFFMEDLAR_RULES_MAX; rule++) {
+            due_at(what, of, p, rule, GAFFMEDLAR_OK, at[p][rule]);
+            sum += gaffmedlar_reading_count_at(of.grammar, of.grammar_len, of.history, of.history_len, p, rule).count;
+        }
+        due_total(what, of, GAFFMEDLAR_OK, sum);
+    }
+}
+
+/* Fills a history with this row of tokens so many times; gives how many bytes it has. All numbers but the count are one byte. */
+static size_t repeated(uint8_t *history, const uint8_t *tokens, size_t tokens_len, size_t times)
+{
+    size_t count = tokens_len * times, at = 0;
+    if (count >= 128)
+        history[at++] = (uint8_t)(count % 128 + 128);
+    history[at++] = (uint8_t)(count >= 128 ? count / 128 : count);
+    for (size_t i = 0; i < count; i++)
+        history[at++] = tokens[i % tokens_len];
+    return at;
+}
+
+static const uint8_t g_bytes[] = {3, 7, RULES_OF_G};
+/* Has 2^n - 1 readings for n marks: by rule 0 up to some mark, rule 1 there, and from then on either of two rules. */
+static const uint8_t top[] = {3, 8, 1, 0, 0, 0, 1, 0, 0, 1, 1, 1, 0, 1, 1, 1, 0, 2, 0, 1, 1, 2, 0, 1, 1, 2, 0, 2, 0, 2};
+
+/* G's history of one step, and others of few readings. */
+static void few_readings(void)
+{
+    static const uint8_t no_token[] = {0}, mark[] = {1, 0}, step[] = {3, 1, 0, 2}, two_steps[] = {4, 1, 2, 1, 2},
+                         three_marks[] = {3, 0, 0, 0};
+    static const uint8_t exchanged[] = {G_EXCHANGED}, three[] = {4, 6, 1, 0, 0, 1, 1, 0, 0, 2, 1, 0, 0, 3, 0, 1, 0, 2, 0, 3};
+    static const uint8_t second[] = {2, 5, 6, 0}, third[] = {2, 6, 1, 4, 0};
+    static const struct frame one = FRAME(g_bytes, step), two = FRAME(g_bytes, two_steps), unread = FRAME(g_bytes, mark);
+    static const struct frame all[] = {FRAME(g_bytes, no_token),  FRAME(g_bytes, mark),
+                                       FRAME(g_bytes, step),      FRAME(g_bytes, two_steps),
+                                       FRAME(exchanged, two_steps), FRAME(three, mark),
+                                       FRAME(top, three_marks)};
+    static const size_t large[] = {4, (size_t)1 << 31, SIZE_MAX / 2 + 1, SIZE_MAX};
+
+    for (size_t i = 0; i < sizeof all / sizeof all[0]; i++)
+        due_as_stepwise("stepwise", all[i]);
+    due_total("a step", one, GAFFMEDLAR_OK, 2);
+    due_at("a step", one, 0, 1, GAFFMEDLAR_OK, 1);
+    due_at("a step", one, 3, 0, GAFFMEDLAR_OK, 2);
+    due_at("a rule behind the last", one, 0, 7, GAFFMEDLAR_OK, 0);
+    due_at("a rule behind all", one, 0, 128, GAFFMEDLAR_OK, 0);
+    due_at("a rule of any number", one, 0, SIZE_MAX, GAFFMEDLAR_OK, 0);
+    for (size_t i = 0; i < sizeof large / sizeof large[0]; i++) {
+        due_at("a position above n", one, large[i], 0, GAFFMEDLAR_REFUSED_OUT_OF_RANGE, 0);
+        due_at("a position above n", one, large[i], 200, GAFFMEDLAR_REFUSED_OUT_OF_RANGE, 0);
+    }
+    due_kth("a step", one, 2, 4, GAFFMEDLAR_OK, second, 4);
+    due_kth("a step, in more room", one, 2, 9, GAFFMEDLAR_OK, second, 4);
+    due_kth("two steps", two, 3, 5, GAFFMEDLAR_OK, third, 5);
+    refused_kth("k is 0", one, 0, 4, GAFFMEDLAR_REFUSED_OUT_OF_RANGE);
+    refused_kth("k above the count", one, 3, 4, GAFFMEDLAR_REFUSED_OUT_OF_RANGE);
+    refused_kth("k above the count", one, UINT64_MAX, 4, GAFFMEDLAR_REFUSED_OUT_OF_RANGE);
+    for (size_t room = 0; room < 4; room++)
+        for (uint64_t k = 0; k < 4; k++)
+            refused_kth("15 before 18", one, k, room, GAFFMEDLAR_REFUSED_BUFFER_SHORT);
+    due_total("no reading", unread, GAFFMEDLAR_OK, 0);
+    refused_kth("no reading", unread, 1, 2, GAFFMEDLAR_REFUSED_OUT_OF_RANGE);
+    refused_kth("no reading, 15 before 18", unread, 1, 1, GAFFMEDLAR_REFUSED_BUFFER_SHORT);
+}
+
+/* A file's refusal comes before 15 and 18, and the grammar's before the history's. */
+static void no_readings(void)
+{
+    static const uint8_t still_open[] = {1, 1}, cut_off[] = {1};
+    static const struct frame unclosed = FRAME(g_bytes, still_open), both = FRAME(cut_off, still_open);
+
+    due_total("still open", unclosed, GAFFMEDLAR_REFUSED_STILL_OPEN, 0);
+    due_at("still open", unclosed, SIZE_MAX, 0, GAFFMEDLAR_REFUSED_STILL_OPEN, 0);
+    refused_kth("still open", unclosed, 0, 0, GAFFMEDLAR_REFUSED_STILL_OPEN);
+    due_total("cut off", both, GAFFMEDLAR_REFUSED_BYTES_END, 0);
+    due_at("cut off", both, SIZE_MAX, 0, GAFFMEDLAR_REFUSED_BYTES_END, 0);
+    refused_kth("cut off", both, 0, 0, GAFFMEDLAR_REFUSED_BYTES_END);
+}
+
+/* G on 63 and on 64 empty steps: 2^63 readings, and one more than a count can say. */
+static void many_steps(void)
+{
+    static const uint8_t step[] = {1, 2};
+    static uint8_t history[GAFFMEDLAR_HISTORY_BYTES_MAX], reading[129];
+    const uint64_t half = (uint64_t)1 << 63;
+    struct frame of = {g_bytes, sizeof g_bytes, history, repeated(history, step, 2, 63)};
+
+    due_total("63 steps", of, GAFFMEDLAR_OK, half);
+    for (size_t p = 0; p < 126; p += 2) {
+        due_at("63 steps", of, p, 1, GAFFMEDLAR_OK, half / 2);
+        due_at("63 steps", of, p + 1, 6, GAFFMEDLAR_OK, half / 2);
+    }
+    due_at("63 steps", of, 126, 0, GAFFMEDLAR_OK, half);
+    refused_kth("63 steps", of, half + 1, 127, GAFFMEDLAR_REFUSED_OUT_OF_RANGE);
+    for (size_t p = 0; p < 126; p++)
+        reading[p] = p % 2 == 0 ? 2 : 6;
+    reading[126] = 0;
+    due_kth("63 steps, the last", of, half, 127, GAFFMEDLAR_OK, reading, 127);
+
+    of.history_len = repeated(history, step, 2, 64);
+    due_total("64 steps", of, GAFFMEDLAR_OVER, 0);
+    due_at("64 steps", of, 0, 1, GAFFMEDLAR_OK, half);
+    due_at("64 steps", of, 127, 6, GAFFMEDLAR_OK, half);
+    due_at("64 steps", of, 128, 0, GAFFMEDLAR_OVER, 0);
+    due_at("64 steps", of, 128, 128, GAFFMEDLAR_OK, 0);
+    due_at("64 steps", of, 129, 0, GAFFMEDLAR_REFUSED_OUT_OF_RANGE, 0);
+    refused_kth("64 steps", of, 0, 129, GAFFMEDLAR_REFUSED_OUT_OF_RANGE);
+    for (size_t p = 0; p < 128; p++)
+        reading[p] = p % 2 == 0 ? 2 : 6;
+    reading[128] = 0;
+    reading[0] = 1;
+    reading[1] = 4;
+    due_kth("64 steps, half of them", of, half, 129, GAFFMEDLAR_OK, reading, 129);
+    reading[0] = 2;
+    reading[1] = 6;
+    reading[126] = 1;
+    reading[127] = 4;
+    due_kth("64 steps, the largest k", of, UINT64_MAX, 129, GAFFMEDLAR_OK, reading, 129);
+}
+
+/* The largest count, 2^64 - 1, and twice as many and one; none times over; over times one. */
+static void largest_count(void)
+{
+    static const uint8_t behind[] = {4, 9, 2, 0, 0, 1, 0, 2, 1, 1, 0, 1, 1, 1, 0, 3, 0, 1, 1,
+                                     3, 0, 1, 1, 3, 0, 3, 0, 3, 1, 2, 1, 2, 0, 2},
+                         mark[] = {0};
+    static uint8_t history[GAFFMEDLAR_HISTORY_BYTES_MAX], reading[65];
+    struct frame of = {top, sizeof top, history, repeated(history, mark, 1, 64)};
+
+    due_total("64 marks", of, GAFFMEDLAR_OK, UINT64_MAX);
+    memset(reading, 6, sizeof reading);
+    reading[0] = 1;
+    reading[1] = 3;
+    reading[64] = 7;
+    due_kth("64 marks, the last", of, UINT64_MAX, 65, GAFFMEDLAR_OK, reading, 65);
+    refused_kth("64 marks", of, 0, 65, GAFFMEDLAR_REFUSED_OUT_OF_RANGE);
+    of.history_len = repeated(history, mark, 1, 65);
+    due_total("65 marks", of, GAFFMEDLAR_OVER, 0);
+    due_at("65 marks", of, 0, 0, GAFFMEDLAR_OK, UINT64_MAX);
+    due_at("65 marks", of, 0, 1, GAFFMEDLAR_OVER, 0);
+
+    /* a step of 70 marks inside, and behind it nothing, a mark that no rule makes there, and one that a rule makes */
+    static const int behind_due[] = {GAFFMEDLAR_OVER, GAFFMEDLAR_OK, GAFFMEDLAR_OVER};
+    static const uint8_t marks_behind[] = {0, 0, 4};
+    for (uint8_t i = 0; i < 3; i++) {
+        memset(history, 0, 75);
+        history[0] = 72 + (i > 0);
+        history[1] = 1;
+        history[72] = 2;
+        history[73] = marks_behind[i];
+        struct frame step = {behind, sizeof behind, history, (size_t)history[0] + 1};
+        due_total("a step of 70 marks", step, behind_due[i], 0);
+    }
+}
+
 /* NULL for what has length 0. */
 static void without_pointers(void)
 {
@@ -430,6 +664,12 @@ static void without_pointers(void)
         GAFFMEDLAR_REFUSED_BUFFER_SHORT);
     due("next reading", gaffmedlar_next_reading(grammar, sizeof grammar, history, sizeof history, NULL, 0),
         GAFFMEDLAR_REFUSED_BUFFER_SHORT);
+    due("reading count", gaffmedlar_reading_count(NULL, 0, history, sizeof history).answer, GAFFMEDLAR_REFUSED_BYTES_END);
+    due("reading count", gaffmedlar_reading_count(grammar, sizeof grammar, NULL, 0).answer, GAFFMEDLAR_REFUSED_BYTES_END);
+    due("reading count at", gaffmedlar_reading_count_at(NULL, 0, NULL, 0, 0, 0).answer, GAFFMEDLAR_REFUSED_BYTES_END);
+    due("reading at", gaffmedlar_reading_at(grammar, sizeof grammar, history, sizeof history, 1, NULL, 0),
+        GAFFMEDLAR_REFUSED_BUFFER_SHORT);
+    due("reading at", gaffmedlar_reading_at(NULL, 0, NULL, 0, 1, NULL, 0), GAFFMEDLAR_REFUSED_BYTES_END);
     due("sets", gaffmedlar_sets(grammar, sizeof grammar, history, sizeof history, NULL, 0), GAFFMEDLAR_REFUSED_BUFFER_SHORT);
     due("stop marks", gaffmedlar_stop_marks(grammar, sizeof grammar, history, sizeof history, NULL, 0),
         GAFFMEDLAR_REFUSED_BUFFER_SHORT);
@@ -463,12 +703,16 @@ int main(void)
     wide_limits();
     wide_names();
     choices();
+    few_readings();
+    no_readings();
+    many_steps();
+    largest_count();
 
     int said = 0;
     for (int answer = 0; answer < 256; answer++)
         said += strcmp(gaffmedlar_words((uint8_t)answer), gaffmedlar_words(255)) != 0;
-    if (said != 20) {
-        printf("%d answers have words, and 20 are due\n", said);
+    if (said != 22) {
+        printf("%d answers have words, and 22 are due\n", said);
         faults++;
     }
     return faults != 0;

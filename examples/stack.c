@@ -1,6 +1,6 @@
 /* Measures how much stack each function uses: it is called on a stack of its own that was painted before, on files at
  * every limit, and the deepest byte that changed is looked for. Fails where less than 1 KiB is left of what gaffmedlar.h
- * states. Then each function is called in a thread with the stack that gaffmedlar.h says is enough.
+ * states. Each function is also called in a thread with the stack that gaffmedlar.h says is enough.
  *
  * Build, in the repository's root:
  *     tools/build library
@@ -16,7 +16,6 @@
 #include <ucontext.h>
 
 #define STACK (4u << 20)
-#define THREAD (64u << 10)
 #define PAINT 0xa7
 #define LEFT 1024 /* bytes of what is stated that are never used */
 
@@ -54,6 +53,17 @@ static void sets(void)
     gaffmedlar_sets(grammar, grammar_len, history, history_len, words, GAFFMEDLAR_WORDS_MAX);
 }
 static void choices(void) { gaffmedlar_choice_count(grammar, grammar_len, history, history_len); }
+static void reading_count(void) { gaffmedlar_reading_count(grammar, grammar_len, history, history_len); }
+static void reading_count_at(void)
+{
+    gaffmedlar_reading_count_at(grammar, grammar_len, history, history_len, 1023, 1);
+}
+/* The first reading, and one that is served where there are more than a count can say. */
+static void reading_at(void)
+{
+    gaffmedlar_reading_at(grammar, grammar_len, history, history_len, 1, reading, sizeof reading);
+    gaffmedlar_reading_at(grammar, grammar_len, history, history_len, UINT64_MAX, reading, sizeof reading);
+}
 static void stop_marks(void)
 {
     gaffmedlar_stop_marks(grammar, grammar_len, history, history_len, marks, sizeof marks);
@@ -92,12 +102,12 @@ static void *call(void *function)
     return NULL;
 }
 
-/* Whether the function runs through in a thread; one that needs more stack than it has ends the whole program. */
-static int in_thread(void (*function)(void))
+/* Whether the function runs through in a thread with so many KiB; one that needs more than it has ends the whole program. */
+static int in_thread(void (*function)(void), size_t kib)
 {
     pthread_attr_t attributes;
     pthread_t thread;
-    return pthread_attr_init(&attributes) == 0 && pthread_attr_setstacksize(&attributes, THREAD) == 0 &&
+    return pthread_attr_init(&attributes) == 0 && pthread_attr_setstacksize(&attributes, kib << 10) == 0 &&
            pthread_create(&thread, &attributes, call, &function) == 0 && pthread_join(thread, NULL) == 0;
 }
 
@@ -151,7 +161,7 @@ static void full_history(int pattern, uint32_t name)
 
 /* The most that the function uses on the files of both beginnings, all patterns, and names of one byte and of three; 0 where a
  * thread could not be made. */
-static size_t most_used(void (*function)(void))
+static size_t most_used(void (*function)(void), size_t thread)
 {
     static const uint32_t names[] = {0, 65535};
     size_t most = 0;
@@ -162,7 +172,7 @@ static size_t most_used(void (*function)(void))
         size_t bytes = used(function);
         if (bytes > most)
             most = bytes;
-        if (!in_thread(function))
+        if (!in_thread(function, thread))
             return 0;
     }
     return most - used(nothing);
@@ -173,24 +183,33 @@ int main(void)
     struct {
         const char *name;
         void (*function)(void);
-        size_t stated; /* KiB */
-    } all[] = {{"gaffmedlar_grammar_check", grammar_check, 8}, {"gaffmedlar_history_check", history_check, 8},
-               {"gaffmedlar_first_reading", first, 32},        {"gaffmedlar_next_reading", next, 40},
-               {"gaffmedlar_run_calls", run_calls, 48},        {"gaffmedlar_sets", sets, 32},
-               {"gaffmedlar_choice_count", choices, 32},       {"gaffmedlar_stop_marks", stop_marks, 28},
-               {"gaffmedlar_step_bytes", step_bytes, 8},       {"gaffmedlar_step_refusal", step_refusal, 8},
-               {"gaffmedlar_write_grammar", write_grammar, 8}, {"gaffmedlar_write_history", write_history, 12}};
+        size_t stated, thread; /* KiB */
+    } all[] = {{"gaffmedlar_grammar_check", grammar_check, 8, 64},
+               {"gaffmedlar_history_check", history_check, 8, 64},
+               {"gaffmedlar_first_reading", first, 32, 64},
+               {"gaffmedlar_next_reading", next, 40, 64},
+               {"gaffmedlar_run_calls", run_calls, 48, 64},
+               {"gaffmedlar_sets", sets, 32, 64},
+               {"gaffmedlar_choice_count", choices, 32, 64},
+               {"gaffmedlar_reading_count", reading_count, 288, 320},
+               {"gaffmedlar_reading_count_at", reading_count_at, 288, 320},
+               {"gaffmedlar_reading_at", reading_at, 304, 320},
+               {"gaffmedlar_stop_marks", stop_marks, 28, 64},
+               {"gaffmedlar_step_bytes", step_bytes, 8, 64},
+               {"gaffmedlar_step_refusal", step_refusal, 8, 64},
+               {"gaffmedlar_write_grammar", write_grammar, 8, 64},
+               {"gaffmedlar_write_history", write_history, 12, 64}};
     int faults = 0;
     stack = malloc(STACK);
     if (stack == NULL)
         return 2;
     for (size_t i = 0; i < sizeof all / sizeof all[0]; i++) {
-        size_t most = most_used(all[i].function);
-        printf("%-26s %6zu bytes of stack, stated %zu KiB\n", all[i].name, most, all[i].stated);
+        size_t most = most_used(all[i].function, all[i].thread);
+        printf("%-27s %6zu bytes of stack, stated %zu KiB; in a thread of %zu KiB\n", all[i].name, most, all[i].stated,
+               all[i].thread);
         if (most == 0 || most + LEFT > all[i].stated << 10)
             faults = 1;
     }
-    printf("each of them in a thread of %u KiB\n", THREAD >> 10);
     free(stack);
     return faults;
 }

@@ -9,9 +9,10 @@
  *     0         all went well: accepted, written, counted, made
  *     100       "none": the history has no reading
  *     101       "no further": the reading in the buffer is the last one
- *     1 to 17   the number of the refusal, of which the constants below say what is wrong
+ *     102       "over": there are more readings than a count can say, that is, more than 2^64 - 1
+ *     1 to 18   the number of the refusal, of which the constants below say what is wrong
  *
- * The number of the first fault is given, the grammar's before the history's, both before 15, and 15 before 16; the
+ * The number of the first fault is given, the grammar's before the history's, both before 15, and 15 before 16 or 18; the
  * history's before 17. gaffmedlar_step_bytes gives no number: gaffmedlar_step_refusal gives it. A writer gives the number
  * that a check would give the file, before 15.
  *
@@ -41,7 +42,7 @@
  *     at position n   the form 0 rule that ends the top level
  *
  * A reading derives the whole history from the start stage. Readings are ordered by the first position where they differ,
- * smaller rule number first.
+ * smaller rule number first. Reading k is the k-th in this order, counted from 1.
  *
  * Pointers
  *
@@ -66,8 +67,10 @@
  *
  * "Stack" below is what the function itself uses at most: measured on files at every limit, at least 1 KiB more, and
  * rounded up to 4 KiB. A thread needs some for its own start beside that: 64 KiB are enough for a thread that calls any
- * of the functions. examples/stack.c measures both, and the gate fails where less than 1 KiB is left of a number stated
- * here.
+ * of the functions but three. gaffmedlar_reading_count, gaffmedlar_reading_count_at and gaffmedlar_reading_at take more,
+ * since they hold a count of 64 bits for each stage at each position: 320 KiB are enough for a thread that calls them. Where
+ * stacks are smaller, call them in a thread that has so much, or step through the readings with gaffmedlar_next_reading.
+ * examples/stack.c measures all of this, and the gate fails where less than 1 KiB is left of a number stated here.
  */
 #ifndef GAFFMEDLAR_H
 #define GAFFMEDLAR_H
@@ -85,6 +88,7 @@ extern "C" {
 #define GAFFMEDLAR_OK 0
 #define GAFFMEDLAR_NO_READING 100
 #define GAFFMEDLAR_NO_FURTHER 101
+#define GAFFMEDLAR_OVER 102
 
 /* The numbers of the refusals. Before the words stands whose fault it is: that of the grammar file, of the history file,
  * of one of them (both), or of the call. */
@@ -105,6 +109,7 @@ extern "C" {
 #define GAFFMEDLAR_REFUSED_BUFFER_SHORT 15       /* call: a lent buffer shorter than its service writes or reads */
 #define GAFFMEDLAR_REFUSED_NOT_A_READING 16      /* call: the first n + 1 bytes handed to "next reading" are no reading of this history */
 #define GAFFMEDLAR_REFUSED_NOT_AN_OPEN 17        /* call: the position is not that of an open */
+#define GAFFMEDLAR_REFUSED_OUT_OF_RANGE 18       /* call: k is 0 or above the count of readings, or the position is above n */
 
 /* The most that files which pass can have: use these for buffers of a fixed size. */
 #define GAFFMEDLAR_STAGES_MAX 32
@@ -131,6 +136,12 @@ struct gaffmedlar_history {
 struct gaffmedlar_count {
     uint8_t answer; /* 0, or the number of the refusal */
     uint32_t count; /* 0 where refused */
+};
+
+/* A count of readings. It is exact where answer is 0; look at answer first, since count is 0 with every other one. */
+struct gaffmedlar_readings {
+    uint8_t answer; /* 0, 102 (over: more than 2^64 - 1), or the number of the refusal */
+    uint64_t count; /* 0 where over or refused */
 };
 
 /* A part of a file: `length` bytes from file[start] on. */
@@ -188,6 +199,30 @@ uint8_t gaffmedlar_sets(const uint8_t *grammar, size_t grammar_len, const uint8_
  * Answers 0 with the count (0 where there is no reading), or 1 to 14. Writes nothing. Stack: 32 KiB. */
 struct gaffmedlar_count gaffmedlar_choice_count(const uint8_t *grammar, size_t grammar_len, const uint8_t *history,
                                                 size_t history_len);
+
+/* Counts the readings. Neither this function nor the two behind it step through readings: the work is about the tokens times
+ * the rules, however many readings there are and whatever k is.
+ * Answers 0 with the count (0 where there is no reading; 2^64 - 1 is a count like any other), 102 (more than that), or
+ * 1 to 14. Writes nothing. Stack: 288 KiB. */
+struct gaffmedlar_readings gaffmedlar_reading_count(const uint8_t *grammar, size_t grammar_len, const uint8_t *history,
+                                                    size_t history_len);
+
+/* Counts the readings that have the rule at the position. Both may be any number: a rule that the grammar doesn't have
+ * stands nowhere, so its count is 0. The count is told by itself: it may be exact where there are more than 2^64 - 1
+ * readings in all. Where there are not, the counts of all rules at a position add up to that of gaffmedlar_reading_count.
+ * Answers 0 with the count, 102 (more than 2^64 - 1), 1 to 14, or 18 (the position is above n, whatever the rule).
+ * Writes nothing. Stack: 288 KiB. */
+struct gaffmedlar_readings gaffmedlar_reading_count_at(const uint8_t *grammar, size_t grammar_len,
+                                                       const uint8_t *history, size_t history_len, size_t position,
+                                                       size_t rule);
+
+/* Gives reading k, counted from 1: what the buffer holds after one call of gaffmedlar_first_reading and k - 1 of
+ * gaffmedlar_next_reading, which go on from it too.
+ * Answers 0 (written), 1 to 14, 15 (reading_len below n + 1, also where there is no reading), or 18 (k is 0 or above the
+ * count, which is every k where there is no reading). Where gaffmedlar_reading_count answers 102, no k but 0 is refused.
+ * Writes reading[0] to reading[n], with answer 0 alone. Stack: 304 KiB. */
+uint8_t gaffmedlar_reading_at(const uint8_t *grammar, size_t grammar_len, const uint8_t *history, size_t history_len,
+                              uint64_t k, uint8_t *reading, size_t reading_len);
 
 /* Gives the stop marks: marks[i] is 1 where the first i tokens alone have a reading, else 0.
  * Answers 0 (written), 1 to 14, or 15 (marks_len below n + 1).
@@ -268,10 +303,14 @@ static inline const char *gaffmedlar_words(uint8_t answer)
         return "the first n + 1 bytes handed to \"next reading\" are no reading of this history";
     case GAFFMEDLAR_REFUSED_NOT_AN_OPEN:
         return "the position is not that of an open";
+    case GAFFMEDLAR_REFUSED_OUT_OF_RANGE:
+        return "k is 0 or above the count of readings, or the position is above n";
     case GAFFMEDLAR_NO_READING:
         return "none: the history has no reading";
     case GAFFMEDLAR_NO_FURTHER:
         return "no further: the reading in the buffer is the last one";
+    case GAFFMEDLAR_OVER:
+        return "over: there are more than 2^64 - 1 readings";
     default:
         return "no answer of this library";
     }
@@ -355,6 +394,29 @@ static inline struct gaffmedlar_count gaffmedlar_choice_count_(const uint8_t *gr
                                    gaffmedlar_read_(history, history_len), history_len);
 }
 
+static inline struct gaffmedlar_readings gaffmedlar_reading_count_(const uint8_t *grammar, size_t grammar_len,
+                                                                   const uint8_t *history, size_t history_len)
+{
+    return gaffmedlar_reading_count(gaffmedlar_read_(grammar, grammar_len), grammar_len,
+                                    gaffmedlar_read_(history, history_len), history_len);
+}
+
+static inline struct gaffmedlar_readings gaffmedlar_reading_count_at_(const uint8_t *grammar, size_t grammar_len,
+                                                                      const uint8_t *history, size_t history_len,
+                                                                      size_t position, size_t rule)
+{
+    return gaffmedlar_reading_count_at(gaffmedlar_read_(grammar, grammar_len), grammar_len,
+                                       gaffmedlar_read_(history, history_len), history_len, position, rule);
+}
+
+static inline uint8_t gaffmedlar_reading_at_(const uint8_t *grammar, size_t grammar_len, const uint8_t *history,
+                                             size_t history_len, uint64_t k, uint8_t *reading, size_t reading_len)
+{
+    return gaffmedlar_reading_at(gaffmedlar_read_(grammar, grammar_len), grammar_len,
+                                 gaffmedlar_read_(history, history_len), history_len, k,
+                                 gaffmedlar_buffer_(reading, reading_len), reading_len);
+}
+
 static inline uint8_t gaffmedlar_stop_marks_(const uint8_t *grammar, size_t grammar_len, const uint8_t *history,
                                              size_t history_len, uint8_t *marks, size_t marks_len)
 {
@@ -395,6 +457,9 @@ static inline struct gaffmedlar_written gaffmedlar_write_history_(const uint32_t
 #define gaffmedlar_run_calls gaffmedlar_run_calls_
 #define gaffmedlar_sets gaffmedlar_sets_
 #define gaffmedlar_choice_count gaffmedlar_choice_count_
+#define gaffmedlar_reading_count gaffmedlar_reading_count_
+#define gaffmedlar_reading_count_at gaffmedlar_reading_count_at_
+#define gaffmedlar_reading_at gaffmedlar_reading_at_
 #define gaffmedlar_stop_marks gaffmedlar_stop_marks_
 #define gaffmedlar_step_bytes gaffmedlar_step_bytes_
 #define gaffmedlar_step_refusal gaffmedlar_step_refusal_

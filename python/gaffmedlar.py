@@ -19,6 +19,10 @@ that answers a refusal, "none" or "no further" writes nothing.
 The set of a position is the rules that stand there in some reading. A position is a choice where two rules of its set are
 of one and the same stage. A history has more than one reading exactly when it has a choice.
 
+A count of readings is an int where it is at most 2^64 - 1, and OVER where there are more. `reading_count`,
+`reading_count_at`, `reading_at` and `reading_at_into` take up to 304 KiB of the stack of the thread that calls them, all
+others up to 48 KiB. A thread that Python starts has more, unless threading.stack_size has made it less.
+
 The library is the file that the environment variable GAFFMEDLAR_LIBRARY names; otherwise it is looked for beside the
 installed module, and in the repository's target/shared.
 """
@@ -34,10 +38,11 @@ from typing import Any, Iterable, Iterator, List, NamedTuple, Optional, Union
 __version__ = "0.1.0"
 
 __all__ = [
-    "Call", "CallAnswer", "First", "GRAMMAR_BYTES_MAX", "GrammarCounts", "HISTORY_BYTES_MAX", "Next", "READING_MAX",
-    "REFUSALS", "Refusal", "RefusalRow", "Sets", "WORDS_MAX", "choice_count", "first_reading", "grammar_check",
-    "history_check", "next_reading", "numbers", "readings", "run_calls", "sets", "sets_into", "step_bytes", "step_range",
-    "stop_marks", "write_grammar", "write_grammar_into", "write_history", "write_history_into",
+    "Call", "CallAnswer", "First", "GRAMMAR_BYTES_MAX", "GrammarCounts", "HISTORY_BYTES_MAX", "Next", "OVER", "Over",
+    "READING_MAX", "REFUSALS", "Refusal", "RefusalRow", "Sets", "WORDS_MAX", "choice_count", "first_reading",
+    "grammar_check", "history_check", "next_reading", "numbers", "reading_at", "reading_at_into", "reading_count",
+    "reading_count_at", "readings", "run_calls", "sets", "sets_into", "step_bytes", "step_range", "stop_marks",
+    "write_grammar", "write_grammar_into", "write_history", "write_history_into",
 ]
 
 READING_MAX = 1025
@@ -77,17 +82,18 @@ REFUSALS = tuple(RefusalRow(*row) for row in (
     (15, "BUFFER_SHORT", "call", "a lent buffer shorter than its service writes or reads"),
     (16, "NOT_A_READING", "call", "the first n + 1 bytes handed to \"next reading\" are no reading of this history"),
     (17, "NOT_AN_OPEN", "call", "the position is not that of an open"),
+    (18, "OUT_OF_RANGE", "call", "k is 0 or above the count of readings, or the position is above n"),
 ))
 """All refusals, in the order of their numbers. The table is that of docs/refusals.tsv."""
 
 
 class Refusal(Exception):
-    """A file, its numbers, a buffer or a position was turned down.
+    """A file, its numbers, a buffer, a position or a k was turned down.
 
-    number   document 01's number, 1 to 17
+    number   the documents' number, 1 to 18
     name     the number's name, as in the C header: "STILL_OPEN"
     words    what is wrong, in words
-    file     "grammar" or "history", whichever file is at fault, or was to be written; None where it is the call (15 to 17)
+    file     "grammar" or "history", whichever file is at fault, or was to be written; None where it is the call (15 to 18)
     """
 
     def __init__(self, number: int, file: Optional[str]):
@@ -122,6 +128,19 @@ class Next(enum.Enum):
     """"No further": they hold the last reading; no byte is written."""
 
 
+class Over(enum.Enum):
+    """The class of OVER, which stands in the place of a count."""
+    OVER = 102
+
+    def __str__(self) -> str:
+        return "over"
+
+
+OVER = Over.OVER
+""""Over": there are more than 2^64 - 1 readings. It is no number, so sums and comparisons with one are a TypeError, and it
+counts as true, as every count of at least 1 does. Test for it by `is`."""
+
+
 class Call(enum.Enum):
     """A call of a list for run_calls."""
     FIRST = 0
@@ -148,6 +167,10 @@ class _CountReply(ctypes.Structure):
     _fields_ = [("answer", ctypes.c_uint8), ("count", ctypes.c_uint32)]
 
 
+class _ReadingsReply(ctypes.Structure):
+    _fields_ = [("answer", ctypes.c_uint8), ("count", ctypes.c_uint64)]
+
+
 class _PartReply(ctypes.Structure):
     _fields_ = [("start", ctypes.c_size_t), ("length", ctypes.c_size_t)]
 
@@ -162,6 +185,10 @@ _ELEMENTS = [ctypes.c_void_p, ctypes.c_size_t]
 _ELEMENT_MAX = ctypes.c_uint32(-1).value
 _POSITION = [ctypes.c_size_t]
 _POSITION_MAX = ctypes.c_size_t(-1).value
+_RULE = [ctypes.c_size_t]
+_RULE_MAX = ctypes.c_size_t(-1).value
+_K = [ctypes.c_uint64]
+_K_MAX = ctypes.c_uint64(-1).value
 # What include/gaffmedlar.h declares: the reply, and a pointer and a number of elements for each file, list and buffer.
 _SERVICES = {
     "grammar_check": (_GrammarReply, _READ),
@@ -171,6 +198,9 @@ _SERVICES = {
     "run_calls": (ctypes.c_uint8, _READ + _READ + _READ + _LENT + _LENT),
     "sets": (ctypes.c_uint8, _READ + _READ + _LENT),
     "choice_count": (_CountReply, _READ + _READ),
+    "reading_count": (_ReadingsReply, _READ + _READ),
+    "reading_count_at": (_ReadingsReply, _READ + _READ + _POSITION + _RULE),
+    "reading_at": (ctypes.c_uint8, _READ + _READ + _K + _LENT),
     "stop_marks": (ctypes.c_uint8, _READ + _READ + _LENT),
     "step_bytes": (_PartReply, _READ + _POSITION),
     "step_refusal": (ctypes.c_uint8, _READ + _POSITION),
@@ -250,7 +280,7 @@ def _elements(values: Iterable[int]) -> Any:
 
 
 def _call(service: str, *values: Any) -> Any:
-    """Calls a service with the address and the number of elements of each value, and a position as it is.
+    """Calls a service with the address and the number of elements of each value, and a position, a rule or a k as it is.
 
     A buffer's array is an argument of this function alone, so that an exception which is raised for the answer doesn't
     keep it, and with it the caller's buffer, from being released.
@@ -398,6 +428,61 @@ def choice_count(grammar: Any, history: Any) -> int:
     reply = _call("choice_count", grammar, history)
     _done(reply.answer, grammar, history)
     return reply.count
+
+
+def _readings_told(reply: Any, grammar: bytes, history: bytes) -> Union[int, Over]:
+    if reply.answer == OVER.value:
+        return OVER
+    _done(reply.answer, grammar, history)
+    return reply.count
+
+
+def reading_count(grammar: Any, history: Any) -> Union[int, Over]:
+    """How many readings there are: exactly where they are at most 2^64 - 1, else OVER. Raises Refusal (1 to 14).
+
+    No reading is stepped through for it, however many there are.
+    """
+    grammar, history = _file(grammar), _file(history)
+    return _readings_told(_call("reading_count", grammar, history), grammar, history)
+
+
+def reading_count_at(grammar: Any, history: Any, position: int, rule: int) -> Union[int, Over]:
+    """How many readings have the rule at the position, as reading_count says it. Raises Refusal (1 to 14, 18).
+
+    18 says that the position is above n; so it does for a number that is no position at all, -1 for instance. A rule that the
+    grammar doesn't have stands nowhere: its count is 0, whatever number it is. Each count is told by itself: it may be an int
+    where reading_count gives OVER. Where that gives an int, the counts of all rules at a position add up to it.
+    """
+    grammar, history = _file(grammar), _file(history)
+    position, rule = operator.index(position), operator.index(rule)
+    # a number that doesn't fit is handed over as the largest one, which is above every n, and no rule either
+    position = position if 0 <= position <= _POSITION_MAX else _POSITION_MAX
+    rule = rule if 0 <= rule <= _RULE_MAX else _RULE_MAX
+    return _readings_told(_call("reading_count_at", grammar, history, position, rule), grammar, history)
+
+
+def reading_at(grammar: Any, history: Any, k: int) -> bytes:
+    """Reading k, counted from 1: the k-th that `readings` gives. Raises Refusal (1 to 14, 18).
+
+    The readings before it are not stepped through. 18 says that k is 0 or above the count, or a number that is no k at all,
+    -1 for instance. Where reading_count gives OVER, each k from 1 to 2^64 - 1 is served, and none above.
+    """
+    grammar, history = _file(grammar), _file(history)
+    grammar_check(grammar)
+    reading = bytearray(history_check(history) + 1)
+    reading_at_into(grammar, history, k, reading)
+    return bytes(reading)
+
+
+def reading_at_into(grammar: Any, history: Any, k: int, reading: Any) -> None:
+    """Writes reading k into the first n + 1 bytes of the buffer `reading`. Raises Refusal (1 to 15, 18; 15 before 18).
+
+    From there next_reading goes on in the same buffer.
+    """
+    grammar, history, k = _file(grammar), _file(history), operator.index(k)
+    # a number that doesn't fit is handed over as 0, which no reading has
+    k = k if 0 <= k <= _K_MAX else 0
+    _done(_call("reading_at", grammar, history, k, _lent(reading)), grammar, history)
 
 
 def stop_marks(grammar: Any, history: Any, marks: Any = None) -> Any:

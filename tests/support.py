@@ -14,7 +14,7 @@ sys.path[:0] = [os.path.join(ROOT, "python"), os.path.join(ROOT, "tools")]
 subprocess.run([os.path.join(ROOT, "tools", "build"), "library"], check=True, stdin=subprocess.DEVNULL)
 
 from commands import command, started  # noqa: E402
-from frames import CLOSE, EXCHANGED, G, MARK, OPEN, grammar_bytes, history_bytes, read_grammar  # noqa: E402
+from frames import CLOSE, EXCHANGED, G, MARK, OPEN, grammar_bytes, history_bytes, read_grammar, read_history  # noqa: E402
 
 # G with its start written out, G's rules from stage 1 on, and the grammar with two stages exchanged as if it started at stage 0.
 LONG_G, G_FROM_1, NOT_EXCHANGED = bytes([0, 3, 0]) + G[1:], bytes([0, 3, 1]) + G[1:], EXCHANGED[1:2] + EXCHANGED[3:]
@@ -47,6 +47,10 @@ WIDE_FRAMES = [
 TWO_CHOICES = bytes([4, 8, 2, 0, 0, 1, 0, 3, 2, 0, 0, 2, 0, 3, 1, 1, 0, 3, 1, 1, 0, 1, 0, 1, 1, 2, 0, 3, 0, 3, 0, 2]), bytes([3, 1, 0, 2])
 # The same with rules 3 and 5 exchanged: between the two rules of stage 1 stands that of stage 2.
 APART = bytes([4, 8, 2, 0, 0, 1, 0, 3, 2, 0, 0, 2, 0, 3, 1, 1, 0, 3, 1, 2, 0, 3, 0, 1, 1, 1, 0, 1, 0, 3, 0, 2]), bytes([3, 1, 0, 2])
+# n marks 0 have 2^n - 1 readings: by rule 0 up to some mark, rule 1 there, and from then on either of two rules.
+ALL_BUT_ONE = bytes([3, 8, 1, 0, 0, 0, 1, 0, 0, 1, 1, 1, 0, 1, 1, 1, 0, 2, 0, 1, 1, 2, 0, 1, 1, 2, 0, 2, 0, 2])
+# A step with any number of marks 0 inside, each by either of two rules, and marks 1 behind it.
+STEP_AND_MARKS = bytes([4, 9, 2, 0, 0, 1, 0, 2, 1, 1, 0, 1, 1, 1, 0, 3, 0, 1, 1, 3, 0, 1, 1, 3, 0, 3, 0, 3, 1, 2, 1, 2, 0, 2])
 # First numbers of a file at fault, whichever file it is, and the number of each.
 FAULTY_NUMBERS = [([128], 1), ([128, 128], 1), ([128, 0], 2), ([128, 128, 0], 2), ([128, 128, 128], 2), ([128, 128, 128, 1], 2), ([255, 255, 255], 2)]
 
@@ -93,6 +97,18 @@ def random_frame(draw):
     draw.shuffle(rules)
     start = draw.choice((None, 0, stage(), stage()))
     return grammar_bytes(stages, rules, start), history_bytes(random_tokens(draw, draw.randint(0, 12), names))
+
+
+def ambiguous_frame(draw):
+    """A grammar with many of the rules that there can be for one name, and a history of up to 150 tokens: with 2^64 readings more or less."""
+    stages = range(draw.randint(1, 4))
+    rules = [(0, k) for k in stages if draw.randrange(8)] + [(1, k, 0, m) for k in stages for m in stages]
+    rules += [(2, k, 0, m, 0, s) for k in stages for m in stages for s in stages]
+    kept = draw.choice((0.2, 0.4, 0.8))
+    rules = [rule for rule in rules if rule[0] == 0 or draw.random() < kept] or [(0, 0)]
+    draw.shuffle(rules)
+    tokens = random_tokens(draw, draw.randint(1, 150), (0, 0))
+    return grammar_bytes(len(stages), rules, draw.choice((None, draw.choice(stages)))), history_bytes(tokens)
 
 
 def long_form(grammar):
@@ -155,6 +171,84 @@ def first_differences(readings):
     readings that are the same up to a position are at one stage there. No stage is looked at for it."""
     pairs = zip(readings, readings[1:])
     return sorted({next(position for position, (a, b) in enumerate(zip(*pair)) if a != b) for pair in pairs})
+
+
+# ---- counts, in whole numbers of any size
+class Counted:
+    """How many readings a frame has, in all and with each rule at each position, and which number a reading has.
+
+    onward[p][s] is how many ways there are to derive the rest of the level at position p from stage s, around[p][s] how many ways there are
+    to derive all else of the history, where s derives that rest. So the readings with a rule at a position are found from both sides of it.
+    """
+
+    def __init__(self, grammar, history):
+        self.grammar, self.tokens = read_grammar(grammar), read_history(history)
+        self.close, opens = {}, []
+        for position, token in enumerate(self.tokens):
+            if token % 4 == 1:
+                opens.append(position)
+            elif token % 4 == 2:
+                self.close[opens.pop()] = position
+        positions = range(len(self.tokens) + 1)
+        self.onward, self.around = ([[0] * self.grammar.stages for _ in positions] for _ in range(2))
+        for position in reversed(positions):
+            for rule in self.grammar.rules:
+                self.onward[position][rule[1]] += self.ways(position, rule)
+        self.around[0][self.grammar.start] = 1
+        for position in positions:
+            for rule in self.grammar.rules:
+                self.spread(position, rule)
+        self.total = self.onward[0][self.grammar.start]
+
+    def fits(self, position, rule):
+        """Whether the rule can stand at the position, by its form and its names."""
+        token = self.tokens[position] if position < len(self.tokens) else 2
+        form = {0: 1, 1: 2, 2: 0}[token % 4]
+        names = {0: [], 1: rule[2:3], 2: rule[2:5:2]}[rule[0]]
+        there = [token // 4] + ([self.tokens[self.close[position]] // 4] if form == 2 else [])
+        return rule[0] == form and (form == 0 or names == there)
+
+    def ways(self, position, rule):
+        """How many ways there are to derive the rest of the level by this rule first."""
+        if not self.fits(position, rule):
+            return 0
+        if rule[0] == 0:
+            return 1
+        inside = self.onward[position + 1][rule[3]]
+        return inside if rule[0] == 1 else inside * self.onward[self.close[position] + 1][rule[5]]
+
+    def spread(self, position, rule):
+        around = self.around[position][rule[1]]
+        if rule[0] == 0 or not around or not self.fits(position, rule):
+            return
+        if rule[0] == 1:
+            self.around[position + 1][rule[3]] += around
+        else:
+            behind = self.close[position] + 1
+            self.around[position + 1][rule[3]] += around * self.onward[behind][rule[5]]
+            self.around[behind][rule[5]] += around * self.onward[position + 1][rule[3]]
+
+    def at(self, position, number):
+        """How many readings have the rule of this number at the position."""
+        rule = self.grammar.rules[number]
+        return self.around[position][rule[1]] * self.ways(position, rule)
+
+    def number_of(self, reading):
+        """The number of a reading, from 1: one more than there are readings that first differ from it by a smaller rule."""
+        before, stage, behind, pending = 0, self.grammar.start, 1, []
+        for position, number in enumerate(reading):
+            rules = self.grammar.rules
+            before += behind * sum(self.ways(position, rule) for rule in rules[:number] if rule[1] == stage)
+            rule = rules[number]
+            assert rule[1] == stage and self.fits(position, rule), (reading, position)
+            if rule[0] == 0 and pending:
+                stage, behind = pending.pop()
+            elif rule[0] == 1:
+                stage = rule[3]
+            elif rule[0] == 2:
+                pending.append((rule[5], behind))
+                stage, behind = rule[3], behind * self.onward[self.close[position] + 1][rule[5]]
+        return before + 1
 
 
 class Listing:

@@ -6,6 +6,7 @@ SERVICES = [
     ("calls", []),
     ("sets", []),
     ("stop_marks", []),
+    ("reading_counts", []),
     ("step_bytes", ["step_bytes", "step_check"]),
     ("writers", []),
     ("gaffmedlar", []),

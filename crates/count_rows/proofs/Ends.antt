@@ -1,12 +1,12 @@
 -- The counts at a close: one for each nonterminal that has an empty rule, if that is allowed.
-use Prim.Native.Nat.{ℕ, zero, suc, _+_, _<_, _≤_}
+use Prim.Native.Nat.{ℕ, suc, _+_, _<_, _≤_}
 use native.Mathlib.Nat.{add-zero, zero-add}
 use native.Mathlib.Omega.{arith}
 use mathlib.Core.Path.{_≡_, refl, sym, _∙_, ap}
 use mathlib.Core.Logic.{_⊎_, inl, inr, _≢_}
 use mathlib.Core.Bool.{Bool, true, false, _&&_, and-false}
 use mathlib.Core.List.{List}
-use borrow.Author.Tests.{eq-eqb, ne-eqb, lt-ltb, le-ltb}
+use borrow.Author.Tests.{eq-eqb, ne-eqb, ltb-true, lt-ltb, le-ltb}
 use lib.Dec.{eqb, ltb}
 use Rattle.laws.proofs.Bools.{eqb-refl}
 use Rattle.laws.proofs.Lists.{trichotomy}
@@ -19,6 +19,7 @@ use Rattle.contexts.specs.declared.Context.{Context}
 use Rattle.contexts.specs.Context.{appliesTo}
 use Rattle.contexts.proofs.Ends.{close-kind, fits-empty}
 use Rattle.count_theory.specs.Counts.{Counts, given}
+use Rattle.count_theory.proofs.Places.{only-one}
 use Rattle.count_rows.specs.Rows.{cappedParts, rowIn, AddedIf, InRow}
 use Rattle.count_rows.proofs.Row.{row-added, row-same}
 
@@ -49,23 +50,28 @@ module _ (t : List ℕ) (head : Head) (context : Context) (x : Indexed t head) (
       go true = refl
       go false = refl
 
-  -- of the first n rules
-  ends-up-to : (M e : ℕ) → FirstEmpty t (head .rules) M e → (n : ℕ) → n ≤ head .rules → rowIn t ok context inside after n M ≡ given (ltb e n && ok e) 1
-  unfolding rowIn
-  ends-up-to M e f zero l = rw (le-ltb e 0 (omega arith))
-  ends-up-to M e f (suc n) l = rw (ends-up-to M e f n (omega arith)) (go (trichotomy e n))
-    where
-      other : e < n → ruleIn t n ≢ Rule.Empty M
-      other k q = x .ready .distinct e n k (omega arith) (f .found (omega arith) ∙ sym q)
-
-      go : (e ≡ n) ⊎ ((e < n) ⊎ (n < e)) → given (ltb e n && ok e) 1 + Adds n M ≡ given (ltb e (suc n) && ok e) 1
-      go (inl q) = rw (le-ltb e n (omega (arith, q)), lt-ltb e (suc n) (omega (arith, q))) (zero-add _ ∙ one-more n M (rw q at (f .found (omega (arith, q)))) ∙ ap (λ (k : ℕ). given (ok k) 1) (sym q))
-      go (inr (inl k)) = rw (lt-ltb e n k, lt-ltb e (suc n) (omega arith), no-more n M (other k)) (add-zero (given (ok e) 1))
-      go (inr (inr k)) = rw (le-ltb e n (omega arith), le-ltb e (suc n) (omega arith), no-more n M (f .none n k))
-
-  -- of all
+  -- of all rules, that of its empty one
   pub ends-all : (M : ℕ) → M < 32 → given (ltb (endIn t M) (head .rules) && ok (endIn t M)) 1 ≡ rowIn t ok context inside after (head .rules) M
-  ends-all M l = sym (ends-up-to M (endIn t M) (x .ends M l) (head .rules) (omega arith))
+  unfolding rowIn
+  ends-all M l = sym (only-one (λ q. Adds q M) e (head .rules) others ∙ go (ltb e (head .rules)) refl)
+    where
+      e : ℕ
+      e = endIn t M
+
+      f : FirstEmpty t (head .rules) M e
+      f = x .ends M l
+
+      other : (q : ℕ) → q < head .rules → q ≢ e → (q ≡ e) ⊎ ((q < e) ⊎ (e < q)) → ruleIn t q ≢ Rule.Empty M
+      other q k d (inl i) = absurd (d i)
+      other q k d (inr (inl i)) = f .none q i
+      other q k d (inr (inr i)) = λ j. x .ready .distinct e q i k (f .found (omega arith) ∙ sym j)
+
+      others : (q : ℕ) → q < head .rules → q ≢ e → Adds q M ≡ 0
+      others q k d = no-more q M (other q k d (trichotomy q e))
+
+      go : (b : Bool) → ltb e (head .rules) ≡ b → given b (Adds e M) ≡ given (b && ok e) 1
+      go true i = one-more e M (f .found (ltb-true e (head .rules) i))
+      go false i = refl
 
 -- ── nonterminal by nonterminal ──
 

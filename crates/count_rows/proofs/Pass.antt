@@ -1,5 +1,5 @@
 -- One turn of the pass: the counts of a position are those of the theory, capped.
-use Prim.Native.Nat.{ℕ, zero, suc, _+_, _-_, _<_, _≤_}
+use Prim.Native.Nat.{ℕ, zero, suc, _+_, _<_, _≤_}
 use native.Mathlib.Nat.{zero-add, mul-one, eq-or-lt-of-le}
 use native.Mathlib.Decide.{decLt}
 use native.Mathlib.Omega.{arith}
@@ -32,7 +32,8 @@ use Rattle.contexts.specs.declared.Context.{Context}
 use Rattle.levels.specs.Levels.{Leveled, Stands, Setting}
 use Rattle.levels.proofs.Levels.{tokens-length, pending-end, close-below, close-most, close-from}
 use Rattle.history_file.specs.believed.HistoryFile.{tokensOf}
-use Rattle.count_theory.specs.Tally.{Allowed, sumBelow}
+use Rattle.count_theory.specs.believed.CountAt.{sumBelow}
+use Rattle.count_theory.specs.Allowed.{Allowed}
 use Rattle.count_theory.specs.Counts.{Counts, given, sum, parts, countsAt, worth}
 use Rattle.count_theory.proofs.Here.{counts-here}
 use Rattle.count_theory.proofs.Kth.{sum-take}

@@ -11,7 +11,8 @@ use Rattle.vpg.specs.believed.Grammar.{Grammar}
 use Rattle.vpg.specs.Runs.{entries}
 use Rattle.capped.specs.Capped.{cap}
 use Rattle.level_theory.specs.Pending.{WellMatched}
-use Rattle.count_theory.specs.Tally.{Allowed, tally, passes}
+use Rattle.count_theory.specs.believed.CountAt.{tally}
+use Rattle.count_theory.specs.Allowed.{Allowed, passes}
 use Rattle.count_theory.specs.Counts.{countsAt}
 use Rattle.count_theory.proofs.Counting.{tally-runs}
 use Rattle.count_theory.proofs.Here.{counts-outer}

@@ -1,6 +1,6 @@
 -- Counts of each position and nonterminal, in two arrays.
 -- Law: counted-next (count_rows/proofs/Pass.antt)
-use Prim.Native.Nat.{ℕ, zero, suc, _+_, _*_, _<_, _≤_}
+use Prim.Native.Nat.{ℕ, suc, _+_, _*_, _<_, _≤_}
 use mathlib.Core.Path.{_≡_}
 use mathlib.Core.Logic.{_⊎_}
 use mathlib.Core.Bool.{Bool, true, false, cond, _&&_}
@@ -12,7 +12,8 @@ use Rattle.vpg.specs.declared.Rule.{Rule}
 use Rattle.vpg.specs.declared.Token.{Token}
 use Rattle.vpg.specs.believed.Grammar.{Rules, left}
 use Rattle.capped.specs.Capped.{limit, cap}
-use Rattle.count_theory.specs.Tally.{Allowed, aloneAt}
+use Rattle.count_theory.specs.believed.CountAt.{sumBelow}
+use Rattle.count_theory.specs.Allowed.{Allowed, aloneAt}
 use Rattle.count_theory.specs.Counts.{Counts, given, countsAt}
 use Rattle.tables.specs.declared.Head.{Head}
 use Rattle.tables.specs.Table.{ruleIn}
@@ -52,8 +53,7 @@ AddedIf b rows overs p L n rows′ overs′ = ((b ≡ true) × Added rows overs 
 
 -- the sum of what each of the first n rules of a table that can stand here counts for; ok: which rules are allowed
 unfoldable pub rowIn : List ℕ → (ℕ → Bool) → Context → Counts → Counts → ℕ → Counts
-rowIn t ok context x y zero M = 0
-rowIn t ok context x y (suc n) M = rowIn t ok context x y n M + given (eqb (left (ruleIn t n)) M && (ok n && appliesTo (ruleIn t n) context)) (cappedParts x y (ruleIn t n))
+rowIn t ok context x y n M = sumBelow n (λ q. given (eqb (left (ruleIn t q)) M && (ok q && appliesTo (ruleIn t q) context)) (cappedParts x y (ruleIn t q)))
 
 -- position p has these counts, and all others are as they were
 pub record InRow (rows overs : List ℕ) (p : ℕ) (c : Counts) (rows′ overs′ : List ℕ) : Type 0 where

@@ -12,7 +12,8 @@ ghost use Prim.Native.Nat.{_<_, _≤_};
 ghost use lib.Dec.{ltb};
 ghost use Rattle.capped.specs.Capped.{cap, value};
 ghost use Rattle.vpg.specs.Runs.{entries};
-ghost use Rattle.count_theory.specs.Tally.{tally, passes, aloneAt, anywhere};
+ghost use Rattle.count_theory.specs.believed.CountAt.{tally};
+ghost use Rattle.count_theory.specs.Allowed.{passes, aloneAt, anywhere};
 ghost use Rattle.tables.specs.Table.{ruleIn};
 ghost use Rattle.tables.specs.Ready.{Below, rulesOf, grammarIn};
 ghost use Rattle.rule_index.specs.Index.{Indexed, endIn};
@@ -274,6 +275,7 @@ pub fn count(
     requires { ⌜ Setting (now table) head (now tokens) (now closes) (now masks) ⌝ }
     ensures { λ r. ⌜ value r ≡ cap (tally (passes (aloneAt (alone .position) (alone .rule)) 0) (entries (grammarIn (now (table .entry)) head) (tokensOf (now (tokens .entry))))) ⌝ }
 {
+    let start = head.start as usize;
     let mut rows = [0u64; 32832];
     let mut overs = [0u32; 1026];
     rows_of(
@@ -286,5 +288,5 @@ pub fn count(
         &mut rows,
         &mut overs,
     );
-    count_at(&rows, &overs, 0, head.start as usize)
+    count_at(&rows, &overs, 0, start)
 }

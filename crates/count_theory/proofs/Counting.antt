@@ -14,7 +14,8 @@ use Rattle.vpg.specs.believed.Grammar.{Rules, left}
 use Rattle.vpg.specs.Runs.{Stack, State, only, move, ends, collect, once, follow, runs}
 use Rattle.level_theory.specs.Masks.{tail, outer}
 use Rattle.sets_theory.specs.believed.Sets.{one}
-use Rattle.count_theory.specs.Tally.{tally, Allowed, passes}
+use Rattle.count_theory.specs.believed.CountAt.{tally}
+use Rattle.count_theory.specs.Allowed.{Allowed, passes}
 use Rattle.count_theory.specs.Counts.{Counts, Outer, Levels, given, behind, continuationsAt, continuationsEnd, sum, counts, weight, total}
 
 -- ── numbers under a test ──

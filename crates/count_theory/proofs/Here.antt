@@ -18,7 +18,7 @@ use Rattle.level_theory.specs.Masks as mask
 use Rattle.level_theory.specs.Pending.{Closes, pendingAt, closeOf}
 use Rattle.level_theory.specs.Walk.{testAt}
 use Rattle.level_theory.proofs.Pending.{drop-next, outer-levels, masks-outer}
-use Rattle.count_theory.specs.Tally.{Allowed}
+use Rattle.count_theory.specs.Allowed.{Allowed}
 use Rattle.count_theory.specs.Counts.{Counts, Outer, Levels, given, behind, continuationsAt, continuationsEnd, sum, sumFor, over, counts, nextOuter, parts, countsAt, worth}
 use Rattle.count_theory.proofs.Counting.{given-zero, sum-same}
 

@@ -16,7 +16,8 @@ use Rattle.vpg.specs.Runs.{Stack, State, move, ends, collect, once, follow, run
 use Rattle.vpg.proofs.Take.{Move, moves, taken, ended}
 use Rattle.level_theory.specs.Masks.{outer}
 use Rattle.level_theory.proofs.Pending.{drop-next}
-use Rattle.count_theory.specs.Tally.{Allowed, tally, passes, aloneAt}
+use Rattle.count_theory.specs.believed.CountAt.{tally}
+use Rattle.count_theory.specs.Allowed.{Allowed, passes, aloneAt}
 use Rattle.count_theory.specs.Counts.{Levels, given, sum, counts, weight, total, worth}
 use Rattle.count_theory.specs.Kth.{Free, size, Located, Onward}
 use Rattle.count_theory.proofs.Counting.{ahead, rule-ahead, tally-end, tally-runs, sum-same}

@@ -3,14 +3,15 @@ use Prim.Native.Nat.{ℕ, zero, suc, _+_, _<_, _≤_}
 use native.Mathlib.Nat.{add-suc, suc-add, add-zero, zero-add}
 use native.Mathlib.Decide.{ℕ-discrete}
 use native.Mathlib.Omega.{arith}
-use mathlib.Core.Path.{_≡_, refl, _∙_, ap, ap₂}
-use mathlib.Core.Bool.{Bool, true, and-true}
+use mathlib.Core.Path.{_≡_, refl, sym, _∙_, ap, ap₂}
+use mathlib.Core.Logic.{_⊎_, inl, inr, _≢_}
+use mathlib.Core.Bool.{Bool, true, false, and-true}
 use mathlib.Core.List.{List, [], _∷_, List·Memᴰ, List·Memᴰ·head, List·Memᴰ·tail}
 use mathlib.Core.Option.{some, Option·none-ne-some, Option·some-injective}
-use borrow.Author.Tests.{eq-eqb, ne-eqb}
-use lib.Dec.{eqb}
+use borrow.Author.Tests.{eq-eqb, ne-eqb, lt-ltb, le-ltb}
+use lib.Dec.{eqb, ltb}
 use lib.ListN.{length, getElem?}
-use Rattle.laws.proofs.Lists.{at-some}
+use Rattle.laws.proofs.Lists.{at-some, trichotomy}
 use Rattle.vpg.specs.declared.Token.{Token}
 use Rattle.vpg.specs.believed.Grammar.{Grammar}
 use Rattle.vpg.specs.Runs.{entries}
@@ -19,7 +20,9 @@ use Rattle.vpg.proofs.Sound.{entries-readings}
 use Rattle.sets_theory.specs.believed.Sets.{one}
 use Rattle.sets_theory.specs.KeptTest.{standsAt}
 use Rattle.sets_theory.proofs.Sets.{kept-below}
-use Rattle.count_theory.specs.Tally.{tally, passes, aloneAt, sumBelow}
+use Rattle.count_theory.specs.believed.CountAt.{tally, countAt, sumBelow}
+use Rattle.count_theory.specs.Allowed.{passes, aloneAt}
+use Rattle.count_theory.specs.Counts.{given}
 
 -- ── tests of lists ──
 
@@ -53,9 +56,22 @@ pub tally-all : (f : List ℕ → Bool) (l : List (List ℕ)) → ((e : List ℕ
 tally-all f [] p = refl
 tally-all f (e ∷ l) p = rw (p e (List·Memᴰ·head refl), tally-all f l (λ d m. p d (List·Memᴰ·tail m))) (omega arith)
 
+tally-none : (f : List ℕ → Bool) (l : List (List ℕ)) → ((e : List ℕ) → List·Memᴰ e l → f e ≡ false) → tally f l ≡ 0
+tally-none f [] p = refl
+tally-none f (e ∷ l) p = rw (p e (List·Memᴰ·head refl), tally-none f l (λ d m. p d (List·Memᴰ·tail m)))
+
+one-most : (b : Bool) → one b ≤ 1
+one-most true = omega arith
+one-most false = omega arith
+
+-- no count is above that of all
+pub count-most : (l : List (List ℕ)) (p r : ℕ) → countAt l p r ≤ length l
+count-most [] p r = omega arith
+count-most (e ∷ l) p r = omega (arith, one-most (standsAt e p r), count-most l p r)
+
 module _ (g : Grammar) (w : List Token) (p r : ℕ) where
   -- with rule r alone at position p, the entries that pass are those that have it there
-  pub with-rule : p ≤ length w → tally (passes (aloneAt p r) 0) (entries g w) ≡ tally (λ e. standsAt e p r) (entries g w)
+  pub with-rule : p ≤ length w → tally (passes (aloneAt p r) 0) (entries g w) ≡ countAt (entries g w) p r
   with-rule h = tally-same (passes (aloneAt p r) 0) (λ e. standsAt e p r) (entries g w) (λ e m. passes-at p r e (omega (arith, entry-length g w e m)))
 
   -- a position behind the last one asks for nothing
@@ -80,6 +96,16 @@ below-one x (suc n) h = go (ℕ-discrete x n) (below-one x n)
     go (yes e) on = rw (eq-eqb x n e, below-none n (λ r. one (eqb x r)) (λ r l. ap one (ne-eqb x r (λ i. omega (arith, i, e)))))
     go (no e) on = rw (ne-eqb x n e, on (omega arith))
 
+-- a sum of which one number alone is not 0
+pub only-one : (f : ℕ → ℕ) (r n : ℕ) → ((q : ℕ) → q < n → q ≢ r → f q ≡ 0) → sumBelow n f ≡ given (ltb r n) (f r)
+only-one f r zero h = rw (le-ltb r 0 (omega arith))
+only-one f r (suc n) h = rw (only-one f r n (λ q l d. h q (omega arith) d)) (go (trichotomy r n))
+  where
+    go : (r ≡ n) ⊎ ((r < n) ⊎ (n < r)) → given (ltb r n) (f r) + f n ≡ given (ltb r (suc n)) (f r)
+    go (inl e) = rw (le-ltb r n (omega (arith, e)), lt-ltb r (suc n) (omega (arith, e))) (zero-add (f n) ∙ ap f (sym e))
+    go (inr (inl l)) = rw (lt-ltb r n l, lt-ltb r (suc n) (omega arith), h n (omega arith) (λ e. omega (arith, e))) (add-zero (f r))
+    go (inr (inr l)) = rw (le-ltb r n (omega arith), le-ltb r (suc n) (omega arith), h n (omega arith) (λ e. omega (arith, e)))
+
 below-same : (f h : ℕ → ℕ) (n : ℕ) → ((r : ℕ) → f r ≡ h r) → sumBelow n f ≡ sumBelow n h
 below-same f h zero p = refl
 below-same f h (suc n) p = ap₂ _+_ (below-same f h n p) (p n)
@@ -90,11 +116,11 @@ pub record Placed (e : List ℕ) (p n : ℕ) : Type 0 where
   pub below : number < n
   pub stands : (r : ℕ) → standsAt e p r ≡ eqb number r
 
-add-up : (p n : ℕ) (l : List (List ℕ)) → ((e : List ℕ) → List·Memᴰ e l → Placed e p n) → sumBelow n (λ r. tally (λ e. standsAt e p r) l) ≡ length l
+add-up : (p n : ℕ) (l : List (List ℕ)) → ((e : List ℕ) → List·Memᴰ e l → Placed e p n) → sumBelow n (countAt l p) ≡ length l
 add-up p n [] h = below-none n (λ r. 0) (λ r l. refl)
 add-up p n (e ∷ l) h =
     let k = h e (List·Memᴰ·head refl) in
-    below-both (λ r. one (standsAt e p r)) (λ r. tally (λ d. standsAt d p r) l) n
+    below-both (λ r. one (standsAt e p r)) (countAt l p) n
     ∙ rw (below-same (λ r. one (standsAt e p r)) (λ r. one (eqb (k .number) r)) n (λ r. ap one (k .stands r)), below-one (k .number) n (k .below), add-up p n l (λ d m. h d (List·Memᴰ·tail m)))
     (omega arith)
 
@@ -103,11 +129,16 @@ stands-is [] p x h r = absurd (Option·none-ne-some x h)
 stands-is (y ∷ e) zero x h r = ap (λ (z : ℕ). eqb z r) (Option·some-injective y x h)
 stands-is (y ∷ e) (suc p) x h r = stands-is e p x h r
 
--- document 02, 2.6: "these counts add up to it at every position"
-pub tallies-add-up : (g : Grammar) (w : List Token) (p : ℕ) → p ≤ length w → sumBelow (length (g .rules)) (λ r. tally (λ e. standsAt e p r) (entries g w)) ≡ length (entries g w)
-tallies-add-up g w p h = add-up p (length (g .rules)) (entries g w) placed
-  where
-    placed : (e : List ℕ) → List·Memᴰ e (entries g w) → Placed e p (length (g .rules))
-    placed e m =
-        let (x, s) = at-some e p (omega (arith, entry-length g w e m)) in
-        record { number = x; below = kept-below g w p x (e, entries-readings g w e .0 m, s) .0; stands = stands-is e p x s }
+module _ (g : Grammar) (w : List Token) (p : ℕ) (h : p ≤ length w) where
+  placed : (e : List ℕ) → List·Memᴰ e (entries g w) → Placed e p (length (g .rules))
+  placed e m =
+      let (x, s) = at-some e p (omega (arith, entry-length g w e m)) in
+      record { number = x; below = kept-below g w p x (e, entries-readings g w e .0 m, s) .0; stands = stands-is e p x s }
+
+  -- document 02, 2.6: "these counts add up to it at every position"
+  pub counts-add-up : sumBelow (length (g .rules)) (countAt (entries g w) p) ≡ length (entries g w)
+  counts-add-up = add-up p (length (g .rules)) (entries g w) placed
+
+  -- a number that is no rule's stands nowhere
+  pub no-such-rule : (r : ℕ) → length (g .rules) ≤ r → countAt (entries g w) p r ≡ 0
+  no-such-rule r k = tally-none (λ e. standsAt e p r) (entries g w) (λ e m. let x = placed e m in x .stands r ∙ ne-eqb (x .number) r (λ q. omega (arith, x .below, q)))

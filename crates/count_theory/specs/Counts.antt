@@ -17,7 +17,7 @@ use Rattle.vpg.specs.Tests.{isMark, isOpen, anyClose}
 use Rattle.level_theory.specs.Masks.{outer}
 use Rattle.level_theory.specs.Pending.{pendingAt, closeOf}
 use Rattle.level_theory.specs.Walk.{testAt}
-use Rattle.count_theory.specs.Tally.{Allowed}
+use Rattle.count_theory.specs.Allowed.{Allowed}
 
 -- a number for each nonterminal
 abbrev pub Counts : Type 0

@@ -10,7 +10,7 @@ use Rattle.vpg.specs.declared.Rule.{Rule}
 use Rattle.vpg.specs.declared.Token.{Token}
 use Rattle.vpg.specs.believed.Grammar.{Rules, left}
 use Rattle.vpg.specs.Runs.{State, runs}
-use Rattle.count_theory.specs.Tally.{Allowed}
+use Rattle.count_theory.specs.Allowed.{Allowed}
 use Rattle.count_theory.specs.Counts.{given, sum, counts, total, weight, worth}
 
 -- the counts from position p on are those of all runs

@@ -1,3 +1,4 @@
+pub mod believed
+pub mod Allowed
 pub mod Counts
 pub mod Kth
-pub mod Tally

@@ -1,3 +1,4 @@
 pub mod Choices
+pub mod Counts
 pub mod Examples
 pub mod WideNames

@@ -1,10 +1,11 @@
 // The services for C and for languages that call C. Each answers one number, or a struct with the number and the counts or the length: 0
-// where all went well, 100 for "none", 101 for "no further", else document 01's number of the refusal. A part of a file is a struct with its
-// place alone, and another function says the number.
+// where all went well, 100 for "none", 101 for "no further", 102 for "over", else document 01's number of the refusal. A part of a file is a
+// struct with its place alone, and another function says the number.
 use replies::CountReply;
 use replies::GrammarReply;
 use replies::HistoryReply;
 use replies::PartReply;
+use replies::ReadingsReply;
 use replies::WriteReply;
 ghost use mathlib.Core.Path.{_≡_};
 ghost use lib.ListN.{length};
@@ -16,10 +17,11 @@ ghost use Rattle.files.specs.believed.Checks.{grammarDue, historyDue};
 ghost use Rattle.readings.specs.believed.Answers.{subject};
 ghost use Rattle.calls.specs.believed.CallList.{coded, callsDue};
 ghost use Rattle.sets.specs.believed.Sets.{setsDue, countDue};
+ghost use Rattle.reading_counts.specs.believed.Numbered.{readingsDue, readingsAtDue, readingDue};
 ghost use Rattle.stop_marks.specs.believed.StopMarks.{marksDue};
 ghost use Rattle.step_bytes.specs.believed.StepBytes.{stepOf, numberIn};
 ghost use Rattle.writers.specs.believed.Writers.{grammarWritten, historyWritten};
-ghost use Rattle.replies.specs.believed.Wire.{grammarWire, historyWire, countWire, outcomeWire, callsWire, partWire, stepCode, writeWire};
+ghost use Rattle.replies.specs.believed.Wire.{grammarWire, historyWire, countWire, readingsWire, outcomeWire, callsWire, partWire, stepCode, writeWire};
 
 #[no_mangle]
 pub extern "C" fn gaffmedlar_grammar_check(grammar: &[u8]) -> GrammarReply
@@ -80,6 +82,40 @@ pub extern "C" fn gaffmedlar_choice_count(grammar: &[u8], history: &[u8]) -> Cou
     ensures { λ r. ⌜ r ≡ countWire (countDue (now (grammar .entry)) (now (history .entry))) ⌝ }
 {
     replies::count_reply(sets::choice_count(grammar, history))
+}
+
+// How many readings there are.
+#[no_mangle]
+pub extern "C" fn gaffmedlar_reading_count(grammar: &[u8], history: &[u8]) -> ReadingsReply
+    ensures { λ r. ⌜ r ≡ readingsWire (readingsDue (now (grammar .entry)) (now (history .entry))) ⌝ }
+{
+    replies::readings_reply(reading_counts::reading_count(grammar, history))
+}
+
+// How many readings have the rule at the position.
+#[no_mangle]
+pub extern "C" fn gaffmedlar_reading_count_at(
+    grammar: &[u8],
+    history: &[u8],
+    position: usize,
+    rule: usize,
+) -> ReadingsReply
+    ensures { λ r. ⌜ r ≡ readingsWire (readingsAtDue (now (grammar .entry)) (now (history .entry)) position rule) ⌝ }
+{
+    replies::readings_reply(reading_counts::reading_count_at(grammar, history, position, rule))
+}
+
+// Writes reading k, counted from 1.
+#[no_mangle]
+pub extern "C" fn gaffmedlar_reading_at(
+    grammar: &[u8],
+    history: &[u8],
+    k: u64,
+    reading: &mut [u8],
+) -> u8
+    ensures { λ r. ⌜ (r, now (reading .exit)) ≡ outcomeWire (readingDue (now (grammar .entry)) (now (history .entry)) k (now (reading .entry))) ⌝ }
+{
+    replies::outcome_code(reading_counts::reading_at(grammar, history, k, reading))
 }
 
 // Writes n + 1 bytes: byte i is 1 where the first i tokens alone have a reading, else 0.

@@ -22,7 +22,8 @@ use Rattle.history_file.specs.believed.HistoryFile.{tokensOf}
 use Rattle.contexts.specs.declared.Context.{Context}
 use Rattle.levels.specs.Levels.{Stands, Setting}
 use Rattle.levels.proofs.Levels.{tokens-length}
-use Rattle.count_theory.specs.Tally.{Allowed, sumBelow}
+use Rattle.count_theory.specs.believed.CountAt.{sumBelow}
+use Rattle.count_theory.specs.Allowed.{Allowed}
 use Rattle.count_theory.specs.Counts.{given, counts, weight, countsAt}
 use Rattle.count_theory.specs.Kth.{size}
 use Rattle.count_theory.proofs.Kth.{runs-size}

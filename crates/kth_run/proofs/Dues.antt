@@ -22,7 +22,7 @@ use Rattle.level_theory.specs.Walk.{later}
 use Rattle.level_theory.proofs.Pending.{pending-next, close-fresh, masks-outer}
 use Rattle.tables.specs.Ready.{Below}
 use Rattle.levels.proofs.Levels.{close-below}
-use Rattle.count_theory.specs.Tally.{Allowed}
+use Rattle.count_theory.specs.Allowed.{Allowed}
 use Rattle.count_theory.specs.Counts.{Counts, counts, weight, countsAt}
 use Rattle.count_theory.proofs.Here.{counts-outer}
 use Rattle.kth_run.specs.Walk.{dueWith, dueProduct, Dues, numberIn}

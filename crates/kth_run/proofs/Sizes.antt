@@ -1,12 +1,12 @@
 -- The search over the rules at one position, by capped sizes.
-use Prim.Native.Nat.{ℕ, zero, suc, _+_, _*_, _-_, _<_, _≤_}
+use Prim.Native.Nat.{ℕ, suc, _+_, _*_, _-_, _<_, _≤_}
 use native.Mathlib.Nat.{add-zero, zero-add}
 use native.Mathlib.Omega.{arith}
-use mathlib.Core.Path.{_≡_, refl, sym, _∙_, ap}
+use mathlib.Core.Path.{_≡_, refl, sym, _∙_}
 use mathlib.Core.Logic.{_⊎_, inl, inr, _≢_}
 use mathlib.Core.Bool.{Bool, true, false}
 use mathlib.Core.List.{List}
-use borrow.Author.Tests.{ltb-true, lt-ltb, le-ltb}
+use borrow.Author.Tests.{ltb-true}
 use lib.Dec.{ltb}
 use Rattle.laws.proofs.Lists.{trichotomy}
 use Rattle.tables.specs.declared.Head.{Head}
@@ -20,9 +20,9 @@ use Rattle.contexts.proofs.Ends.{close-kind, fits-empty}
 use Rattle.first_run.specs.Fill.{ruleFits, Smallest}
 use Rattle.first_run.proofs.Walking.{fits-apart}
 use Rattle.capped.specs.Capped.{cap, value}
-use Rattle.count_theory.specs.Tally.{sumBelow}
+use Rattle.count_theory.specs.believed.CountAt.{sumBelow}
 use Rattle.count_theory.specs.Counts.{given}
-use Rattle.count_theory.proofs.Places.{below-none}
+use Rattle.count_theory.proofs.Places.{below-none, only-one}
 use Rattle.count_rows.specs.declared.Place.{Place}
 use Rattle.count_rows.specs.Rows.{partsAt}
 use Rattle.kth_run.specs.declared.Sought.{Sought}
@@ -63,16 +63,6 @@ module _ (t : List ℕ) (sought : Sought) (context : Context) (place : Place) (r
   not-located rules r l m z h = let e : r ≡ rules = omega arith in let s = rw e at (z .skipped) in omega (arith, s)
 
 -- ── empty rules ──
-
--- a sum of which one number alone is not 0
-only-one : (f : ℕ → ℕ) (r n : ℕ) → ((q : ℕ) → q < n → q ≢ r → f q ≡ 0) → sumBelow n f ≡ given (ltb r n) (f r)
-only-one f r zero h = rw (le-ltb r 0 (omega arith))
-only-one f r (suc n) h = rw (only-one f r n (λ q l d. h q (omega arith) d)) (go (trichotomy r n))
-  where
-    go : (r ≡ n) ⊎ ((r < n) ⊎ (n < r)) → given (ltb r n) (f r) + f n ≡ given (ltb r (suc n)) (f r)
-    go (inl e) = rw (le-ltb r n (omega (arith, e)), lt-ltb r (suc n) (omega (arith, e))) (zero-add (f n) ∙ ap f (sym e))
-    go (inr (inl l)) = rw (lt-ltb r n l, lt-ltb r (suc n) (omega arith), h n (omega arith) (λ e. omega (arith, e))) (add-zero (f r))
-    go (inr (inr l)) = rw (le-ltb r n (omega arith), le-ltb r (suc n) (omega arith), h n (omega arith) (λ e. omega (arith, e)))
 
 -- where empty rules alone can stand, the smallest that fits is the only one
 pub end-finds : {t : List ℕ} {head : Head} (x : Indexed t head) (sought : Sought) (context : Context) (place : Place) (rows overs : List ℕ) (r : ℕ) → 2 ≤ context .kind → Smallest t head (sought .nonterminal) context r →

@@ -30,7 +30,7 @@ use Rattle.history_file.specs.believed.HistoryFile.{tokenOf, tokensOf}
 use Rattle.levels.specs.Levels.{Setting}
 use Rattle.levels.proofs.Levels.{tokens-length, tokens-at}
 use Rattle.levels.proofs.Setting.{closing, closing-room}
-use Rattle.count_theory.specs.Tally.{anywhere}
+use Rattle.count_theory.specs.Allowed.{anywhere}
 use Rattle.count_theory.specs.Counts.{given, weight, counts, countsAt}
 use Rattle.count_theory.specs.Kth.{size, Onward}
 use Rattle.count_theory.specs.Kth as kth

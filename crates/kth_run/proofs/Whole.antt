@@ -1,5 +1,5 @@
 -- Reading number k and how many there are.
-use Prim.Native.Nat.{ℕ, zero, suc, _+_, _-_, _<_, _≤_}
+use Prim.Native.Nat.{ℕ, zero, suc, _-_, _<_, _≤_}
 use native.Mathlib.Omega.{arith}
 use mathlib.Core.Path.{_≡_, refl, _∙_, ap}
 use mathlib.Core.Bool.{true, false}
@@ -15,7 +15,7 @@ use Rattle.tables.specs.Ready.{rulesOf, grammarIn}
 use Rattle.history_file.specs.believed.HistoryFile.{tokensOf}
 use Rattle.levels.specs.Levels.{Setting}
 use Rattle.levels.proofs.Levels.{tokens-length}
-use Rattle.count_theory.specs.Tally.{anywhere}
+use Rattle.count_theory.specs.Allowed.{anywhere}
 use Rattle.count_theory.proofs.Places.{with-any}
 use Rattle.count_rows.specs.Rows.{valueAt, Complete}
 use Rattle.count_rows.proofs.Whole.{count-whole}

@@ -8,7 +8,7 @@ use Rattle.tables.specs.declared.Head.{Head}
 use Rattle.tables.specs.Table.{ruleIn}
 use Rattle.contexts.specs.declared.Context.{Context}
 use Rattle.first_run.specs.Fill.{ruleFits}
-use Rattle.count_theory.specs.Tally.{sumBelow}
+use Rattle.count_theory.specs.believed.CountAt.{sumBelow}
 use Rattle.count_theory.specs.Counts.{given}
 use Rattle.count_rows.specs.declared.Place.{Place}
 use Rattle.count_rows.specs.Rows.{partsAt}

@@ -13,7 +13,7 @@ use Rattle.vpg.specs.Runs.{Stack, runs}
 use Rattle.capped.specs.Capped.{limit, cap, value}
 use Rattle.capped.specs.declared.Count.{Count}
 use Rattle.level_theory.specs.Pending.{Closes}
-use Rattle.count_theory.specs.Tally.{Allowed}
+use Rattle.count_theory.specs.Allowed.{Allowed}
 use Rattle.count_theory.specs.Counts.{Counts, counts, weight}
 use Rattle.count_theory.specs.Kth.{Free, size}
 use Rattle.count_theory.specs.Kth as kth

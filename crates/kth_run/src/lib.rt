@@ -18,7 +18,7 @@ ghost use Rattle.capped.specs.Capped.{cap, value};
 ghost use Rattle.tables.specs.Table.{ruleFrom, ruleIn};
 ghost use Rattle.tables.specs.Ready.{Below, rulesOf, grammarIn};
 ghost use Rattle.rule_index.specs.Index.{Indexed};
-ghost use Rattle.count_theory.specs.Tally.{anywhere};
+ghost use Rattle.count_theory.specs.Allowed.{anywhere};
 ghost use Rattle.count_rows.specs.Rows.{valueAt, partsAt, Complete};
 ghost use Rattle.history_file.specs.believed.HistoryFile.{tokensOf};
 ghost use Rattle.levels.specs.Levels.{Setting};
@@ -215,10 +215,11 @@ pub fn kth(
     requires { ⌜ length (now tokens) < length (now out) ⌝ }
     ensures { λ r. ⌜ (wasWritten r, now (out .exit)) ≡ kthWritten (entries (grammarIn (now (table .entry)) head) (tokensOf (now (tokens .entry)))) k (length (now (tokens .entry)) + 1) (now (out .entry)) ⌝ }
 {
+    let start = head.start as usize;
     let mut rows = [0u64; 32832];
     let mut overs = [0u32; 1026];
     count_rows::all_rows(table, head, tokens, closes, masks, &mut rows, &mut overs);
-    let total = count_rows::count_at(&rows, &overs, 0, head.start as usize);
+    let total = count_rows::count_at(&rows, &overs, 0, start);
     if k == 0 {
         return KthAnswer::NoSuch;
     }

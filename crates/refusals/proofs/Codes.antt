@@ -12,15 +12,12 @@ use Rattle.vpg.specs.declared.Token.{Token}
 use Rattle.vpg.specs.believed.Grammar.{Grammar}
 use Rattle.vpg.specs.Runs.{entries}
 use Rattle.sets_theory.specs.believed.Sets.{setWords, stopMarks}
-use Rattle.grammar_file.specs.believed.GrammarFile.{GrammarFile, grammarOf}
-use Rattle.grammar_file.specs.believed.GrammarFile as grammar-file
-use Rattle.history_file.specs.believed.HistoryFile.{HistoryFile, historyOf, tokensOf}
-use Rattle.history_file.specs.believed.HistoryFile as history-file
-use Rattle.files.specs.believed.Files.{Files, accepted, filesOf}
+use Rattle.history_file.specs.believed.HistoryFile.{tokensOf}
+use Rattle.files.specs.believed.Files.{Files, accepted}
 use Rattle.files.specs.believed.Files as files
 use Rattle.listing_model.specs.believed.Listing.{Call, first, next, Answer, written, no-reading, no-further, refused, due, over, overEntries, Shown, find}
 use Rattle.listing_model.specs.Calls.{successor, nextOn, callOn}
-use Rattle.service.specs.believed.Given.{Given, given}
+use Rattle.service.specs.believed.Given.{Given}
 use Rattle.service.specs.believed.Given as service
 use Rattle.service.specs.believed.Opened.{filesIn, opened, served}
 use Rattle.readings.specs.believed.Answers.{subject}
@@ -29,39 +26,15 @@ use Rattle.sets.specs.believed.Sets.{setsDue}
 use Rattle.stop_marks.specs.believed.StopMarks.{marksDue}
 use Rattle.replies.specs.believed.Wire.{outcomeCode}
 use Rattle.refusals.specs.Codes.{Numbered, answerOf, outcomeOf}
-use Rattle.refusals.proofs.Readers.{OfGrammar, OfHistory, grammar-of, history-of}
+use Rattle.refusals.proofs.Files.{OfFiles, OfGiven, files-of, opened-of, outcome-back}
 
 -- ── the files, and the room ──
 
-abbrev OfFiles : Files → Type 0
-OfFiles (accepted g ts) = Unit
-OfFiles (files.refused e) = Numbered e
+files-numbers : (grammar history : List ℕ) → OfFiles Numbered (filesIn grammar history)
+files-numbers = files-of Numbered (λ e h k. (h, omega arith))
 
-grammar-numbers : (s : List ℕ) → OfGrammar Numbered (grammarOf s)
-grammar-numbers s =
-    grammar-of Numbered (omega arith, omega arith) (omega arith, omega arith) (omega arith, omega arith) (omega arith, omega arith) (omega arith, omega arith)
-    (omega arith, omega arith) (omega arith, omega arith) (omega arith, omega arith) (omega arith, omega arith) s
-
-history-numbers : (s : List ℕ) → OfHistory Numbered (historyOf s)
-history-numbers s =
-    history-of Numbered (omega arith, omega arith) (omega arith, omega arith) (omega arith, omega arith) (omega arith, omega arith) (omega arith, omega arith)
-    (omega arith, omega arith) (omega arith, omega arith) (omega arith, omega arith) s
-
-files-numbers : (grammar history : List ℕ) → OfFiles (filesIn grammar history)
-files-numbers grammar history = go (grammarOf grammar) (grammar-numbers grammar) (historyOf history) (history-numbers history)
-  where
-    go : (a : GrammarFile) → OfGrammar Numbered a → (b : HistoryFile) → OfHistory Numbered b → OfFiles (filesOf a b)
-    go (grammar-file.refused e) p b q = p
-    go (grammar-file.accepted g) p (history-file.refused e) q = q
-    go (grammar-file.accepted g) p (history-file.accepted ts) q = tt
-
-opened-numbers : (each size : ℕ) (f : Files) → OfFiles f → OfFiles (opened each size f)
-opened-numbers each size (files.refused e) h = h
-opened-numbers each size (accepted g ts) h = go (ltb size (each * (length ts + 1)))
-  where
-    go : (b : Bool) → OfFiles (cond b (files.refused 15) (accepted g ts))
-    go true = (omega arith, omega arith)
-    go false = tt
+opened-numbers : (each size : ℕ) (f : Files) → OfFiles Numbered f → OfFiles Numbered (opened each size f)
+opened-numbers = opened-of Numbered (omega arith, omega arith)
 
 -- ── first and next reading ──
 
@@ -84,7 +57,7 @@ over-numbers l n next buf = go (find (take n buf) l)
     go none = (omega arith, omega arith)
     go (some k) = behind (drop k l)
 
-call-numbers : (f : Files) → OfFiles f → (c : Call) (buf : List ℕ) → OfAnswer (callOn (served due overEntries f) c buf .0)
+call-numbers : (f : Files) → OfFiles Numbered f → (c : Call) (buf : List ℕ) → OfAnswer (callOn (served due overEntries f) c buf .0)
 call-numbers (files.refused e) h c buf = h
 call-numbers (accepted g ts) h c buf = over-numbers (entries g (tokensOf ts)) (suc (length (tokensOf ts))) c buf
 
@@ -100,24 +73,19 @@ codes-read-back grammar history size c buf =
 
 -- ── services that only write ──
 
-abbrev OfGiven : Given Unit → Type 0
-OfGiven (given x) = Unit
-OfGiven (service.refused k) = Numbered k
-
-outcome-back : (o : Given Unit) → OfGiven o → outcomeOf (outcomeCode o) ≡ o
-outcome-back (given x) h = refl
-outcome-back (service.refused k) h = rw (ne-eqb k 0 (λ q. omega arith))
+written-back : (o : Given Unit) → OfGiven Numbered o → outcomeOf (outcomeCode o) ≡ o
+written-back = outcome-back Numbered (λ k h q. omega arith)
 
 module _ {B : Type 0} (serve : Grammar → List Token → B) (buffer : B) where
-  written-numbers : (f : Files) → OfFiles f → OfGiven (served (service.untouched buffer) (λ g w. (service.written, serve g w)) f .0)
+  written-numbers : (f : Files) → OfFiles Numbered f → OfGiven Numbered (served (service.untouched buffer) (λ g w. (service.written, serve g w)) f .0)
   written-numbers (files.refused e) h = h
   written-numbers (accepted g ts) h = tt
 
-no-room-numbers : (f : Files) → OfFiles f → Numbered (noRoom f)
+no-room-numbers : (f : Files) → OfFiles Numbered f → Numbered (noRoom f)
 no-room-numbers (files.refused e) h = h
 no-room-numbers (accepted g ts) h = (omega arith, omega arith)
 
-calls-numbers : (b : Bool) (k : ℕ) → Numbered k → (answers buf : List ℕ) (made : List ℕ × List ℕ) → OfGiven (cond {A = Given Unit × List ℕ × List ℕ} b (service.refused k, answers, buf) (service.written, made .0, made .1) .0)
+calls-numbers : (b : Bool) (k : ℕ) → Numbered k → (answers buf : List ℕ) (made : List ℕ × List ℕ) → OfGiven Numbered (cond {A = Given Unit × List ℕ × List ℕ} b (service.refused k, answers, buf) (service.written, made .0, made .1) .0)
 calls-numbers true k h answers buf made = h
 calls-numbers false k h answers buf made = tt
 
@@ -131,7 +99,7 @@ pub outcomes-read-back : (grammar history words marks kinds answers buf : List �
 outcomes-read-back grammar history words marks kinds answers buf =
     let f = files-numbers grammar history in
     record {
-      sets = outcome-back _ (written-numbers (λ g w. setWords g w ++ drop (4 * (length w + 1)) words) words (opened 4 (length words) (filesIn grammar history)) (opened-numbers 4 (length words) (filesIn grammar history) f));
-      stop-marks = outcome-back _ (written-numbers (λ g w. stopMarks g w ++ drop (length w + 1) marks) marks (opened 1 (length marks) (filesIn grammar history)) (opened-numbers 1 (length marks) (filesIn grammar history) f));
-      calls = outcome-back _ (calls-numbers (ltb (length answers) (length kinds)) (noRoom (filesIn grammar history)) (no-room-numbers (filesIn grammar history) f) answers buf _);
+      sets = written-back _ (written-numbers (λ g w. setWords g w ++ drop (4 * (length w + 1)) words) words (opened 4 (length words) (filesIn grammar history)) (opened-numbers 4 (length words) (filesIn grammar history) f));
+      stop-marks = written-back _ (written-numbers (λ g w. stopMarks g w ++ drop (length w + 1) marks) marks (opened 1 (length marks) (filesIn grammar history)) (opened-numbers 1 (length marks) (filesIn grammar history) f));
+      calls = written-back _ (calls-numbers (ltb (length answers) (length kinds)) (noRoom (filesIn grammar history)) (no-room-numbers (filesIn grammar history) f) answers buf _);
     }

@@ -1,4 +1,6 @@
 pub mod Codes
+pub mod Counts
+pub mod Files
 pub mod Readers
 pub mod Steps
 pub mod Writers

@@ -1,6 +1,7 @@
 -- An answer read back from its code, and the numbers that a refusal can have.
 -- Law: codes-read-back, outcomes-read-back (refusals/proofs/Codes.antt)
 -- Law: step-codes (refusals/proofs/Steps.antt)
+-- Law: counts-read-back (refusals/proofs/Counts.antt)
 -- Law: grammar-write-codes, history-write-codes (refusals/proofs/Writers.antt)
 use Prim.Native.Nat.{ℕ, _≤_}
 use mathlib.Core.Path.{_≡_}
@@ -11,6 +12,7 @@ use lib.Dec.{eqb}
 use Rattle.listing_model.specs.believed.Listing.{Answer, written, no-reading, no-further, refused}
 use Rattle.service.specs.believed.Given.{Given}
 use Rattle.service.specs.believed.Given as service
+use Rattle.reading_counts.specs.believed.Numbered.{Told, exact, over}
 
 -- the numbers of the services that take both files
 abbrev pub Numbered : ℕ → Type 0
@@ -42,3 +44,11 @@ HistoryWriteNumbered e = (e ≡ 1) ⊎ ((9 ≤ e) × (e ≤ 15))
 -- 0 says that the length is that of a file
 abbrev pub lengthOf : ℕ → ℕ → Given ℕ
 lengthOf k n = cond (eqb k 0) (service.given n) (service.refused k)
+
+-- the numbers of the services that count, and of reading k: those of the files, 15 and 18
+abbrev pub CountNumbered : ℕ → Type 0
+CountNumbered e = ((1 ≤ e) × (e ≤ 15)) ⊎ (e ≡ 18)
+
+-- 0 says that the count is exact, 102 that it is over
+abbrev pub toldOf : ℕ → ℕ → Given Told
+toldOf k n = cond (eqb k 0) (service.given (exact n)) (cond (eqb k 102) (service.given over) (service.refused k))

@@ -1,6 +1,7 @@
 // The services' answers as C sees them: one number, or a struct with the number and the counts or the length.
 use files::GrammarCheck;
 use files::HistoryCheck;
+use reading_counts::ReadingCount;
 use service::Outcome;
 use sets::CountAnswer;
 use step_bytes::StepCheck;
@@ -10,9 +11,10 @@ ghost use mathlib.Core.Path.{_≡_};
 ghost use Rattle.files.specs.believed.Checks.{grammarSaid, historySaid};
 ghost use Rattle.service.specs.believed.Given.{outcomeSaid};
 ghost use Rattle.sets.specs.believed.Sets.{countSaid};
+ghost use Rattle.reading_counts.specs.believed.Numbered.{readingsSaid};
 ghost use Rattle.step_bytes.specs.believed.StepBytes.{numberSaid};
 ghost use Rattle.writers.specs.believed.Writers.{writeSaid};
-ghost use Rattle.replies.specs.believed.Wire.{grammarWire, historyWire, countWire, outcomeCode, stepCode, lengthWire};
+ghost use Rattle.replies.specs.believed.Wire.{grammarWire, historyWire, countWire, readingsWire, outcomeCode, stepCode, lengthWire};
 ghost use Rattle.replies.specs.Places.{placeWire};
 
 // 0 and the counts of an accepted grammar; or the number of the refusal, and zeros.
@@ -35,6 +37,13 @@ pub struct HistoryReply {
 pub struct CountReply {
     pub answer: u8,
     pub count: u32,
+}
+
+// 0 and the number of readings; 102 and 0 where there are more than 2^64 - 1; or the number of the refusal, and 0.
+#[repr(C)]
+pub struct ReadingsReply {
+    pub answer: u8,
+    pub count: u64,
 }
 
 // Where a part of a file starts, and how many bytes it has; zeros where it is refused.
@@ -87,6 +96,22 @@ pub fn count_reply(given: CountAnswer) -> CountReply
         CountAnswer::Count(count) => CountReply { answer: 0, count },
         CountAnswer::Refused(k) => CountReply {
             answer: k,
+            count: 0,
+        },
+    }
+}
+
+pub fn readings_reply(given: ReadingCount) -> ReadingsReply
+    ensures { λ r. ⌜ r ≡ readingsWire (readingsSaid given) ⌝ }
+{
+    match given {
+        ReadingCount::Exact(count) => ReadingsReply { answer: 0, count },
+        ReadingCount::Over => ReadingsReply {
+            answer: 102,
+            count: 0,
+        },
+        ReadingCount::Refused(refusal) => ReadingsReply {
+            answer: refusal,
             count: 0,
         },
     }

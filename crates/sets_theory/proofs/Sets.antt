@@ -21,10 +21,10 @@ use Rattle.vpg.proofs.Sound.{entries-readings}
 
 -- ── sets ──
 
-at-is : (e : List ℕ) (p r : ℕ) → (standsAt e p r ≡ true) ↔ (getElem? e p ≡ some r)
-at-is [] p r = (λ h. absurd (false≢true h), λ h. absurd (Option·none-ne-some r h))
-at-is (x ∷ e) zero r = (λ h. ap some (eqb-true x r h), λ h. eq-eqb x r (Option·some-injective x r h))
-at-is (x ∷ e) (suc p) r = at-is e p r
+pub stands-at : (e : List ℕ) (p r : ℕ) → (standsAt e p r ≡ true) ↔ (getElem? e p ≡ some r)
+stands-at [] p r = (λ h. absurd (false≢true h), λ h. absurd (Option·none-ne-some r h))
+stands-at (x ∷ e) zero r = (λ h. ap some (eqb-true x r h), λ h. eq-eqb x r (Option·some-injective x r h))
+stands-at (x ∷ e) (suc p) r = stands-at e p r
 
 -- some list of l has r at p
 abbrev Stands : List (List ℕ) → ℕ → ℕ → Type 0
@@ -33,8 +33,8 @@ Stands l p r = (e : List ℕ) × List·Memᴰ e l × (getElem? e p ≡ some r)
 in-is : (l : List (List ℕ)) (p r : ℕ) → (standsIn l p r ≡ true) ↔ Stands l p r
 in-is [] p r = (λ h. absurd (false≢true h), λ h. absurd (List·Memᴰ·not-nil (h .1)))
 in-is (e ∷ l) p r = (
-  λ h. ⊎-elim (λ q. (e, List·Memᴰ·head refl, at-is e p r .0 q)) (λ q. let s = in-is l p r .0 q in (s .0, List·Memᴰ·tail (s .1), s .2)) (or-cases (standsAt e p r) (standsIn l p r) h),
-  λ h. ⊎-elim (λ q. rw (at-is e p r .1 (rw q at (h .2)))) (λ m. rw (in-is l p r .1 (h .0, m, h .2)) (or-true (standsAt e p r))) (List·Memᴰ·cases-cons (h .1)),
+  λ h. ⊎-elim (λ q. (e, List·Memᴰ·head refl, stands-at e p r .0 q)) (λ q. let s = in-is l p r .0 q in (s .0, List·Memᴰ·tail (s .1), s .2)) (or-cases (standsAt e p r) (standsIn l p r) h),
+  λ h. ⊎-elim (λ q. rw (stands-at e p r .1 (rw q at (h .2)))) (λ m. rw (in-is l p r .1 (h .0, m, h .2)) (or-true (standsAt e p r))) (List·Memᴰ·cases-cons (h .1)),
 )
 
 -- "some entry has the rule at that position"

@@ -1,5 +1,5 @@
 -- Whether a rule is in the set at a position, as a test over the entries.
--- Law: kept-is (sets_theory/proofs/Sets.antt)
+-- Law: stands-at, kept-is (sets_theory/proofs/Sets.antt)
 use Prim.Native.Nat.{ℕ, zero, suc}
 use mathlib.Core.Bool.{Bool, false, _||_}
 use mathlib.Core.List.{List, [], _∷_}

@@ -6,10 +6,12 @@
 //! Prints a table, and writes bench.csv and bench.svg into DIR: target/bench of the repository unless given, docs/ with
 //! `--docs`. A time is processor time, the best of several short rounds; the sides take turns. BENCH is this program
 //! built with another archive (GAFFMEDLAR_LIB_DIR), or, where that archive lacks a function, as it was when the archive was made:
-//! its library takes turns with the others, but for files with names above 63, which an older one refuses. It is asked for services
-//! by their places, so it answers for what then stood in the place of one.
+//! its library takes turns with the others, but for files with names above 63, which an older one refuses, and for counts of readings
+//! and reading k, which an older one lacks. It is asked for services by their places, so it answers for what then stood in the place of
+//! one.
 
 mod clock;
+mod counted;
 mod index;
 mod measure;
 mod other;
@@ -29,13 +31,13 @@ use std::process::ExitCode;
 
 const USAGE: &str = "usage: bench [--quick] [--docs] [--out DIR] [--before BENCH]
 
-Prints a table of times, and writes bench.csv and bench.svg into target/bench. It takes one to two minutes.
+Prints a table of times, and writes bench.csv and bench.svg into target/bench. It takes two to three minutes.
 
   --quick          short rounds, for a try
   --docs           writes into docs/, whose files are under version control
   --out DIR        writes into DIR
   --before BENCH   times another library too: that of BENCH, this program built with another archive or an older
-                   one, on all files but those with wide names
+                   one, on all files but those with wide names, for all services but counts of readings and reading k
   --answer         makes the rounds that another bench asks for on standard input: what --before calls";
 
 struct Options {

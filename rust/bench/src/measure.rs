@@ -56,7 +56,13 @@ impl<'a> Calls<'a> {
         for file in &workload.histories {
             let mut first = vec![0; n + 1];
             raw::first_reading(grammar, file, &mut first);
-            histories.push(History { file, first });
+            let reply = raw::reading_count(grammar, file);
+            let count = if reply.answer == 0 {
+                reply.count
+            } else {
+                u64::MAX
+            };
+            histories.push(History { file, first, count });
         }
         for history in &histories {
             let [proved, scan, indexed] = SIDES.map(|side| {
@@ -183,7 +189,9 @@ pub fn run(rounds: Rounds, other: &mut Option<Other>) -> Result<Vec<Row>, String
             let calls = Calls::of(service, workload);
             let question = Question::of(&all, place, number, rounds.least);
             let (times, before) = timed(calls, rounds, || {
-                let other = other.as_mut().filter(|_| workload.for_older());
+                let other = other
+                    .as_mut()
+                    .filter(|_| workload.for_older() && service.for_older());
                 other.map(|other| other.round(&question)).transpose()
             })?;
             let row = Row {

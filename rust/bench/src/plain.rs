@@ -64,10 +64,10 @@ impl Set {
     }
 }
 
-struct Levels<I> {
-    read: Read,
+pub struct Levels<I> {
+    pub read: Read,
     index: I,
-    close: Vec<usize>,
+    pub close: Vec<usize>,
     /// The stages that derive the rest of the level from each position.
     able: Vec<u32>,
 }
@@ -88,13 +88,13 @@ impl<I: Index> Levels<I> {
     }
 
     /// The rules to look at at a position.
-    fn rules_at(&self, place: usize) -> impl Iterator<Item = (usize, &Rule)> {
+    pub fn rules_at(&self, place: usize) -> impl Iterator<Item = (usize, &Rule)> {
         let token = self.read.tokens.get(place).copied();
         self.index.at(&self.read.rules, token)
     }
 
     /// What is known of the empty rules, where only these can stand.
-    fn ends_at(&self, place: usize) -> Option<&Ends> {
+    pub fn ends_at(&self, place: usize) -> Option<&Ends> {
         match self.read.tokens.get(place) {
             None | Some(Token::Close(_)) => self.index.ends(),
             _ => None,
@@ -115,7 +115,7 @@ impl<I: Index> Levels<I> {
     }
 
     /// The smallest rule of the stage, which derives the rest.
-    fn smallest(&self, stage: u16, place: usize) -> usize {
+    pub fn smallest(&self, stage: u16, place: usize) -> usize {
         if let Some(ends) = self.ends_at(place) {
             return ends.rule[usize::from(stage)].into();
         }
@@ -125,7 +125,7 @@ impl<I: Index> Levels<I> {
             .0
     }
 
-    fn applies(&self, rule: &Rule, place: usize) -> bool {
+    pub fn applies(&self, rule: &Rule, place: usize) -> bool {
         let tokens = &self.read.tokens;
         match *rule {
             Rule::Ends { .. } => matches!(tokens.get(place), None | Some(Token::Close(_))),
@@ -149,12 +149,12 @@ impl<I: Index> Levels<I> {
         }
     }
 
-    fn fits(&self, rule: &Rule, stage: u16, place: usize) -> bool {
+    pub fn fits(&self, rule: &Rule, stage: u16, place: usize) -> bool {
         rule.from() == stage && self.applies(rule, place)
     }
 
     /// The stage at the next position; `behind` has the stage behind each pending close.
-    fn go_on(&self, rule: &Rule, place: usize, behind: &mut [u16]) -> u16 {
+    pub fn go_on(&self, rule: &Rule, place: usize, behind: &mut [u16]) -> u16 {
         match *rule {
             Rule::Ends { .. } => behind[place],
             Rule::Marks { then, .. } => then,
@@ -217,7 +217,8 @@ impl<I: Index> Levels<I> {
     }
 }
 
-fn levels<I: Index>(
+/// The levels of both files, where the lent buffer has room for what is needed; or the number of the refusal.
+pub fn levels<I: Index>(
     grammar: &[u8],
     history: &[u8],
     lent: usize,

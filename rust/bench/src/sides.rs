@@ -1,7 +1,7 @@
 //! The services, called on each of the three sides: the proved library, plain Rust over all rules, plain Rust by the index.
 use crate::index::{Classes, Index, Scan};
 use crate::workloads::Workload;
-use crate::{pair_states, plain};
+use crate::{counted, pair_states, plain};
 use gaffmedlar::raw;
 
 #[derive(Clone, Copy, PartialEq, Eq)]
@@ -15,9 +15,17 @@ pub enum Service {
     Sets,
     ChoiceCount,
     StopMarks,
+    ReadingCount,
+    /// At the middle position, with the rule that the first reading has there.
+    ReadingCountAt,
+    /// The first, the one in the middle, and the last; of a count that is over, 2^64 - 1 are taken.
+    ReadingFirst,
+    ReadingMiddle,
+    ReadingLast,
 }
 
-pub const SERVICES: [(Service, &str); 9] = [
+/// The older ones first, so that their places stay.
+pub const SERVICES: [(Service, &str); 14] = [
     (Service::GrammarCheck, "grammar check"),
     (Service::HistoryCheck, "history check"),
     (Service::FirstReading, "first reading"),
@@ -27,16 +35,37 @@ pub const SERVICES: [(Service, &str); 9] = [
     (Service::Sets, "sets"),
     (Service::ChoiceCount, "choice count"),
     (Service::StopMarks, "stop marks"),
+    (Service::ReadingCount, "reading count"),
+    (Service::ReadingCountAt, "reading count at"),
+    (Service::ReadingFirst, "reading 1"),
+    (Service::ReadingMiddle, "reading k: middle"),
+    (Service::ReadingLast, "reading k: last"),
 ];
 
 impl Service {
-    /// What does not go by the history, and lists of calls, are timed on one history alone; the long list once.
+    /// What does not go by the history, and lists of calls, are timed on one history alone; the long list once. That the time for
+    /// reading k is the same for every k is seen on few files.
     pub fn timed_on(self, workload: &Workload) -> bool {
         match self {
             Service::GrammarCheck | Service::TenCalls => workload.histories.len() == 1,
             Service::ThousandCalls => workload.group == "listing",
+            Service::ReadingFirst | Service::ReadingMiddle => {
+                ["workload", "listing"].contains(&workload.group)
+            }
             _ => true,
         }
+    }
+
+    /// Whether a library has it that doesn't count readings.
+    pub fn for_older(self) -> bool {
+        !matches!(
+            self,
+            Service::ReadingCount
+                | Service::ReadingCountAt
+                | Service::ReadingFirst
+                | Service::ReadingMiddle
+                | Service::ReadingLast
+        )
     }
 }
 
@@ -49,10 +78,32 @@ pub enum Side {
 
 pub const SIDES: [Side; 3] = [Side::Library, Side::Scan, Side::Indexed];
 
-/// A history and its first reading.
+/// A history, its first reading, and how many it has.
 pub struct History<'a> {
     pub file: &'a [u8],
     pub first: Vec<u8>,
+    /// 2^64 - 1 where there are more.
+    pub count: u64,
+}
+
+impl History<'_> {
+    /// Which reading is asked for.
+    fn number(&self, service: Service) -> u64 {
+        match service {
+            Service::ReadingFirst => 1,
+            Service::ReadingMiddle => self.count / 2 + 1,
+            _ => self.count,
+        }
+    }
+
+    /// The middle position and its rule in the first reading.
+    fn middle(&self) -> (usize, usize) {
+        let position = self.first.len() / 2;
+        (
+            position,
+            self.first.get(position).copied().unwrap_or(0).into(),
+        )
+    }
 }
 
 /// The outputs of all sides, kept from call to call.
@@ -115,7 +166,30 @@ fn library(service: Service, grammar: &[u8], history: &History, to: &mut Buffers
         Service::Sets => raw::sets(grammar, file, &mut to.words).into(),
         Service::ChoiceCount => raw::choice_count(grammar, file).count,
         Service::StopMarks => raw::stop_marks(grammar, file, &mut to.bytes).into(),
+        Service::ReadingCount => told(raw::reading_count(grammar, file), to),
+        Service::ReadingCountAt => {
+            let (position, rule) = history.middle();
+            told(raw::reading_count_at(grammar, file, position, rule), to)
+        }
+        Service::ReadingFirst | Service::ReadingMiddle | Service::ReadingLast => {
+            raw::reading_at(grammar, file, history.number(service), &mut to.bytes).into()
+        }
     }
+}
+
+/// The answer; the count goes into the first two words.
+fn told(reply: raw::ReadingsReply, to: &mut Buffers) -> u32 {
+    to.words[..2].copy_from_slice(&[reply.count as u32, (reply.count >> 32) as u32]);
+    reply.answer.into()
+}
+
+fn reply_of(told: Result<Option<u64>, u8>) -> raw::ReadingsReply {
+    let (answer, count) = match told {
+        Ok(Some(count)) => (0, count),
+        Ok(None) => (reference::OVER, 0),
+        Err(number) => (number, 0),
+    };
+    raw::ReadingsReply { answer, count }
 }
 
 fn in_rust<I: Index>(service: Service, grammar: &[u8], history: &History, to: &mut Buffers) -> u32 {
@@ -134,6 +208,16 @@ fn in_rust<I: Index>(service: Service, grammar: &[u8], history: &History, to: &m
         Service::Sets => plain::sets::<I>(grammar, file, &mut to.words).into(),
         Service::ChoiceCount => plain::choice_count::<I>(grammar, file).unwrap_or(0),
         Service::StopMarks => pair_states::by_currents(grammar, file, &mut to.bytes).into(),
+        Service::ReadingCount => told(reply_of(counted::reading_count::<I>(grammar, file)), to),
+        Service::ReadingCountAt => {
+            let (position, rule) = history.middle();
+            let counted = counted::reading_count_at::<I>(grammar, file, position, rule);
+            told(reply_of(counted), to)
+        }
+        Service::ReadingFirst | Service::ReadingMiddle | Service::ReadingLast => {
+            let k = history.number(service);
+            counted::reading_at::<I>(grammar, file, k, &mut to.bytes).into()
+        }
     }
 }
 
@@ -150,7 +234,8 @@ mod tests {
     fn given(side: Side, grammar: &[u8], file: &[u8]) -> Given {
         let n = reference::history_check(file).unwrap().into();
         let first = vec![77; n + 1];
-        let mut history = History { file, first };
+        let count = 0;
+        let mut history = History { file, first, count };
         let mut made = |service| {
             let mut to = Buffers::of(service, n);
             let answer = call(side, service, grammar, &history, &mut to);
@@ -233,8 +318,8 @@ mod tests {
     fn choices_of_examples() {
         each_side_gives(&choices::EXAMPLES);
         let counted = |side, grammar, file: &[u8]| {
-            let first = vec![];
-            let history = History { file, first };
+            let (first, count) = (vec![], 0);
+            let history = History { file, first, count };
             let mut to = Buffers::of(Service::ChoiceCount, 0);
             call(side, Service::ChoiceCount, grammar, &history, &mut to)
         };

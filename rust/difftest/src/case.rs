@@ -1,6 +1,7 @@
-//! One case: two files, the lent buffers of every service, a position and what the writers are called with; and the
-//! comparison of both sides on it.
+//! One case: two files, the lent buffers of every service, a position, what is asked of counts and what the writers are called
+//! with; and the comparison of both sides on it.
 use crate::faults::{spoiled, Fault};
+use crate::numbered::{self, Numbered};
 use crate::writing::{self, Kind, Writing};
 use gaffmedlar::raw;
 use reference::Work;
@@ -24,6 +25,7 @@ pub struct Case {
     pub buffer: Vec<u8>,
     /// Where a step is asked for.
     pub position: usize,
+    pub numbered: Numbered,
     pub write_grammar: Writing,
     pub write_history: Writing,
 }
@@ -49,6 +51,13 @@ pub enum Service {
     /// Whether there is more than one reading: by the library there is exactly when it counts a choice.
     SeveralReadings,
     StopMarks,
+    ReadingCount,
+    ReadingCountAt,
+    ReadingAt,
+    /// Reading k and the one that "next reading" makes of it; and reading k stepped to.
+    NextOfNumbered,
+    /// The counts of all rules at a position, added up.
+    CountsAddUp,
     /// Both functions: where the part is, and the number.
     StepBytes,
     /// The writers, and what they write read back.
@@ -59,7 +68,7 @@ pub enum Service {
     HistoryAgain,
 }
 
-pub const SERVICES: [Service; 14] = [
+pub const SERVICES: [Service; 19] = [
     Service::GrammarCheck,
     Service::HistoryCheck,
     Service::FirstReading,
@@ -69,6 +78,11 @@ pub const SERVICES: [Service; 14] = [
     Service::ChoiceCount,
     Service::SeveralReadings,
     Service::StopMarks,
+    Service::ReadingCount,
+    Service::ReadingCountAt,
+    Service::ReadingAt,
+    Service::NextOfNumbered,
+    Service::CountsAddUp,
     Service::StepBytes,
     Service::WriteGrammar,
     Service::WriteHistory,
@@ -157,37 +171,25 @@ impl<T: Copy + PartialEq> Lent<T> {
 pub const BYTE: u8 = 0xa5;
 const WORD: u32 = 0xa5a5_a5a5;
 
+/// A call that writes bytes, on a buffer with guards around it.
+pub fn into_bytes(content: &[u8], call: impl FnOnce(&mut [u8]) -> u8) -> Outcome {
+    let mut lent = Lent::new(content, BYTE);
+    let answer = call(lent.part());
+    Outcome::of(answer, &[], &[&lent.checked(BYTE)], &[])
+}
+
 /// What the library gives.
 pub fn library(case: &Case, service: Service) -> Outcome {
     let (grammar, history) = (&case.grammar[..], &case.history[..]);
     match service {
-        Service::GrammarCheck => {
-            let reply = raw::grammar_check(grammar);
-            let counts = [reply.stages.into(), reply.rules.into()];
-            Outcome::of(reply.answer, &counts, &[], &[])
-        }
-        Service::HistoryCheck => {
-            let reply = raw::history_check(history);
-            Outcome::of(reply.answer, &[reply.tokens.into()], &[], &[])
-        }
-        Service::FirstReading => {
-            let mut lent = Lent::new(&case.first, BYTE);
-            let answer = raw::first_reading(grammar, history, lent.part());
-            Outcome::of(answer, &[], &[&lent.checked(BYTE)], &[])
-        }
+        Service::GrammarCheck | Service::HistoryCheck => library_check(case, service),
+        Service::FirstReading => into_bytes(&case.first, |part| {
+            raw::first_reading(grammar, history, part)
+        }),
         Service::NextReading => {
-            let mut lent = Lent::new(&case.next, BYTE);
-            let answer = raw::next_reading(grammar, history, lent.part());
-            Outcome::of(answer, &[], &[&lent.checked(BYTE)], &[])
+            into_bytes(&case.next, |part| raw::next_reading(grammar, history, part))
         }
-        Service::RunCalls => {
-            let mut answers = Lent::new(&case.answers, BYTE);
-            let mut buffer = Lent::new(&case.buffer, BYTE);
-            let answer =
-                raw::run_calls(grammar, history, &case.calls, answers.part(), buffer.part());
-            let lent = [&answers.checked(BYTE)[..], &buffer.checked(BYTE)];
-            Outcome::of(answer, &[], &lent, &[])
-        }
+        Service::RunCalls => library_calls(case),
         Service::Sets => {
             let mut words = Lent::new(&case.words, WORD);
             let answer = raw::sets(grammar, history, words.part());
@@ -202,16 +204,34 @@ pub fn library(case: &Case, service: Service) -> Outcome {
             Outcome::of(reply.answer, &[u64::from(reply.count > 0)], &[], &[])
         }
         Service::StopMarks => {
-            let mut lent = Lent::new(&case.marks, BYTE);
-            let answer = raw::stop_marks(grammar, history, lent.part());
-            Outcome::of(answer, &[], &[&lent.checked(BYTE)], &[])
+            into_bytes(&case.marks, |part| raw::stop_marks(grammar, history, part))
         }
         Service::StepBytes => library_step(history, case.position),
         Service::WriteGrammar => writing::library(&case.write_grammar, Kind::Grammar),
         Service::WriteHistory => writing::library(&case.write_history, Kind::History),
         Service::GrammarAgain => writing::library_grammar_again(grammar, history),
         Service::HistoryAgain => writing::library_again(history, Kind::History),
+        counted => numbered::library(case, counted),
     }
+}
+
+fn library_check(case: &Case, service: Service) -> Outcome {
+    if service == Service::GrammarCheck {
+        let reply = raw::grammar_check(&case.grammar);
+        let counts = [reply.stages.into(), reply.rules.into()];
+        return Outcome::of(reply.answer, &counts, &[], &[]);
+    }
+    let reply = raw::history_check(&case.history);
+    Outcome::of(reply.answer, &[reply.tokens.into()], &[], &[])
+}
+
+fn library_calls(case: &Case) -> Outcome {
+    let mut answers = Lent::new(&case.answers, BYTE);
+    let mut buffer = Lent::new(&case.buffer, BYTE);
+    let (grammar, history) = (&case.grammar, &case.history);
+    let answer = raw::run_calls(grammar, history, &case.calls, answers.part(), buffer.part());
+    let lent = [&answers.checked(BYTE)[..], &buffer.checked(BYTE)];
+    Outcome::of(answer, &[], &lent, &[])
 }
 
 pub fn library_step(history: &[u8], position: usize) -> Outcome {
@@ -220,27 +240,33 @@ pub fn library_step(history: &[u8], position: usize) -> Outcome {
     Outcome::of(number, &[part.start as u64, part.length as u64], &[], &[])
 }
 
+/// What the reference counts, or as many zeros beside its number.
+fn counts_due<const N: usize>(counts: Result<[u64; N], u8>) -> Outcome {
+    match counts {
+        Ok(counts) => Outcome::of(0, &counts, &[], &[]),
+        Err(number) => Outcome::of(number, &[0; N], &[], &[]),
+    }
+}
+
+/// What the reference writes.
+pub fn bytes_due(content: &[u8], call: impl FnOnce(&mut [u8]) -> u8) -> Outcome {
+    let mut lent = content.to_vec();
+    let answer = call(&mut lent);
+    Outcome::of(answer, &[], &[&lent], &[])
+}
+
 /// What is due by the reference.
 pub fn due(case: &Case, work: &Work, service: Service) -> Outcome {
     match service {
-        Service::GrammarCheck => match reference::grammar_check(&case.grammar) {
-            Ok((stages, rules)) => Outcome::of(0, &[stages.into(), rules.into()], &[], &[]),
-            Err(number) => Outcome::of(number, &[0, 0], &[], &[]),
-        },
-        Service::HistoryCheck => match reference::history_check(&case.history) {
-            Ok(tokens) => Outcome::of(0, &[tokens.into()], &[], &[]),
-            Err(number) => Outcome::of(number, &[0], &[], &[]),
-        },
-        Service::FirstReading => {
-            let mut lent = case.first.clone();
-            let answer = work.first_reading(&mut lent);
-            Outcome::of(answer, &[], &[&lent], &[])
+        Service::GrammarCheck => counts_due(
+            reference::grammar_check(&case.grammar)
+                .map(|(stages, rules)| [stages.into(), rules.into()]),
+        ),
+        Service::HistoryCheck => {
+            counts_due(reference::history_check(&case.history).map(|tokens| [tokens.into()]))
         }
-        Service::NextReading => {
-            let mut lent = case.next.clone();
-            let answer = work.next_reading(&mut lent);
-            Outcome::of(answer, &[], &[&lent], &[])
-        }
+        Service::FirstReading => bytes_due(&case.first, |lent| work.first_reading(lent)),
+        Service::NextReading => bytes_due(&case.next, |lent| work.next_reading(lent)),
         Service::RunCalls => {
             let (mut answers, mut buffer) = (case.answers.clone(), case.buffer.clone());
             let answer = work.run_calls(&case.calls, &mut answers, &mut buffer);
@@ -251,27 +277,18 @@ pub fn due(case: &Case, work: &Work, service: Service) -> Outcome {
             let answer = work.sets(&mut words);
             Outcome::of(answer, &[], &[], &words)
         }
-        Service::ChoiceCount => match work.choice_count() {
-            Ok(count) => Outcome::of(0, &[count.into()], &[], &[]),
-            Err(number) => Outcome::of(number, &[0], &[], &[]),
-        },
-        Service::SeveralReadings => match work.several_readings() {
-            Ok(several) => Outcome::of(0, &[several.into()], &[], &[]),
-            Err(number) => Outcome::of(number, &[0], &[], &[]),
-        },
-        Service::StopMarks => {
-            let mut lent = case.marks.clone();
-            let answer = work.stop_marks(&mut lent);
-            Outcome::of(answer, &[], &[&lent], &[])
-        }
-        Service::StepBytes => match reference::step_bytes(&case.history, case.position) {
-            Ok(part) => Outcome::of(0, &[part.start as u64, part.len() as u64], &[], &[]),
-            Err(number) => Outcome::of(number, &[0, 0], &[], &[]),
-        },
+        Service::ChoiceCount => counts_due(work.choice_count().map(|count| [count.into()])),
+        Service::SeveralReadings => counts_due(work.several_readings().map(|yes| [yes.into()])),
+        Service::StopMarks => bytes_due(&case.marks, |lent| work.stop_marks(lent)),
+        Service::StepBytes => counts_due(
+            reference::step_bytes(&case.history, case.position)
+                .map(|part| [part.start as u64, part.len() as u64]),
+        ),
         Service::WriteGrammar => writing::due(&case.write_grammar, Kind::Grammar),
         Service::WriteHistory => writing::due(&case.write_history, Kind::History),
         Service::GrammarAgain => writing::due_grammar_again(&case.grammar, work),
         Service::HistoryAgain => writing::due_again(&case.history, Kind::History),
+        counted => numbered::due(case, work, counted),
     }
 }
 

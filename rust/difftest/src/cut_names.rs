@@ -31,13 +31,23 @@ pub struct CutName {
 }
 
 /// Each service that goes by the names of both files.
-const SERVICES: [Service; 6] = [
+const SERVICES: [Service; 9] = [
     Service::FirstReading,
     Service::NextReading,
     Service::RunCalls,
     Service::Sets,
     Service::ChoiceCount,
     Service::StopMarks,
+    Service::ReadingCount,
+    Service::ReadingCountAt,
+    Service::ReadingAt,
+];
+
+/// Each service that counts readings: with none of a close's bits, its name is not looked at.
+const COUNTING: [Service; 3] = [
+    Service::ReadingCount,
+    Service::ReadingCountAt,
+    Service::ReadingAt,
 ];
 
 /// Every one that is planted: 6 bits hold the names that there were before, 8 are a byte, 14 two bytes of a file; the library's
@@ -53,6 +63,11 @@ pub fn all() -> Vec<CutName> {
         add(At::Equal, &[8, 11, 14]);
         for service in SERVICES {
             add(At::Both(service), &[6, 8, 14]);
+        }
+        if named == Named::Closes {
+            for service in COUNTING {
+                add(At::Both(service), &[0]);
+            }
         }
     }
     all

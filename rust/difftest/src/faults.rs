@@ -3,6 +3,7 @@ use crate::case::{library, library_step, Case, Outcome, Service};
 use crate::cut_names::{self, CutName};
 use crate::heads;
 use crate::miscount::{self, Miscount};
+use crate::misnumber::{self, Misnumber};
 use crate::misread::{self, Misread};
 use crate::writing::{self, Kind};
 use frames::Token;
@@ -38,6 +39,9 @@ pub enum Fault {
     SetsFromStage0,
     ChoicesFromStage0,
     MarksFromStage0,
+    CountFromStage0,
+    CountAtFromStage0,
+    NumberedFromStage0,
     /// A start that is no stage gets 3.
     StartAsThree,
     /// A start that equals the stage count is taken.
@@ -72,6 +76,8 @@ pub enum Fault {
     StepOfTwoBytes,
     /// Choices counted in a wrong way.
     Miscount(Miscount),
+    /// Readings counted, numbered or refused in a wrong way.
+    Misnumber(Misnumber),
     /// A name of which the low bits count alone.
     CutName(CutName),
     /// A number read or written in a wrong way, or a wrong limit of names.
@@ -83,11 +89,12 @@ pub fn all() -> Vec<Fault> {
     let choices = miscount::all().into_iter().map(Fault::Miscount);
     let names = cut_names::all().into_iter().map(Fault::CutName);
     let numbers = misread::all().into_iter().map(Fault::Misread);
-    let drawn_up = choices.chain(names).chain(numbers);
+    let readings = misnumber::all().into_iter().map(Fault::Misnumber);
+    let drawn_up = choices.chain(readings).chain(names).chain(numbers);
     FAULTS.into_iter().chain(drawn_up).collect()
 }
 
-const FAULTS: [Fault; 32] = [
+const FAULTS: [Fault; 35] = [
     Fault::StopsAfterTwo,
     Fault::NoneAsWritten,
     Fault::WritesOneMore,
@@ -104,6 +111,9 @@ const FAULTS: [Fault; 32] = [
     Fault::SetsFromStage0,
     Fault::ChoicesFromStage0,
     Fault::MarksFromStage0,
+    Fault::CountFromStage0,
+    Fault::CountAtFromStage0,
+    Fault::NumberedFromStage0,
     Fault::StartAsThree,
     Fault::StartAtCount,
     Fault::StartLate,
@@ -123,19 +133,23 @@ const FAULTS: [Fault; 32] = [
 ];
 
 /// Each service that goes by a grammar's start, and the fault that it goes by stage 0.
-const FROM_STAGE_0: [(Fault, Service); 6] = [
+const FROM_STAGE_0: [(Fault, Service); 9] = [
     (Fault::FirstFromStage0, Service::FirstReading),
     (Fault::NextFromStage0, Service::NextReading),
     (Fault::CallsFromStage0, Service::RunCalls),
     (Fault::SetsFromStage0, Service::Sets),
     (Fault::ChoicesFromStage0, Service::ChoiceCount),
     (Fault::MarksFromStage0, Service::StopMarks),
+    (Fault::CountFromStage0, Service::ReadingCount),
+    (Fault::CountAtFromStage0, Service::ReadingCountAt),
+    (Fault::NumberedFromStage0, Service::ReadingAt),
 ];
 
 /// A true outcome turned into a wrong one, where the planted fault shows.
 pub fn spoiled(fault: Fault, case: &Case, service: Service, outcome: Outcome) -> Outcome {
     match fault {
         Fault::Miscount(miscount) => return miscount.spoiled(case, service, outcome),
+        Fault::Misnumber(misnumber) => return misnumber.spoiled(case, service, outcome),
         Fault::CutName(cut) => return cut.spoiled(case, service, outcome),
         Fault::Misread(misread) => return misread.spoiled(case, service, outcome),
         _ => {}

@@ -121,7 +121,7 @@ impl Made {
     }
 
     /// The stages get other numbers, and the start with them, so that it has to be said.
-    fn reordered(self, random: &mut Random) -> Made {
+    pub fn reordered(self, random: &mut Random) -> Made {
         let numbers = random.order(self.stages.into());
         let number = |stage: u16| numbers[usize::from(stage)] as u16;
         Made {

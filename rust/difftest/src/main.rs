@@ -5,7 +5,9 @@
 //!     difftest --help
 //!
 //! A case is a grammar file and a history file, with which every service is called once, and a list of calls made; that there is
-//! a choice exactly where there is more than one reading is seen to, and the bytes of a step are asked for at a position. The
+//! a choice exactly where there is more than one reading is seen to, and the bytes of a step are asked for at a position. Readings
+//! are counted, in all and with a rule at a position, where the counts of all rules add up; and one is asked for by its number,
+//! behind which the next one by its number is the one that a step leads to. Some files have counts around 2^64. The
 //! writers are called with elements, what they write is read back, and both files are written again from their numbers. Half of
 //! the grammars say their start. Names are up to 65,535, and many differ in their high bits alone.
 //! `--long` runs ten million cases. `--self-test` plants a fault after the other in the library's answers and sees that
@@ -22,14 +24,19 @@ mod histories;
 mod kept;
 mod make;
 mod miscount;
+mod misnumber;
 mod misread;
 mod names;
+mod near_top;
+mod numbered;
 mod progress;
 mod random;
 mod rows;
 mod seen;
+mod seen_counts;
 mod shrink;
 mod sweeps;
+mod tally;
 mod writing;
 
 use case::{compare, hex, Case, Difference, Service};
@@ -57,7 +64,7 @@ Compares the proved library with the reference, on 200,000 cases unless told.
   --seed S       on other cases; the same for the same S, which is 1 unless given
   --self-test    plants faults in the library's answers and sees that each is found
 
-Status: 0 no difference, 1 a difference or an answer, a start, a name or a set that was not met, 2 wrong words.";
+Status: 0 no difference, 1 a difference or an answer, a start, a name, a set or a count that was not met, 2 wrong words.";
 
 struct Options {
     cases: u64,
@@ -110,6 +117,14 @@ fn show(case: &Case, difference: &Difference) {
         Service::Sets => println!("  lent     {} words", case.words.len()),
         Service::StopMarks => println!("  lent     {}", hex(&case.marks)),
         Service::StepBytes => println!("  position {}", case.position),
+        Service::ReadingCountAt | Service::CountsAddUp => {
+            println!("  position {}", case.numbered.position);
+            println!("  rule     {}", case.numbered.rule);
+        }
+        Service::ReadingAt | Service::NextOfNumbered => {
+            println!("  k        {}", case.numbered.k);
+            println!("  lent     {}", hex(&case.numbered.reading));
+        }
         Service::WriteGrammar => show_writing(&case.write_grammar),
         Service::WriteHistory => show_writing(&case.write_history),
         _ => {}
@@ -180,7 +195,7 @@ fn compare_all(options: &Options) -> bool {
         start.elapsed().as_secs_f64()
     );
     if !whole {
-        println!("an answer, a start, a name or a set was not met: more cases are needed");
+        println!("an answer, a start, a name, a set or a count was not met: more cases are needed");
     }
     whole
 }

@@ -1,5 +1,5 @@
-//! Makes cases: files that pass and damaged ones, short ones and those at a limit, with buffers around the length that
-//! is needed, positions of opens, beside them and behind the last token, and elements to be written.
+//! Makes cases: files that pass and damaged ones, short ones and those at a limit of length or of counts, with buffers around the
+//! length that is needed, positions of opens, beside them and behind the last token, and elements to be written.
 use crate::case::Case;
 use crate::damage;
 use crate::elements::elements;
@@ -7,12 +7,14 @@ use crate::grammars::{Made, Size, StepNames};
 use crate::heads;
 use crate::histories::{derived, marks, matched, nested, rename_one, repeated};
 use crate::names;
+use crate::near_top;
+use crate::numbered;
 use crate::random::Random;
 use crate::writing::{Kind, Writing};
 use frames::{history_file, history_numbers, numbers_file, Rule, Token};
 use gaffmedlar::HISTORY_BYTES_MAX;
 use reference::big::Big;
-use reference::{parse_history, Work};
+use reference::{grammar_check, parse_history, Work};
 
 struct Maker<'a> {
     random: &'a mut Random,
@@ -98,6 +100,9 @@ impl Maker<'_> {
         if self.random.percent(2) {
             let (long, short) = (self.random.below(40), self.random.below(12));
             return (self.random.bytes(long), self.random.bytes(short));
+        }
+        if self.random.percent(2) {
+            return self.near_top_files();
         }
         let damage = self.random.below(100);
         let (grammar_damaged, history_damaged) = (damage < 22, (15..42).contains(&damage));
@@ -187,6 +192,15 @@ impl Maker<'_> {
             _ => {}
         }
         (numbers_file(&made.numbers()), history)
+    }
+
+    /// Files with counts of readings around 2^64.
+    fn near_top_files(&mut self) -> (Vec<u8>, Vec<u8>) {
+        let (made, mut tokens) = near_top::frame(self.random);
+        if self.random.percent(5) {
+            rename_one(self.random, &mut tokens);
+        }
+        (numbers_file(&made.numbers()), history_file(&tokens))
     }
 
     /// A length for a buffer of which `needed` elements are written.
@@ -325,6 +339,9 @@ impl Maker<'_> {
         let position = self.position(&history);
         let write_grammar = self.writing(&grammar, Kind::Grammar);
         let write_history = self.writing(&history, Kind::History);
+        let rules = grammar_check(&grammar).map_or(3, |(_, rules)| rules.into());
+        let reading = self.any_bytes(needed);
+        let numbered = numbered::asked(self.random, &work, rules, &next, reading);
         Case {
             grammar,
             history,
@@ -336,6 +353,7 @@ impl Maker<'_> {
             answers,
             buffer,
             position,
+            numbered,
             write_grammar,
             write_history,
         }

@@ -1,6 +1,8 @@
-//! What a run has met: every answer of every service, every kind of start, names of every width, and every kind of set.
+//! What a run has met: every answer of every service, every kind of start, names of every width, every kind of set, and counts of
+//! every size.
 use crate::case::{self, Case, Outcome, Service};
 use crate::kept::{kept, Kept};
+use crate::seen_counts::SeenCounts;
 use frames::{history_numbers, numbers_file, Token};
 use reference::{parse_grammar, parse_history, Work};
 use std::collections::HashSet;
@@ -19,6 +21,7 @@ pub struct Seen {
     names: [[u64; 2]; NAMES.len()],
     /// The sets of these cases.
     sets: [u64; SETS.len()],
+    counts: SeenCounts,
 }
 
 /// What a grammar can say of its start.
@@ -57,12 +60,14 @@ impl Seen {
             starts: [[0; 2]; STARTS.len()],
             names: [[0; 2]; NAMES.len()],
             sets: [0; SETS.len()],
+            counts: SeenCounts::default(),
         }
     }
 
     pub fn outcome(&mut self, case: &Case, service: Service, outcome: &Outcome) {
         self.calls += 1;
         self.answers[service as usize][usize::from(outcome.answer)] += 1;
+        self.counts.outcome(service, outcome);
         if service == Service::RunCalls && outcome.answer == 0 {
             for &answer in &outcome.lent[0][..case.calls.len()] {
                 self.listed[usize::from(answer)] += 1;
@@ -115,6 +120,10 @@ impl Seen {
             Service::NextReading => both.chain([15, 16, 101]).collect(),
             Service::Sets | Service::StopMarks | Service::RunCalls => both.chain([15]).collect(),
             Service::ChoiceCount | Service::SeveralReadings => both.collect(),
+            Service::ReadingCount | Service::CountsAddUp => both.chain([102]).collect(),
+            Service::ReadingCountAt => both.chain([18, 102]).collect(),
+            Service::ReadingAt => both.chain([15, 18]).collect(),
+            Service::NextOfNumbered => both.chain([18, 101]).collect(),
             Service::StepBytes => [0].into_iter().chain(history).chain([17]).collect(),
             // elements have no form, so 2 is never given
             Service::WriteGrammar => [0, 1].into_iter().chain(3..=9).chain([15]).collect(),
@@ -130,6 +139,7 @@ impl Seen {
             & Seen::report_kinds("starts", &STARTS, &self.starts)
             & Seen::report_kinds("names", &NAMES, &self.names)
             & self.report_sets()
+            & self.counts.report()
     }
 
     fn report_sets(&self) -> bool {

@@ -3,8 +3,9 @@ use crate::case::{compare, Case};
 use crate::faults::Fault;
 use crate::heads;
 use crate::make::tokens_without;
+use crate::numbered::Numbered;
 use crate::writing::{Kind, Writing};
-use frames::{grammar_file, history_file, Token};
+use frames::{grammar_file, history_file, numbers_file, Token};
 use reference::big::Big;
 use reference::files::partners;
 use reference::{parse_grammar, parse_history, Grammar, Work};
@@ -26,6 +27,7 @@ fn weight(case: &Case) -> u128 {
         &case.buffer,
         &case.write_grammar.buffer,
         &case.write_history.buffer,
+        &case.numbered.reading,
     ];
     let elements = parts
         .iter()
@@ -35,17 +37,23 @@ fn weight(case: &Case) -> u128 {
         + case.words.iter().filter(|&&word| word != 0).count();
     let written = [&case.write_grammar.elements, &case.write_history.elements].into_iter();
     let numbers = written.map(|all| all.iter().map(|&n| 1000 + u128::from(n)).sum::<u128>());
-    elements as u128 + case.position as u128 + numbers.sum::<u128>()
+    let Numbered {
+        k, position, rule, ..
+    } = case.numbered;
+    let asked = u128::from(k) + position as u128 + rule as u128;
+    elements as u128 + case.position as u128 + asked + numbers.sum::<u128>()
 }
 
 /// A way to make a case smaller: puts what it makes of one at the end of a list.
 type Way = fn(&Case, &mut Vec<Case>);
 
-const WAYS: [Way; 12] = [
+const WAYS: [Way; 15] = [
     parts_dropped,
+    parts_cleared,
     rules_dropped,
     start_dropped,
     tokens_dropped,
+    history_unnamed,
     |case, all| in_both(case, all, elements_dropped),
     |case, all| in_both(case, all, elements_uncounted),
     |case, all| in_both(case, all, elements_unstarted),
@@ -53,6 +61,7 @@ const WAYS: [Way; 12] = [
     bytes_lowered,
     names_lowered,
     position_lowered,
+    asked_lowered,
     |case, all| in_both(case, all, elements_lowered),
 ];
 
@@ -86,17 +95,21 @@ pub fn shrink(case: &Case, fault: Option<Fault>) -> Case {
 }
 
 /// Numbers below this one: 0, the half, and others that come nearer and nearer.
-fn lower(number: u32) -> impl Iterator<Item = u32> {
-    let nearer = (1..32).map(move |k| number >> k);
+fn lower_64(number: u64) -> impl Iterator<Item = u64> {
+    let nearer = (1..64).map(move |k| number >> k);
     let nearer = nearer.take_while(|&less| less > 0);
     let zero = (number > 0).then_some(0);
     zero.into_iter()
         .chain(nearer.map(move |less| number - less))
 }
 
+fn lower(number: u32) -> impl Iterator<Item = u32> {
+    lower_64(number.into()).map(|lower| lower as u32)
+}
+
 /// Buffers that may not matter at all.
 fn parts_dropped(case: &Case, all: &mut Vec<Case>) {
-    for which in 0..9 {
+    for which in 0..10 {
         let mut smaller = case.clone();
         match which {
             0 => smaller.first.clear(),
@@ -107,8 +120,18 @@ fn parts_dropped(case: &Case, all: &mut Vec<Case>) {
             5 => smaller.answers.clear(),
             6 => smaller.buffer.clear(),
             7 => smaller.write_grammar = Writing::default(),
+            8 => smaller.numbered = Numbered::default(),
             _ => smaller.write_history = Writing::default(),
         }
+        all.push(smaller);
+    }
+}
+
+/// Buffers of which the length alone may matter.
+fn parts_cleared(case: &Case, all: &mut Vec<Case>) {
+    for which in 2..FIELDS {
+        let mut smaller = case.clone();
+        field(&mut smaller, which).fill(0);
         all.push(smaller);
     }
 }
@@ -135,6 +158,9 @@ fn rules_dropped(case: &Case, all: &mut Vec<Case>) {
                     *byte -= 1;
                 }
             }
+        }
+        if smaller.numbered.rule > gone {
+            smaller.numbered.rule -= 1;
         }
         with_readings(smaller, all);
     }
@@ -182,9 +208,11 @@ fn tokens_dropped(case: &Case, all: &mut Vec<Case>) {
 fn without(case: &Case, tokens: &[Token], gone: &[usize]) -> Case {
     let mut smaller = case.clone();
     smaller.history = history_file(&tokens_without(tokens, gone));
-    if case.position < tokens.len() {
-        let before = gone.iter().filter(|&&place| place < case.position);
-        smaller.position -= before.count();
+    for position in [&mut smaller.position, &mut smaller.numbered.position] {
+        if *position <= tokens.len() + 1 {
+            let before = gone.iter().filter(|&&place| place < *position);
+            *position -= before.count();
+        }
     }
     for &place in gone.iter().rev() {
         for bytes in [
@@ -192,6 +220,7 @@ fn without(case: &Case, tokens: &[Token], gone: &[usize]) -> Case {
             &mut smaller.next,
             &mut smaller.marks,
             &mut smaller.buffer,
+            &mut smaller.numbered.reading,
         ] {
             if place < bytes.len() {
                 bytes.remove(place);
@@ -204,6 +233,18 @@ fn without(case: &Case, tokens: &[Token], gone: &[usize]) -> Case {
         }
     }
     smaller
+}
+
+/// A history with the name 0 for every token, whether it passes or not.
+fn history_unnamed(case: &Case, all: &mut Vec<Case>) {
+    let mut numbers = gaffmedlar::numbers(&case.history);
+    for number in numbers.iter_mut().skip(1) {
+        *number %= 4;
+    }
+    all.push(Case {
+        history: numbers_file(&numbers),
+        ..case.clone()
+    });
 }
 
 /// In the files that pass: a lower name for a token wherever it stands, and all names without one of their bits.
@@ -247,12 +288,16 @@ fn with_names(case: &Case, name: impl Fn(Token) -> u32) -> Case {
     renamed
 }
 
-/// The case, and the same with one of the first readings of its files in the buffers that hold one.
+/// The case, and the same with one of the first readings of its files in the buffers that hold one, and asked for by its number.
 fn with_readings(case: Case, all: &mut Vec<Case>) {
     let work = Work::new(&case.grammar, &case.history);
     let total = work.total();
     all.push(case.clone());
-    for place in (0..3).map(Big::new).take_while(|place| *place < total) {
+    for (k, place) in (0..3)
+        .map(Big::new)
+        .enumerate()
+        .take_while(|(_, place)| *place < total)
+    {
         let reading = work.reading_at(&place).expect("both files pass");
         let mut held = case.clone();
         for bytes in [&mut held.next, &mut held.buffer] {
@@ -260,9 +305,13 @@ fn with_readings(case: Case, all: &mut Vec<Case>) {
                 bytes.clone_from(&reading);
             }
         }
+        held.numbered.k = k as u64 + 1;
         all.push(held);
     }
 }
+
+/// The files and the buffers of bytes.
+const FIELDS: usize = 11;
 
 fn field(case: &mut Case, which: usize) -> &mut Vec<u8> {
     match which {
@@ -275,13 +324,14 @@ fn field(case: &mut Case, which: usize) -> &mut Vec<u8> {
         6 => &mut case.answers,
         7 => &mut case.buffer,
         8 => &mut case.write_grammar.buffer,
+        9 => &mut case.numbered.reading,
         _ => &mut case.write_history.buffer,
     }
 }
 
 fn bytes_dropped(case: &Case, all: &mut Vec<Case>) {
     let mut work = case.clone();
-    for which in 0..10 {
+    for which in 0..FIELDS {
         let length = field(&mut work, which).len();
         let mut piece = length;
         while piece > 0 {
@@ -306,7 +356,7 @@ fn bytes_dropped(case: &Case, all: &mut Vec<Case>) {
 
 fn bytes_lowered(case: &Case, all: &mut Vec<Case>) {
     let mut work = case.clone();
-    for which in 0..10 {
+    for which in 0..FIELDS {
         for place in 0..field(&mut work, which).len() {
             let byte = field(&mut work, which)[place];
             for lower in lower(byte.into()) {
@@ -333,6 +383,31 @@ fn position_lowered(case: &Case, all: &mut Vec<Case>) {
             smaller.position = lower;
             all.push(smaller);
         }
+    }
+}
+
+/// A lower k, position or rule; k also the count of readings and one more.
+fn asked_lowered(case: &Case, all: &mut Vec<Case>) {
+    let Numbered {
+        k, position, rule, ..
+    } = case.numbered;
+    let mut add = |change: &dyn Fn(&mut Numbered)| {
+        let mut smaller = case.clone();
+        change(&mut smaller.numbered);
+        all.push(smaller);
+    };
+    let count = Work::new(&case.grammar, &case.history).total().small();
+    let around = count
+        .into_iter()
+        .flat_map(|count| [count, count.saturating_add(1)]);
+    for lower in around.filter(|&lower| lower < k).chain(lower_64(k)) {
+        add(&|asked| asked.k = lower);
+    }
+    for lower in lower_64(position as u64) {
+        add(&|asked| asked.position = lower as usize);
+    }
+    for lower in lower_64(rule as u64) {
+        add(&|asked| asked.rule = lower as usize);
     }
 }
 

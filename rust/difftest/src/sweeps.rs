@@ -1,12 +1,13 @@
 //! What is tried whole before the random cases: short files, every number of three bytes and every name, beginnings of grammars,
-//! stages in a set, values of elements, lengths of buffers.
+//! stages in a set, values of elements, counts at every position, lengths of buffers.
 use crate::case::{self, compare, Case, Difference, Service};
 use crate::heads;
 use crate::make;
+use crate::numbered::Numbered;
 use crate::random::Random;
 use crate::rows;
 use crate::writing::{Kind, Writing};
-use frames::{grammar_file, history_file, Rule, Token};
+use frames::{counts, grammar_file, history_file, Rule, Token};
 use gaffmedlar::raw;
 use reference::Work;
 
@@ -26,26 +27,32 @@ pub fn all(seed: u64) -> Option<(Case, Difference)> {
         .or_else(all_heads)
         .or_else(all_rows)
         .or_else(all_elements)
+        .or_else(all_counts)
         .or_else(|| all_lengths(seed))
 }
 
 /// What that was.
 pub fn in_words() -> String {
     format!(
-        "all files of three bytes at most, all tokens and names of three, {} names told apart, {} beginnings of grammars, {} rows of stages in a set, {} elements at all places, {LENGTHS} files at all lengths of buffers and all positions",
+        "all files of three bytes at most, all tokens and names of three, {} names told apart, {} beginnings of grammars, {} rows of stages in a set, {} elements at all places, {} files with counts up to the largest and above at all positions, {LENGTHS} files at all lengths of buffers and all positions",
         NAMES,
         heads::all().count(),
         rows::all().count(),
-        element_values().count()
+        element_values().count(),
+        counts::examples().len()
     )
 }
 
 /// Some services alone.
 fn compare_some(case: &Case, services: &[Service]) -> Option<Difference> {
-    let work = Work::new(&case.grammar, &case.history);
+    compare_with(case, &Work::new(&case.grammar, &case.history), services)
+}
+
+/// The same, where the files of the case were read before.
+fn compare_with(case: &Case, work: &Work, services: &[Service]) -> Option<Difference> {
     services.iter().find_map(|&service| {
         let library = case::library(case, service);
-        let reference = case::due(case, &work, service);
+        let reference = case::due(case, work, service);
         (library != reference).then_some(Difference {
             service,
             library,
@@ -255,6 +262,48 @@ fn all_elements() -> Option<(Case, Difference)> {
     })
 }
 
+/// Around every power of two and at both ends.
+fn many_numbers() -> impl Iterator<Item = u64> {
+    let powers = (1..64).map(|exponent| 1 << exponent);
+    let around = powers.flat_map(|power: u64| [power - 1, power, power + 1]);
+    around.chain([0, 1, u64::MAX - 2, u64::MAX - 1, u64::MAX])
+}
+
+/// The files with counts up to the largest and above: every position and rule, some behind the last ones, and many k.
+fn all_counts() -> Option<(Case, Difference)> {
+    counts::examples().into_iter().find_map(counts_of)
+}
+
+fn counts_of(example: counts::Example) -> Option<(Case, Difference)> {
+    let work = Work::new(&example.grammar, &example.history);
+    let positions = work.positions().expect("files that pass");
+    let rules: usize = raw::grammar_check(&example.grammar).rules.into();
+    let mut case = Case {
+        grammar: example.grammar,
+        history: example.history,
+        numbered: Numbered {
+            reading: vec![77; positions + 1],
+            ..Numbered::default()
+        },
+        ..Case::default()
+    };
+    for k in many_numbers().chain(example.total) {
+        case.numbered.k = k;
+        let services = [Service::ReadingAt, Service::NextOfNumbered];
+        if let Some(difference) = compare_with(&case, &work, &services) {
+            return Some((case, difference));
+        }
+    }
+    for (position, rule) in (0..positions + 2).flat_map(|p| (0..rules + 2).map(move |r| (p, r))) {
+        (case.numbered.position, case.numbered.rule) = (position, rule);
+        if let Some(difference) = compare_with(&case, &work, &[Service::ReadingCountAt]) {
+            return Some((case, difference));
+        }
+    }
+    let difference = compare_with(&case, &work, &[Service::ReadingCount])?;
+    Some((case, difference))
+}
+
 /// Every length of every buffer from nothing to a few elements more than needed, and every position from 0 to some behind
 /// the last one, for some files.
 fn all_lengths(seed: u64) -> Option<(Case, Difference)> {
@@ -274,6 +323,7 @@ fn all_lengths(seed: u64) -> Option<(Case, Difference)> {
                 &mut case.next,
                 &mut case.marks,
                 &mut case.buffer,
+                &mut case.numbered.reading,
             ];
             for bytes in bytes {
                 bytes.resize(length.min(positions + 5), length as u8);
@@ -283,6 +333,9 @@ fn all_lengths(seed: u64) -> Option<(Case, Difference)> {
             case.write_grammar.buffer.resize(length, 170);
             case.write_history.buffer.resize(length, 170);
             case.position = length;
+            case.numbered.position = length;
+            case.numbered.rule = length / 2;
+            case.numbered.k = length as u64 / 4;
             case.answers.resize(length.min(case.calls.len() + 5), 77);
             if let Some(difference) = compare(&case, None, |_, _| {}) {
                 return Some((case, difference));

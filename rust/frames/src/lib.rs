@@ -1,6 +1,7 @@
 //! Writes the two files: for the comparison, the times and the tests. Nothing here reads one.
 
 pub mod choices;
+pub mod counts;
 pub mod wide;
 
 /// A grammar, a history, and what is due for them: all readings in order, the stop marks, and the positions that are choices.

@@ -11,14 +11,20 @@
 //! Names are numbers up to 65,535. A token's number is 4 × name + kind, so it has 18 bits, and each number of a file takes one to
 //! three bytes.
 //!
-//! A history of n tokens has positions 0 to n. A reading has one rule number for each of them, so it is n + 1 bytes.
+//! A history of n tokens has positions 0 to n. A reading has one rule number for each of them, so it is n + 1 bytes. Readings
+//! can be many: [`reading_count`] tells how many, and [`reading_at`] gives one by its number, without those before it.
 
+mod counts;
 mod numbers;
 #[cfg(test)]
 mod tests;
 mod wire;
 mod writers;
 
+pub use counts::{
+    numbered_readings, reading_at, reading_at_into, reading_count, reading_count_at,
+    NumberedReadings, ReadingCount,
+};
 pub use numbers::numbers;
 pub use writers::{write_grammar, write_grammar_into, write_history, write_history_into};
 
@@ -34,7 +40,7 @@ const CALL: &str = "the caller";
 /// [`Refusal`] from its table: variant, number, whose, words. The table is that of docs/refusals.tsv.
 macro_rules! refusals {
     ($($variant:ident = $number:literal, $whose:ident, $words:literal;)*) => {
-        /// Why a file, a buffer or a position was turned down. [`Refusal::number`] is document 01's number, and the text
+        /// Why a file, a buffer, a position or a reading's number was turned down. [`Refusal::number`] is document 01's number, and the text
         /// of the error says the same in words.
         #[derive(Clone, Copy, Debug, PartialEq, Eq, Hash, PartialOrd, Ord)]
         #[repr(u8)]
@@ -85,10 +91,11 @@ refusals! {
     BufferShort = 15, CALL, "a lent buffer shorter than its service writes or reads";
     NotAReading = 16, CALL, "the first n + 1 bytes handed to \"next reading\" are no reading of this history";
     NotAnOpen = 17, CALL, "the position is not that of an open";
+    OutOfRange = 18, CALL, "k is 0 or above the count of readings, or the position is above n";
 }
 
 impl Refusal {
-    /// Document 01's number, 1 to 17.
+    /// Document 01's number, 1 to 18.
     pub fn number(self) -> u8 {
         self as u8
     }
@@ -118,7 +125,7 @@ pub enum File {
 #[derive(Clone, Copy, Debug, PartialEq, Eq, Hash)]
 pub struct Refused {
     pub refusal: Refusal,
-    /// None where it is neither file but the call: 15 to 17.
+    /// None where it is neither file but the call: 15 to 18.
     pub file: Option<File>,
 }
 
@@ -201,7 +208,9 @@ fn refusal(number: u8) -> Refusal {
 fn refused(number: u8, grammar: &[u8]) -> Refused {
     let refusal = refusal(number);
     let file = match refusal {
-        Refusal::BufferShort | Refusal::NotAReading | Refusal::NotAnOpen => None,
+        Refusal::BufferShort | Refusal::NotAReading | Refusal::NotAnOpen | Refusal::OutOfRange => {
+            None
+        }
         _ if wire::grammar_check(grammar).answer == 0 => Some(File::History),
         _ => Some(File::Grammar),
     };

@@ -4,15 +4,16 @@ use choices::choices_of;
 use frames::{g_from, wide, G, G_EXCHANGED};
 
 mod choices;
+mod counts;
 
 #[test]
 fn numbers_and_words() {
-    assert_eq!(REFUSALS.len(), 17);
+    assert_eq!(REFUSALS.len(), 18);
     for (place, &refusal) in REFUSALS.iter().enumerate() {
         assert_eq!(usize::from(refusal.number()), place + 1);
         assert_eq!(Refusal::of_number(refusal.number()), Some(refusal));
     }
-    for number in [0, 18, 100, 101, 255] {
+    for number in [0, 19, 100, 101, 102, 255] {
         assert_eq!(Refusal::of_number(number), None);
     }
     assert_eq!(

@@ -25,6 +25,14 @@ pub struct CountReply {
     pub count: u32,
 }
 
+/// 0 and the number of readings, 102 and 0 where they are more than 2^64 - 1, or the number of the refusal and 0.
+#[repr(C)]
+#[derive(Clone, Copy, Debug, PartialEq, Eq)]
+pub struct ReadingsReply {
+    pub answer: u8,
+    pub count: u64,
+}
+
 /// Where a part of a file starts and how many bytes it has, or zeros where it is refused.
 #[repr(C)]
 #[derive(Clone, Copy, Debug, PartialEq, Eq)]
@@ -42,7 +50,7 @@ pub struct WriteReply {
 }
 
 mod linked {
-    use super::{CountReply, GrammarReply, HistoryReply, PartReply, WriteReply};
+    use super::{CountReply, GrammarReply, HistoryReply, PartReply, ReadingsReply, WriteReply};
 
     extern "C" {
         pub fn gaffmedlar_grammar_check(grammar: *const u8, grammar_len: usize) -> GrammarReply;
@@ -60,6 +68,29 @@ mod linked {
             grammar_len: usize,
             history: *const u8,
             history_len: usize,
+            reading: *mut u8,
+            reading_len: usize,
+        ) -> u8;
+        pub fn gaffmedlar_reading_count(
+            grammar: *const u8,
+            grammar_len: usize,
+            history: *const u8,
+            history_len: usize,
+        ) -> ReadingsReply;
+        pub fn gaffmedlar_reading_count_at(
+            grammar: *const u8,
+            grammar_len: usize,
+            history: *const u8,
+            history_len: usize,
+            position: usize,
+            rule: usize,
+        ) -> ReadingsReply;
+        pub fn gaffmedlar_reading_at(
+            grammar: *const u8,
+            grammar_len: usize,
+            history: *const u8,
+            history_len: usize,
+            k: u64,
             reading: *mut u8,
             reading_len: usize,
         ) -> u8;
@@ -153,6 +184,50 @@ pub fn next_reading(grammar: &[u8], history: &[u8], reading: &mut [u8]) -> u8 {
             grammar.len(),
             history.as_ptr(),
             history.len(),
+            reading.as_mut_ptr(),
+            reading.len(),
+        )
+    }
+}
+
+pub fn reading_count(grammar: &[u8], history: &[u8]) -> ReadingsReply {
+    unsafe {
+        linked::gaffmedlar_reading_count(
+            grammar.as_ptr(),
+            grammar.len(),
+            history.as_ptr(),
+            history.len(),
+        )
+    }
+}
+
+pub fn reading_count_at(
+    grammar: &[u8],
+    history: &[u8],
+    position: usize,
+    rule: usize,
+) -> ReadingsReply {
+    unsafe {
+        linked::gaffmedlar_reading_count_at(
+            grammar.as_ptr(),
+            grammar.len(),
+            history.as_ptr(),
+            history.len(),
+            position,
+            rule,
+        )
+    }
+}
+
+/// Readings are counted from 1.
+pub fn reading_at(grammar: &[u8], history: &[u8], k: u64, reading: &mut [u8]) -> u8 {
+    unsafe {
+        linked::gaffmedlar_reading_at(
+            grammar.as_ptr(),
+            grammar.len(),
+            history.as_ptr(),
+            history.len(),
+            k,
             reading.as_mut_ptr(),
             reading.len(),
         )

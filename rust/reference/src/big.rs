@@ -98,7 +98,7 @@ impl Big {
         (Big::trimmed(quotient), rest)
     }
 
-    fn of_u64(n: u64) -> Big {
+    pub fn of_u64(n: u64) -> Big {
         Big::trimmed(vec![n as u32, (n >> 32) as u32])
     }
 }

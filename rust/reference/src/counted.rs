@@ -15,7 +15,7 @@ pub struct Counter {
 }
 
 /// What a rule leaves to derive: the inside of a step, if it makes one, and what follows on the level.
-enum Parts {
+pub(crate) enum Parts {
     Nothing,
     Level(u16, usize),
     Step {
@@ -49,8 +49,13 @@ impl Counter {
         &self.tokens
     }
 
+    /// The rules of a stage, smaller numbers first.
+    pub(crate) fn rules_of(&self, stage: u16) -> &[u8] {
+        &self.by_stage[usize::from(stage)]
+    }
+
     /// What is left if the rule is used at `start` of a level that ends at `end`; None where it doesn't fit there.
-    fn parts(&self, number: u8, start: usize, end: usize) -> Option<Parts> {
+    pub(crate) fn parts(&self, number: u8, start: usize, end: usize) -> Option<Parts> {
         match self.grammar.rules[usize::from(number)] {
             Rule::Ends { .. } => (start == end).then_some(Parts::Nothing),
             Rule::Marks { mark, then, .. } => (start < end
@@ -77,7 +82,7 @@ impl Counter {
     }
 
     /// How many derivations of the tokens from `start` to the level's `end` there are from `stage`.
-    fn ways(&self, stage: u16, start: usize, end: usize) -> Rc<Big> {
+    pub(crate) fn ways(&self, stage: u16, start: usize, end: usize) -> Rc<Big> {
         if let Some(count) = self.known.borrow().get(&(stage, start)) {
             return count.clone();
         }
@@ -90,7 +95,7 @@ impl Counter {
         sum
     }
 
-    fn ways_by(&self, number: u8, start: usize, end: usize) -> Big {
+    pub(crate) fn ways_by(&self, number: u8, start: usize, end: usize) -> Big {
         match self.parts(number, start, end) {
             None => Big::new(0),
             Some(Parts::Nothing) => Big::new(1),

@@ -2,11 +2,12 @@
 //!
 //! The algorithms are other ones on purpose. A history with few readings is worked through by writing down every
 //! reading ([`listed`]); one with many by counting readings with exact numbers of any size ([`counted`]), where the
-//! successor of a reading is found by its place in the order. Choices are looked for stage by stage, and between readings
-//! ([`choices`]). Stop marks recognise each beginning by itself ([`marks`]). The bytes of one step are found by reading it
-//! whole ([`steps`]). Files are written from elements that are judged as they are, without the reader ([`writers`]). Nothing
-//! here is fast.
+//! successor of a reading is found by its place in the order. Readings with a rule at a position are counted from outside
+//! inward ([`around`]). Choices are looked for stage by stage, and between readings ([`choices`]). Stop marks recognise each
+//! beginning by itself ([`marks`]). The bytes of one step are found by reading it whole ([`steps`]). Files are written from
+//! elements that are judged as they are, without the reader ([`writers`]). Nothing here is fast.
 
+pub mod around;
 pub mod big;
 pub mod choices;
 pub mod counted;
@@ -26,3 +27,5 @@ pub use writers::{write_grammar, write_history};
 pub const NO_READING: u8 = 100;
 /// "no further".
 pub const NO_FURTHER: u8 = 101;
+/// "over": more readings than 2^64 - 1.
+pub const OVER: u8 = 102;

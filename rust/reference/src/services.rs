@@ -1,4 +1,6 @@
 //! The services. Answers are numbers: 0 written or made, 100 "none", 101 "no further", else a refusal.
+mod numbered;
+
 use crate::big::Big;
 use crate::counted::Counter;
 use crate::files::{parse_grammar, parse_history, Grammar};
@@ -185,13 +187,14 @@ impl Work {
     }
 
     /// Whether both ways agree on everything where readings are few, whether there are choices exactly where there is more than
-    /// one reading, and whether all stays as it is where the stages are numbered so that stage 0 starts. A fault here is one of
-    /// the reference.
+    /// one reading, whether counts at a position add up, and whether all stays as it is where the stages are numbered so that
+    /// stage 0 starts. A fault here is one of the reference.
     pub fn agrees_with_itself(&self) -> bool {
         let Ok(served) = &self.0 else { return true };
         let choices = !served.choices().is_empty();
         served.both_ways_agree()
             && self.several_readings() == Ok(choices)
+            && served.counts_agree()
             && served.goes_by_the_start()
     }
 }

@@ -8,7 +8,7 @@ use Rattle.rule_index.specs.Classes.{classAt, classOf}
 use Rattle.rule_index.proofs.Classes.{class-small}
 use Rattle.rule_index.proofs.Walk.{starts, goes-on}
 use Rattle.contexts.specs.Context.{tokenHere}
-use Rattle.count_theory.specs.Tally.{aloneAt}
+use Rattle.count_theory.specs.Allowed.{aloneAt}
 use Rattle.count_rows.specs.Rows.{InRow}
 use Rattle.count_rows.proofs.Row.{Row, row-first, row-passed, row-turn}
 use Rattle.count_rows.proofs.class_row.Statement.{statement}

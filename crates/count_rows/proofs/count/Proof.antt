@@ -8,19 +8,19 @@ use borrow.Author.Needs.{needs}
 use Rattle.count_rows.proofs.count.Statement.{statement}
 use Rattle.count_rows.proofs.count.Tie as tie
 
-rows-of-requires : tie.Need-rows-of-requires
-rows-of-requires c κs = (c .before .before .before .pre, (new-sized, new-clear))
+cast-start : tie.Need-cast-start
+cast-start c = search needs
 
-cast-count-at : tie.Need-cast-count-at
-cast-count-at c = search needs
+rows-of-requires : tie.Need-rows-of-requires
+rows-of-requires c κs = (c .before .before .before .before .pre, (new-sized, new-clear))
 
 count-at-requires : tie.Need-count-at-requires
-count-at-requires c κs = (omega arith, c .before .before .before .before .before .before .before .pre .indexed .ready .start-small)
+count-at-requires c κs = omega (arith, c .before .before .before .before .before .before .before .pre .indexed .ready .start-small)
 
 returns : tie.Need-returns
 returns c =
     let s = c .before .before .before .before .before .before .before .before in
-    c .count-at .ensures ∙ count-whole (grammarIn (s .args .table .now) (s .args .head)) (tokensOf (s .args .tokens .now)) (s .pre .balanced) (s .pre .indexed .ready .start-small) (c .before .before .before .before .rows-of .ensures)
+    c .count-at .ensures ∙ count-whole (grammarIn (s .args .table .now) (s .args .head)) (tokensOf (s .args .tokens .now)) (s .pre .balanced) (s .pre .indexed .ready .start-small) (c .before .before .before .rows-of .ensures)
 
 pub count-spec : {M : Type 1} → statement M
-count-spec = tie.close (tie.spec rows-of-requires cast-count-at count-at-requires returns)
+count-spec = tie.close (tie.spec cast-start rows-of-requires count-at-requires returns)

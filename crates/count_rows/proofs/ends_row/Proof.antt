@@ -4,7 +4,7 @@ use native.Mathlib.Omega.{arith}
 use native.Mathlib.Numerals.{add-one}
 use borrow.Author.Needs.{needs}
 use borrow.Author.Tests.{le-ltb}
-use Rattle.count_theory.specs.Tally.{aloneAt}
+use Rattle.count_theory.specs.Allowed.{aloneAt}
 use Rattle.count_rows.specs.Rows.{InRow}
 use Rattle.count_rows.proofs.Row.{row-none}
 use Rattle.count_rows.proofs.Ends.{endsBelow, ends-next, ends-filled}

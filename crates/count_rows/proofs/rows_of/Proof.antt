@@ -6,7 +6,7 @@ use borrow.Author.Needs.{needs}
 use Rattle.tables.specs.Ready.{rulesOf}
 use Rattle.history_file.specs.believed.HistoryFile.{tokensOf}
 use Rattle.levels.proofs.Levels.{tokens-length}
-use Rattle.count_theory.specs.Tally.{aloneAt}
+use Rattle.count_theory.specs.Allowed.{aloneAt}
 use Rattle.count_rows.proofs.Pass.{Passing, passing-start, place-empty, passing-next}
 use Rattle.count_rows.proofs.rows_of.Statement.{statement}
 use Rattle.count_rows.proofs.rows_of.Tie as tie

@@ -1,7 +1,7 @@
 -- The services' answers as C sees them: one number, or a struct with the number and the counts. 0 says that all went well; a refusal keeps
--- document 01's number, 1 to 17; 100 is "none" and 101 "no further" (`codeOf` of the crate calls). A part of a file is a struct with its place,
--- and its number is a function by itself. A writer's answer is a struct with the number and the length.
--- Clauses: 7.9, 10.5, 11.5 (docs/SPECIFICATION.md)
+-- document 01's number, 1 to 18; 100 is "none" and 101 "no further" (`codeOf` of the crate calls), 102 is "over". A part of a file is a struct
+-- with its place, and its number is a function by itself. A writer's answer is a struct with the number and the length.
+-- Clauses: 7.9, 10.5, 11.5, 12.5 (docs/SPECIFICATION.md)
 use Prim.Native.Nat.{ℕ}
 use mathlib.Core.List.{List}
 use mathlib.Core.Option.{Option, none, some}
@@ -9,10 +9,12 @@ use lib.ListN.{length, getD}
 use Rattle.files.specs.believed.Checks.{Verdict, accepted, refused}
 use Rattle.service.specs.believed.Given.{Given, given}
 use Rattle.service.specs.believed.Given as service
+use Rattle.reading_counts.specs.believed.Numbered.{Told, exact, over}
 use Rattle.step_bytes.specs.believed.StepBytes.{StepPart, bytesIn, startIn}
 use Rattle.replies.specs.declared.GrammarReply.{GrammarReply}
 use Rattle.replies.specs.declared.HistoryReply.{HistoryReply}
 use Rattle.replies.specs.declared.CountReply.{CountReply}
+use Rattle.replies.specs.declared.ReadingsReply.{ReadingsReply}
 use Rattle.replies.specs.declared.PartReply.{PartReply}
 use Rattle.replies.specs.declared.WriteReply.{WriteReply}
 
@@ -28,6 +30,12 @@ historyWire (refused k) = record { answer = k; tokens = 0 }
 abbrev pub countWire : Given ℕ → CountReply
 countWire (given n) = record { answer = 0; count = n }
 countWire (service.refused k) = record { answer = k; count = 0 }
+
+-- 0 with the count; 102, or the number of the refusal, with 0
+abbrev pub readingsWire : Given Told → ReadingsReply
+readingsWire (given (exact n)) = record { answer = 0; count = n }
+readingsWire (given over) = record { answer = 102; count = 0 }
+readingsWire (service.refused k) = record { answer = k; count = 0 }
 
 -- 0, or the number of the refusal
 abbrev pub outcomeCode : Given Unit → ℕ

@@ -1,16 +1,9 @@
--- How many lists pass a test, and tests of lists position by position.
--- Law: tally-runs (count_theory/proofs/Counting.antt)
--- Law: with-rule, with-any, tallies-add-up (count_theory/proofs/Places.antt)
-use Prim.Native.Nat.{ℕ, zero, suc, _+_}
+-- Tests of lists of rule numbers, position by position.
+-- Law: with-rule, with-any (count_theory/proofs/Places.antt)
+use Prim.Native.Nat.{ℕ, suc}
 use mathlib.Core.Bool.{Bool, true, _&&_, _||_, not}
 use mathlib.Core.List.{List, [], _∷_}
 use lib.Dec.{eqb}
-use Rattle.sets_theory.specs.believed.Sets.{one}
-
--- how many of the lists pass
-abbrev pub tally : (List ℕ → Bool) → List (List ℕ) → ℕ
-tally f [] = 0
-tally f (e ∷ l) = one (f e) + tally f l
 
 -- may rule number r stand at position p
 abbrev pub Allowed : Type 0
@@ -28,8 +21,3 @@ aloneAt p r q n = not (eqb q p) || eqb n r
 -- no history has position 1,026: any rule is allowed everywhere
 abbrev pub anywhere : Allowed
 anywhere = aloneAt 1026 0
-
--- f 0 + .. + f (n - 1)
-abbrev pub sumBelow : ℕ → (ℕ → ℕ) → ℕ
-sumBelow zero f = 0
-sumBelow (suc n) f = sumBelow n f + f n
