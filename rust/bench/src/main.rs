@@ -8,7 +8,7 @@
 //! built with another archive (GAFFMEDLAR_LIB_DIR), or, where that archive lacks a function, as it was when the archive was made:
 //! its library takes turns with the others, but for files with names above 63, which an older one refuses, and for counts of readings
 //! and reading k, which an older one lacks. It is asked for services by their places, so it answers for what then stood in the place of
-//! one.
+//! one; a place that it doesn't have it isn't asked for.
 
 mod clock;
 mod counted;
@@ -38,6 +38,7 @@ Prints a table of times, and writes bench.csv and bench.svg into target/bench. I
   --out DIR        writes into DIR
   --before BENCH   times another library too: that of BENCH, this program built with another archive or an older
                    one, on all files but those with wide names, for all services but counts of readings and reading k
+  --places         tells the places of the services that this bench has: what --before asks first
   --answer         makes the rounds that another bench asks for on standard input: what --before calls";
 
 struct Options {
@@ -49,6 +50,7 @@ struct Options {
 enum Task {
     Usage,
     Measure(Options),
+    Places,
     Answer,
 }
 
@@ -69,6 +71,7 @@ fn task() -> Result<Task, String> {
                 let program = words.next().ok_or("--before needs a program")?;
                 options.before = Some(program.into());
             }
+            Some("--places") => return Ok(Task::Places),
             Some("--answer") => return Ok(Task::Answer),
             Some("-h" | "--help") => return Ok(Task::Usage),
             _ => return Err(format!("{} is no option\n{USAGE}", word.to_string_lossy())),
@@ -143,6 +146,10 @@ fn main() -> ExitCode {
             Ok(())
         }
         Ok(Task::Measure(options)) => measure(&options),
+        Ok(Task::Places) => {
+            other::tell();
+            Ok(())
+        }
         Ok(Task::Answer) => other::answer(),
         Err(text) => {
             eprintln!("{text}");

@@ -153,7 +153,7 @@ fn print(row: &Row) {
         None => ("-".into(), "-".into()),
     };
     println!(
-        "{:26} {:>9} {:18} {before:>10} {proved:10.2} {scan:10.2} {index:10.2} {faster:>7} {:7.2}",
+        "{:26} {:>9} {:21} {before:>10} {proved:10.2} {scan:10.2} {index:10.2} {faster:>7} {:7.2}",
         row.files,
         row.histories,
         row.service,
@@ -163,7 +163,7 @@ fn print(row: &Row) {
 
 fn print_heads() {
     println!(
-        "{:26} {:>9} {:18} {:>10} {:>10} {:>10} {:>10} {:>7} {:>7}",
+        "{:26} {:>9} {:21} {:>10} {:>10} {:>10} {:>10} {:>7} {:>7}",
         "files",
         "histories",
         "service",
@@ -189,9 +189,9 @@ pub fn run(rounds: Rounds, other: &mut Option<Other>) -> Result<Vec<Row>, String
             let calls = Calls::of(service, workload);
             let question = Question::of(&all, place, number, rounds.least);
             let (times, before) = timed(calls, rounds, || {
-                let other = other
-                    .as_mut()
-                    .filter(|_| workload.for_older() && service.for_older());
+                let other = other.as_mut().filter(|other| {
+                    workload.for_older() && service.for_older() && other.has(number)
+                });
                 other.map(|other| other.round(&question)).transpose()
             })?;
             let row = Row {

@@ -13,11 +13,17 @@ pub struct Other {
     questions: ChildStdin,
     answers: BufReader<ChildStdout>,
     name: String,
+    /// The places of its services, where it tells them.
+    places: Option<Vec<usize>>,
 }
+
+/// So many services had a bench at most that doesn't tell their places.
+const UNTOLD: usize = 14;
 
 impl Other {
     pub fn start(program: &Path) -> Result<Other, String> {
         let name = program.display().to_string();
+        let places = told(program).map_err(|error| format!("{name}: {error}"))?;
         let child = Command::new(program)
             .arg("--answer")
             .stdin(Stdio::piped())
@@ -31,7 +37,16 @@ impl Other {
             questions,
             answers: BufReader::new(answers),
             name,
+            places,
         })
+    }
+
+    /// Whether it can be asked for the service of this place.
+    pub fn has(&self, place: usize) -> bool {
+        match &self.places {
+            Some(places) => places.contains(&place),
+            None => place < UNTOLD,
+        }
     }
 
     /// Its times of one round, by piece.
@@ -52,6 +67,23 @@ impl Other {
             .collect();
         times.ok_or(format!("{} does not answer as a bench does", self.name))
     }
+}
+
+/// The places of a bench's services: None from one that is older than the question, which takes it for a wrong word.
+fn told(program: &Path) -> std::io::Result<Option<Vec<usize>>> {
+    let output = Command::new(program).arg("--places").output()?;
+    let text = String::from_utf8_lossy(&output.stdout);
+    let places: Option<Vec<usize>> = text
+        .split_whitespace()
+        .map(|place| place.parse().ok())
+        .collect();
+    Ok(places.filter(|places| output.status.success() && !places.is_empty()))
+}
+
+/// The other end of that.
+pub fn tell() {
+    let places: Vec<String> = (0..SERVICES.len()).map(|place| place.to_string()).collect();
+    println!("{}", places.join(" "));
 }
 
 impl Drop for Other {

@@ -22,10 +22,12 @@ pub enum Service {
     ReadingFirst,
     ReadingMiddle,
     ReadingLast,
+    /// Both calls on the same history, one behind the other.
+    SetsAndChoiceCount,
 }
 
 /// The older ones first, so that their places stay.
-pub const SERVICES: [(Service, &str); 14] = [
+pub const SERVICES: [(Service, &str); 15] = [
     (Service::GrammarCheck, "grammar check"),
     (Service::HistoryCheck, "history check"),
     (Service::FirstReading, "first reading"),
@@ -40,6 +42,7 @@ pub const SERVICES: [(Service, &str); 14] = [
     (Service::ReadingFirst, "reading 1"),
     (Service::ReadingMiddle, "reading k: middle"),
     (Service::ReadingLast, "reading k: last"),
+    (Service::SetsAndChoiceCount, "sets and choice count"),
 ];
 
 impl Service {
@@ -174,6 +177,10 @@ fn library(service: Service, grammar: &[u8], history: &History, to: &mut Buffers
         Service::ReadingFirst | Service::ReadingMiddle | Service::ReadingLast => {
             raw::reading_at(grammar, file, history.number(service), &mut to.bytes).into()
         }
+        Service::SetsAndChoiceCount => {
+            to.answers[0] = raw::sets(grammar, file, &mut to.words);
+            raw::choice_count(grammar, file).count
+        }
     }
 }
 
@@ -217,6 +224,10 @@ fn in_rust<I: Index>(service: Service, grammar: &[u8], history: &History, to: &m
         Service::ReadingFirst | Service::ReadingMiddle | Service::ReadingLast => {
             let k = history.number(service);
             counted::reading_at::<I>(grammar, file, k, &mut to.bytes).into()
+        }
+        Service::SetsAndChoiceCount => {
+            to.answers[0] = plain::sets::<I>(grammar, file, &mut to.words);
+            plain::choice_count::<I>(grammar, file).unwrap_or(0)
         }
     }
 }
