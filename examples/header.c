@@ -1,7 +1,7 @@
 /* Checks what gaffmedlar.h does by itself: NULL for what has length 0, the words of the answers, the part of a file as a
  * struct, on the examples of one step's bytes, and the reply of a writer, on the examples of written files. Then the services
- * on grammars that say their start, and on names of up to three bytes; the choices, and how many readings there are and the
- * k-th of them, on examples.
+ * on grammars that say their start, and on names of up to three bytes; the choices, the sets with the count of choices in one
+ * call, and how many readings there are and the k-th of them, on examples.
  *
  * Build, in the repository's root:
  *     tools/build library
@@ -225,12 +225,15 @@ static void due_start(const struct start_due *is)
     uint32_t words[16] = {9};
     struct gaffmedlar_grammar counts = gaffmedlar_grammar_check(is->grammar, is->grammar_len);
     struct gaffmedlar_count choices = gaffmedlar_choice_count(is->grammar, is->grammar_len, history, sizeof history);
+    struct gaffmedlar_count sets = gaffmedlar_sets(is->grammar, is->grammar_len, history, sizeof history, words, 16);
 
     due(is->what, counts.answer, GAFFMEDLAR_OK);
     due_count(is->what, counts.stages, 3);
     due_count(is->what, counts.rules, 7);
     due(is->what, choices.answer, GAFFMEDLAR_OK);
     due_count(is->what, choices.count, is->choices);
+    due(is->what, sets.answer, GAFFMEDLAR_OK);
+    due_count(is->what, sets.count, is->choices);
     due(is->what, gaffmedlar_first_reading(is->grammar, is->grammar_len, history, sizeof history, first, 4), is->first_answer);
     memcpy(next, first, sizeof next);
     due(is->what, gaffmedlar_next_reading(is->grammar, is->grammar_len, history, sizeof history, next, 4), is->next_answer);
@@ -240,7 +243,6 @@ static void due_start(const struct start_due *is)
     due(is->what, answers[0], is->first_answer);
     due(is->what, answers[1], is->next_answer);
     due(is->what, gaffmedlar_stop_marks(is->grammar, is->grammar_len, history, sizeof history, marks, 4), GAFFMEDLAR_OK);
-    due(is->what, gaffmedlar_sets(is->grammar, is->grammar_len, history, sizeof history, words, 16), GAFFMEDLAR_OK);
     for (size_t p = 0; p < 4; p++) {
         due_count(is->what, first[p], is->first[p]);
         due_count(is->what, next[p], is->next[p]);
@@ -322,6 +324,7 @@ static void due_rule(const char *what, const uint8_t *grammar, size_t grammar_le
     const uint8_t call = 1;
     uint32_t words[12] = {9};
     size_t n = gaffmedlar_history_check(history, history_len).tokens;
+    struct gaffmedlar_count sets = gaffmedlar_sets(grammar, grammar_len, history, history_len, words, 12);
     int first = rule == 0 ? GAFFMEDLAR_NO_READING : GAFFMEDLAR_OK;
 
     due(what, gaffmedlar_first_reading(grammar, grammar_len, history, history_len, reading, 3), first);
@@ -335,8 +338,9 @@ static void due_rule(const char *what, const uint8_t *grammar, size_t grammar_le
             GAFFMEDLAR_OK);
         due(what, answer, next);
     }
-    due(what, gaffmedlar_sets(grammar, grammar_len, history, history_len, words, 12), GAFFMEDLAR_OK);
+    due(what, sets.answer, GAFFMEDLAR_OK);
     due_count(what, words[0], rule == 0 ? 0 : 1u << rule);
+    due_count(what, sets.count, 0);
     due_count(what, gaffmedlar_choice_count(grammar, grammar_len, history, history_len).count, 0);
     due(what, gaffmedlar_stop_marks(grammar, grammar_len, history, history_len, marks, 3), GAFFMEDLAR_OK);
     due_count(what, marks[n], rule != 0);
@@ -376,18 +380,22 @@ static void wide_names(void)
     DUE_RULE("close 16,383", closes, close_16383, 0);
 }
 
-/* What is due for two files that pass: so many choices, and a second reading exactly where there is one. */
+/* What is due for two files that pass: so many choices, by either function, and a second reading exactly where there is one. */
 static void due_choices(const char *what, const uint8_t *grammar, size_t grammar_len, const uint8_t *history,
                         size_t history_len, uint32_t choices)
 {
     uint8_t reading[5];
+    uint32_t words[20];
     struct gaffmedlar_count counted = gaffmedlar_choice_count(grammar, grammar_len, history, history_len);
+    struct gaffmedlar_count sets = gaffmedlar_sets(grammar, grammar_len, history, history_len, words, 20);
     int several =
         gaffmedlar_first_reading(grammar, grammar_len, history, history_len, reading, sizeof reading) == GAFFMEDLAR_OK &&
         gaffmedlar_next_reading(grammar, grammar_len, history, history_len, reading, sizeof reading) == GAFFMEDLAR_OK;
 
     due(what, counted.answer, GAFFMEDLAR_OK);
     due_count(what, counted.count, choices);
+    due(what, sets.answer, GAFFMEDLAR_OK);
+    due_count(what, sets.count, choices);
     due_count(what, several, choices > 0);
 }
 
@@ -650,6 +658,120 @@ static void largest_count(void)
     }
 }
 
+/* What is due for a buffer of room words that all hold 7: the first of them written, and the count of choices, with number 0;
+ * or no word, and the count 0, with the number. The choice count by itself is the same, but that it is not refused by 15. */
+static void due_sets(const char *what, struct frame of, size_t room, int number, const uint32_t *words, size_t words_len,
+                     uint32_t choices)
+{
+    static uint32_t memory[BESIDE + GAFFMEDLAR_WORDS_MAX + BESIDE];
+    for (size_t i = 0; i < sizeof memory / sizeof memory[0]; i++)
+        memory[i] = 7;
+    struct gaffmedlar_count sets = gaffmedlar_sets(of.grammar, of.grammar_len, of.history, of.history_len,
+                                                   room > 0 ? memory + BESIDE : NULL, room);
+    struct gaffmedlar_count counted = gaffmedlar_choice_count(of.grammar, of.grammar_len, of.history, of.history_len);
+
+    due(what, sets.answer, number);
+    due_count(what, sets.count, choices);
+    if (number != GAFFMEDLAR_REFUSED_BUFFER_SHORT) {
+        due(what, counted.answer, number);
+        due_count(what, counted.count, choices);
+    }
+    for (size_t i = 0; i < sizeof memory / sizeof memory[0]; i++) {
+        uint32_t due_word = i >= BESIDE && i < BESIDE + words_len ? words[i - BESIDE] : 7;
+        if (memory[i] != due_word) {
+            printf("%s: word %td of the buffer is %u, and %u is due\n", what, (ptrdiff_t)i - BESIDE, (unsigned)memory[i],
+                   (unsigned)due_word);
+            faults++;
+        }
+    }
+}
+
+static void refused_sets(const char *what, struct frame of, size_t room, int number)
+{
+    due_sets(what, of, room, number, NULL, 0, 0);
+}
+
+/* Buffers of each length up to some words more than the sets have: 15 until there is room. */
+static void due_sets_at_all_lengths(const char *what, struct frame of, const uint32_t *words, size_t words_len,
+                                    uint32_t choices)
+{
+    for (size_t room = 0; room < words_len; room++)
+        refused_sets(what, of, room, GAFFMEDLAR_REFUSED_BUFFER_SHORT);
+    for (size_t room = words_len; room <= words_len + BESIDE; room++)
+        due_sets(what, of, room, GAFFMEDLAR_OK, words, words_len, choices);
+}
+
+/* G's history of one step, of two, and one without a reading. */
+static void sets_with_choices(void)
+{
+    static const uint8_t step[] = {3, 1, 0, 2}, two_steps[] = {4, 1, 2, 1, 2}, mark[] = {1, 0};
+    static const uint32_t of_step[] = {6, 0, 0, 0, 40, 0, 0, 0, 80, 0, 0, 0, 1, 0, 0, 0},
+                          of_two[] = {6, 0, 0, 0, 80, 0, 0, 0, 6, 0, 0, 0, 80, 0, 0, 0, 1, 0, 0, 0}, of_mark[8] = {0};
+    static const struct frame one = FRAME(g_bytes, step), two = FRAME(g_bytes, two_steps), unread = FRAME(g_bytes, mark);
+
+    due_sets_at_all_lengths("sets of a step", one, of_step, 16, 1);
+    due_sets_at_all_lengths("sets of two steps", two, of_two, 20, 2);
+    due_sets_at_all_lengths("sets without a reading", unread, of_mark, 8, 0);
+    due_sets("sets in a large buffer", one, GAFFMEDLAR_WORDS_MAX, GAFFMEDLAR_OK, of_step, 16, 1);
+}
+
+/* 1,024 marks, each by either of two rules in either of two stages: as many choices, in the largest buffer that is needed. */
+static void sets_of_many_choices(void)
+{
+    static const uint8_t grammar[] = {2, 6, 0, 0, 1, 0, 0, 0, 1, 0, 0, 1, 1, 1, 0, 0, 1, 1, 0, 1, 0, 1}, mark[] = {0};
+    static uint8_t history[GAFFMEDLAR_HISTORY_BYTES_MAX];
+    static uint32_t words[GAFFMEDLAR_WORDS_MAX];
+    struct frame of = {grammar, sizeof grammar, history, repeated(history, mark, 1, 1024)};
+
+    for (size_t p = 0; p <= 1024; p++)
+        words[4 * p] = p == 0 ? 6 : p == 1024 ? 33 : 30;
+    due_sets("1,024 choices", of, GAFFMEDLAR_WORDS_MAX, GAFFMEDLAR_OK, words, GAFFMEDLAR_WORDS_MAX, 1024);
+    refused_sets("1,024 choices, a word too few", of, GAFFMEDLAR_WORDS_MAX - 1, GAFFMEDLAR_REFUSED_BUFFER_SHORT);
+}
+
+/* By each number that a file can be refused by no word is written, and the count is 0; a buffer without room changes nothing. */
+static void sets_of_refused_files(void)
+{
+    static const uint8_t step[] = {3, 1, 0, 2}, follow[] = {3, 7, RULES_OF_G, 0}, opens[] = {1};
+    static uint8_t too_deep[GAFFMEDLAR_HISTORY_BYTES_MAX];
+    static const struct {
+        uint8_t bytes[8];
+        size_t length;
+        int number;
+    } grammars[] = {{{1}, 1, GAFFMEDLAR_REFUSED_BYTES_END},
+                    {{128, 0}, 2, GAFFMEDLAR_REFUSED_NUMBER_FORM},
+                    {{33}, 1, GAFFMEDLAR_REFUSED_STAGE_COUNT},
+                    {{1, 0}, 2, GAFFMEDLAR_REFUSED_RULE_COUNT},
+                    {{1, 1, 3}, 3, GAFFMEDLAR_REFUSED_FORM},
+                    {{1, 1, 0, 1}, 4, GAFFMEDLAR_REFUSED_STAGE},
+                    {{1, 1, 1, 0, 128, 128, 4, 0}, 8, GAFFMEDLAR_REFUSED_NAME},
+                    {{1, 2, 0, 0, 0, 0}, 6, GAFFMEDLAR_REFUSED_RULE_TWICE}},
+      histories[] = {{{1}, 1, GAFFMEDLAR_REFUSED_BYTES_END},
+                     {{128, 0}, 2, GAFFMEDLAR_REFUSED_NUMBER_FORM},
+                     {{1, 0, 0}, 3, GAFFMEDLAR_REFUSED_BYTES_FOLLOW},
+                     {{129, 8}, 2, GAFFMEDLAR_REFUSED_TOKEN_COUNT},
+                     {{1, 3}, 2, GAFFMEDLAR_REFUSED_TOKEN},
+                     {{1, 2}, 2, GAFFMEDLAR_REFUSED_CLOSE_WITHOUT_OPEN},
+                     {{1, 1}, 2, GAFFMEDLAR_REFUSED_STILL_OPEN}};
+    struct frame behind = FRAME(follow, step), deep = {g_bytes, sizeof g_bytes, too_deep, repeated(too_deep, opens, 1, 129)};
+
+    for (size_t room = 0; room <= 32; room += 16) {
+        for (size_t i = 0; i < sizeof grammars / sizeof grammars[0]; i++) {
+            /* the grammar comes first, whether the history passes or not */
+            for (size_t h = 0; h < 2; h++) {
+                struct frame of = {grammars[i].bytes, grammars[i].length, step, h == 0 ? sizeof step : 2};
+                refused_sets("sets of a refused grammar", of, room, grammars[i].number);
+            }
+        }
+        for (size_t i = 0; i < sizeof histories / sizeof histories[0]; i++) {
+            struct frame of = {g_bytes, sizeof g_bytes, histories[i].bytes, histories[i].length};
+            refused_sets("sets of a refused history", of, room, histories[i].number);
+        }
+        refused_sets("sets, bytes behind the grammar", behind, room, GAFFMEDLAR_REFUSED_BYTES_FOLLOW);
+        refused_sets("sets, too deep", deep, room, GAFFMEDLAR_REFUSED_TOO_DEEP);
+    }
+}
+
 /* NULL for what has length 0. */
 static void without_pointers(void)
 {
@@ -670,7 +792,9 @@ static void without_pointers(void)
     due("reading at", gaffmedlar_reading_at(grammar, sizeof grammar, history, sizeof history, 1, NULL, 0),
         GAFFMEDLAR_REFUSED_BUFFER_SHORT);
     due("reading at", gaffmedlar_reading_at(NULL, 0, NULL, 0, 1, NULL, 0), GAFFMEDLAR_REFUSED_BYTES_END);
-    due("sets", gaffmedlar_sets(grammar, sizeof grammar, history, sizeof history, NULL, 0), GAFFMEDLAR_REFUSED_BUFFER_SHORT);
+    due("sets", gaffmedlar_sets(grammar, sizeof grammar, history, sizeof history, NULL, 0).answer,
+        GAFFMEDLAR_REFUSED_BUFFER_SHORT);
+    due("sets", gaffmedlar_sets(NULL, 0, NULL, 0, NULL, 0).answer, GAFFMEDLAR_REFUSED_BYTES_END);
     due("stop marks", gaffmedlar_stop_marks(grammar, sizeof grammar, history, sizeof history, NULL, 0),
         GAFFMEDLAR_REFUSED_BUFFER_SHORT);
     due("no calls", gaffmedlar_run_calls(NULL, 0, NULL, 0, NULL, 0, NULL, 0, NULL, 0), GAFFMEDLAR_OK);
@@ -707,6 +831,9 @@ int main(void)
     no_readings();
     many_steps();
     largest_count();
+    sets_with_choices();
+    sets_of_many_choices();
+    sets_of_refused_files();
 
     int said = 0;
     for (int answer = 0; answer < 256; answer++)

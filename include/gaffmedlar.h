@@ -83,7 +83,7 @@ extern "C" {
 #endif
 
 /* The version of the library; the same stands in the file VERSION. */
-#define GAFFMEDLAR_VERSION "0.1.0"
+#define GAFFMEDLAR_VERSION "0.2.0"
 
 #define GAFFMEDLAR_OK 0
 #define GAFFMEDLAR_NO_READING 100
@@ -133,6 +133,7 @@ struct gaffmedlar_history {
     uint16_t tokens; /* n; 0 where refused */
 };
 
+/* The count of choices: what gaffmedlar_sets and gaffmedlar_choice_count answer. */
 struct gaffmedlar_count {
     uint8_t answer; /* 0, or the number of the refusal */
     uint32_t count; /* 0 where refused */
@@ -185,17 +186,20 @@ uint8_t gaffmedlar_run_calls(const uint8_t *grammar, size_t grammar_len, const u
                              size_t history_len, const uint8_t *calls, size_t calls_len, uint8_t *answers,
                              size_t answers_len, uint8_t *buffer, size_t buffer_len);
 
-/* Gives the set of each position: bit b of word 4 p + k is 1 where rule 32 k + b stands at position p in some reading,
- * else 0. With no reading all these words are 0.
- * Answers 0 (written), 1 to 14, or 15 (words_len, a number of WORDS, below 4 (n + 1)).
- * Writes words[0] to words[4 n + 3], with answer 0 alone. Stack: 32 KiB. */
-uint8_t gaffmedlar_sets(const uint8_t *grammar, size_t grammar_len, const uint8_t *history, size_t history_len,
-                        uint32_t *words, size_t words_len);
+/* Gives the set of each position, and counts the choices in the same pass. Bit b of word 4 p + k is 1 where rule 32 k + b
+ * stands at position p in some reading, else 0. The count is that of gaffmedlar_choice_count, which says what a choice is.
+ * With no reading all these words are 0, and so is the count.
+ * Answers 0 (written) with the count; or, with count 0, 1 to 14 or 15 (words_len, a number of WORDS, below 4 (n + 1)).
+ * Writes words[0] to words[4 n + 3], with answer 0 alone. Stack: 32 KiB.
+ * In older headers it answers a number alone, the one that is now in the struct. A program that was compiled with such a
+ * header has to be compiled again, since a struct is handed back in another way than a number. */
+struct gaffmedlar_count gaffmedlar_sets(const uint8_t *grammar, size_t grammar_len, const uint8_t *history,
+                                        size_t history_len, uint32_t *words, size_t words_len);
 
 /* Counts the choices. A position is a choice when its set holds two rules of one and the same stage (the L of both): a
  * reading that has come to this stage there can go on by either. Where readings have different rules at a position only
  * because each has come to a stage of its own, that is no choice: they differed before. The history has more than one
- * reading exactly when the count isn't 0.
+ * reading exactly when the count isn't 0. Whoever wants the sets gets the same count with them, from gaffmedlar_sets.
  * Answers 0 with the count (0 where there is no reading), or 1 to 14. Writes nothing. Stack: 32 KiB. */
 struct gaffmedlar_count gaffmedlar_choice_count(const uint8_t *grammar, size_t grammar_len, const uint8_t *history,
                                                 size_t history_len);
@@ -379,8 +383,9 @@ static inline uint8_t gaffmedlar_run_calls_(const uint8_t *grammar, size_t gramm
                                 gaffmedlar_buffer_(buffer, buffer_len), buffer_len);
 }
 
-static inline uint8_t gaffmedlar_sets_(const uint8_t *grammar, size_t grammar_len, const uint8_t *history,
-                                       size_t history_len, uint32_t *words, size_t words_len)
+static inline struct gaffmedlar_count gaffmedlar_sets_(const uint8_t *grammar, size_t grammar_len,
+                                                       const uint8_t *history, size_t history_len, uint32_t *words,
+                                                       size_t words_len)
 {
     return gaffmedlar_sets(gaffmedlar_read_(grammar, grammar_len), grammar_len,
                            gaffmedlar_read_(history, history_len), history_len,

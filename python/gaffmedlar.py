@@ -17,7 +17,8 @@ A history of n tokens has positions 0 to n. A reading has one rule number for ea
 that answers a refusal, "none" or "no further" writes nothing.
 
 The set of a position is the rules that stand there in some reading. A position is a choice where two rules of its set are
-of one and the same stage. A history has more than one reading exactly when it has a choice.
+of one and the same stage. A history has more than one reading exactly when it has a choice. One call of `sets` or `sets_into`
+gives the sets and how many choices there are; `choice_count` gives that count alone.
 
 A count of readings is an int where it is at most 2^64 - 1, and OVER where there are more. `reading_count`,
 `reading_count_at`, `reading_at` and `reading_at_into` take up to 304 KiB of the stack of the thread that calls them, all
@@ -35,7 +36,7 @@ import os
 from array import array
 from typing import Any, Iterable, Iterator, List, NamedTuple, Optional, Union
 
-__version__ = "0.1.0"
+__version__ = "0.2.0"
 
 __all__ = [
     "Call", "CallAnswer", "First", "GRAMMAR_BYTES_MAX", "GrammarCounts", "HISTORY_BYTES_MAX", "Next", "OVER", "Over",
@@ -196,7 +197,7 @@ _SERVICES = {
     "first_reading": (ctypes.c_uint8, _READ + _READ + _LENT),
     "next_reading": (ctypes.c_uint8, _READ + _READ + _LENT),
     "run_calls": (ctypes.c_uint8, _READ + _READ + _READ + _LENT + _LENT),
-    "sets": (ctypes.c_uint8, _READ + _READ + _LENT),
+    "sets": (_CountReply, _READ + _READ + _LENT),
     "choice_count": (_CountReply, _READ + _READ),
     "reading_count": (_ReadingsReply, _READ + _READ),
     "reading_count_at": (_ReadingsReply, _READ + _READ + _POSITION + _RULE),
@@ -366,10 +367,10 @@ def run_calls(grammar: Any, history: Any, calls: Iterable[Call], buffer: Any) ->
 
 
 class Sets:
-    """What `sets` gives: the rules that stand at each position in some reading."""
+    """What `sets` gives: the rules that stand at each position in some reading, and the count of choices."""
 
-    def __init__(self, words: array):
-        self._words = words
+    def __init__(self, words: array, choices: int):
+        self._words, self._choices = words, choices
 
     def positions(self) -> int:
         """How many positions there are: n + 1."""
@@ -388,6 +389,10 @@ class Sets:
         words = enumerate(self._words[4 * position:4 * position + 4])
         return [32 * k + b for k, word in words if word for b in range(32) if word >> b & 1]
 
+    def choices(self) -> int:
+        """How many positions are choices: what choice_count gives for the same files."""
+        return self._choices
+
     def words(self) -> array:
         """Four words for each position, as sets_into writes them; a copy."""
         return self._words[:]
@@ -400,21 +405,30 @@ def _word_array(length: int) -> array:
 
 
 def sets(grammar: Any, history: Any) -> Sets:
-    """The set of each position: the rules that stand there in some reading. Raises Refusal (1 to 14)."""
-    grammar, history = _file(grammar), _file(history)
-    words = _word_array(WORDS_MAX)
-    sets_into(grammar, history, words)
-    return Sets(words[:4 * (history_check(history) + 1)])
+    """The set of each position, the rules that stand there in some reading, and the count of choices. Raises Refusal (1 to 14).
 
+    One call of the library gives both, so choice_count isn't needed beside it.
 
-def sets_into(grammar: Any, history: Any, words: Any) -> None:
-    """The same as 32-bit words in the caller's buffer, array('I', ..) for instance. Raises Refusal (1 to 15).
-
-    Rule 32 k + b stands at position p in some reading exactly when bit b of word 4 p + k is 1. The buffer needs 4 (n + 1)
-    words; WORDS_MAX are enough for every history.
+        sets = gaffmedlar.sets(grammar, history)
+        print(sets.choices(), sets.rules(0))
     """
     grammar, history = _file(grammar), _file(history)
-    _done(_call("sets", grammar, history, _lent_words(words)), grammar, history)
+    words = _word_array(WORDS_MAX)
+    choices = sets_into(grammar, history, words)
+    return Sets(words[:4 * (history_check(history) + 1)], choices)
+
+
+def sets_into(grammar: Any, history: Any, words: Any) -> int:
+    """Writes the sets into a buffer of 32-bit words and gives the count of choices. Raises Refusal (1 to 15).
+
+    Rule 32 k + b stands at position p in some reading exactly when bit b of word 4 p + k is 1. The buffer `words`,
+    array('I', ..) for instance, needs 4 (n + 1) words; WORDS_MAX are enough for every history. The count is what choice_count
+    gives for the same files.
+    """
+    grammar, history = _file(grammar), _file(history)
+    reply = _call("sets", grammar, history, _lent_words(words))
+    _done(reply.answer, grammar, history)
+    return reply.count
 
 
 def choice_count(grammar: Any, history: Any) -> int:
@@ -422,7 +436,7 @@ def choice_count(grammar: Any, history: Any) -> int:
 
     A rule is of the stage on its left. At a choice the history leaves undecided which of the rules it was. Readings differ
     at other positions too, but those have one rule for each stage: they follow from the choices before them, and are not
-    counted. The count is 0 exactly when there is one reading or none.
+    counted. The count is 0 exactly when there is one reading or none. `sets` gives it too, with the sets.
     """
     grammar, history = _file(grammar), _file(history)
     reply = _call("choice_count", grammar, history)

@@ -73,7 +73,7 @@ def passed(label, g, h, what=MARKS, limit=ALL, buffer=(), calls=(), due=None, co
     put(0, what, limit, label, g, h, buffer, calls)
     line = "%s: readings %d%s; list same; short buffers same; short answers same;" % (label, len(entries), "" if whole else " and more")
     line += " marks same;" if what & MARKS else ""
-    line += " choices %d; several readings same;" % count_due(label, grammar.rules, found, whole, count)
+    line += " choices %d; with sets same; several readings same;" % count_due(label, grammar.rules, found, whole, count)
     line += " choice count same; sets same; calls same;" if whole else ""
     DUE.append(line)
     if what & SHOW:

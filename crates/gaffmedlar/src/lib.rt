@@ -21,7 +21,7 @@ ghost use Rattle.reading_counts.specs.believed.Numbered.{readingsDue, readingsA
 ghost use Rattle.stop_marks.specs.believed.StopMarks.{marksDue};
 ghost use Rattle.step_bytes.specs.believed.StepBytes.{stepOf, numberIn};
 ghost use Rattle.writers.specs.believed.Writers.{grammarWritten, historyWritten};
-ghost use Rattle.replies.specs.believed.Wire.{grammarWire, historyWire, countWire, readingsWire, outcomeWire, callsWire, partWire, stepCode, writeWire};
+ghost use Rattle.replies.specs.believed.Wire.{grammarWire, historyWire, countWire, setsWire, readingsWire, outcomeWire, callsWire, partWire, stepCode, writeWire};
 
 #[no_mangle]
 pub extern "C" fn gaffmedlar_grammar_check(grammar: &[u8]) -> GrammarReply
@@ -68,12 +68,12 @@ pub extern "C" fn gaffmedlar_run_calls(
     replies::outcome_code(calls::run_calls(grammar, history, calls, answers, buffer))
 }
 
-// Writes four words for each position: the set of rules that stand there in some reading.
+// Writes four words for each position, the set of rules that stand there in some reading, and answers how many positions are choices.
 #[no_mangle]
-pub extern "C" fn gaffmedlar_sets(grammar: &[u8], history: &[u8], words: &mut [u32]) -> u8
-    ensures { λ r. ⌜ (r, now (words .exit)) ≡ outcomeWire (setsDue (now (grammar .entry)) (now (history .entry)) (now (words .entry))) ⌝ }
+pub extern "C" fn gaffmedlar_sets(grammar: &[u8], history: &[u8], words: &mut [u32]) -> CountReply
+    ensures { λ r. ⌜ (r, now (words .exit)) ≡ setsWire (setsDue (now (grammar .entry)) (now (history .entry)) (now (words .entry))) ⌝ }
 {
-    replies::outcome_code(sets::sets(grammar, history, words))
+    replies::count_reply(sets::sets(grammar, history, words))
 }
 
 // How many positions are choices: two rules of their set are for one nonterminal.

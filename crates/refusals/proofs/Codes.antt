@@ -11,7 +11,7 @@ use lib.ListN.{length, take, drop}
 use Rattle.vpg.specs.declared.Token.{Token}
 use Rattle.vpg.specs.believed.Grammar.{Grammar}
 use Rattle.vpg.specs.Runs.{entries}
-use Rattle.sets_theory.specs.believed.Sets.{setWords, stopMarks}
+use Rattle.sets_theory.specs.believed.Sets.{choiceCount, setWords, stopMarks}
 use Rattle.history_file.specs.believed.HistoryFile.{tokensOf}
 use Rattle.files.specs.believed.Files.{Files, accepted}
 use Rattle.files.specs.believed.Files as files
@@ -22,10 +22,10 @@ use Rattle.service.specs.believed.Given as service
 use Rattle.service.specs.believed.Opened.{filesIn, opened, served}
 use Rattle.readings.specs.believed.Answers.{subject}
 use Rattle.calls.specs.believed.CallList.{codeOf, noRoom, callsDue}
-use Rattle.sets.specs.believed.Sets.{setsDue}
+use Rattle.sets.specs.believed.Sets.{setsDue, countDue}
 use Rattle.stop_marks.specs.believed.StopMarks.{marksDue}
-use Rattle.replies.specs.believed.Wire.{outcomeCode}
-use Rattle.refusals.specs.Codes.{Numbered, answerOf, outcomeOf}
+use Rattle.replies.specs.believed.Wire.{countWire, outcomeCode}
+use Rattle.refusals.specs.Codes.{Numbered, answerOf, outcomeOf, givenOf}
 use Rattle.refusals.proofs.Files.{OfFiles, OfGiven, files-of, opened-of, outcome-back}
 
 -- ── the files, and the room ──
@@ -71,6 +71,20 @@ pub codes-read-back : (grammar history : List ℕ) (size : ℕ) (c : Call) (buf 
 codes-read-back grammar history size c buf =
     read-back _ (call-numbers (opened 1 size (filesIn grammar history)) (opened-numbers 1 size (filesIn grammar history) (files-numbers grammar history)) c buf)
 
+-- ── choices, with the sets and without them ──
+
+count-back : (x : Given ℕ) → OfGiven Numbered x → givenOf (countWire x .answer) (countWire x .count) ≡ x
+count-back (service.given n) h = refl
+count-back (service.refused k) h = rw (ne-eqb k 0 (λ q. omega arith))
+
+sets-numbers : (words : List ℕ) (f : Files) → OfFiles Numbered f → OfGiven Numbered (served (service.untouched words) (λ g w. (service.given (choiceCount g w), setWords g w ++ drop (4 * (length w + 1)) words)) f .0)
+sets-numbers words (files.refused e) h = h
+sets-numbers words (accepted g ts) h = tt
+
+count-numbers : (f : Files) → OfFiles Numbered f → OfGiven Numbered (served service.refused (λ g w. service.given (choiceCount g w)) f)
+count-numbers (files.refused e) h = h
+count-numbers (accepted g ts) h = tt
+
 -- ── services that only write ──
 
 written-back : (o : Given Unit) → OfGiven Numbered o → outcomeOf (outcomeCode o) ≡ o
@@ -89,9 +103,10 @@ calls-numbers : (b : Bool) (k : ℕ) → Numbered k → (answers buf : List ℕ)
 calls-numbers true k h answers buf made = h
 calls-numbers false k h answers buf made = tt
 
--- the services whose code is 0 or the number of a refusal
+-- the services whose answer is 0, alone or with a count, or the number of a refusal
 pub record ReadBack (grammar history words marks kinds answers buf : List ℕ) : Type 0 where
-  pub sets : outcomeOf (outcomeCode (setsDue grammar history words .0)) ≡ setsDue grammar history words .0
+  pub sets : givenOf (countWire (setsDue grammar history words .0) .answer) (countWire (setsDue grammar history words .0) .count) ≡ setsDue grammar history words .0
+  pub choices : givenOf (countWire (countDue grammar history) .answer) (countWire (countDue grammar history) .count) ≡ countDue grammar history
   pub stop-marks : outcomeOf (outcomeCode (marksDue grammar history marks .0)) ≡ marksDue grammar history marks .0
   pub calls : outcomeOf (outcomeCode (callsDue grammar history kinds answers buf .0)) ≡ callsDue grammar history kinds answers buf .0
 
@@ -99,7 +114,8 @@ pub outcomes-read-back : (grammar history words marks kinds answers buf : List �
 outcomes-read-back grammar history words marks kinds answers buf =
     let f = files-numbers grammar history in
     record {
-      sets = written-back _ (written-numbers (λ g w. setWords g w ++ drop (4 * (length w + 1)) words) words (opened 4 (length words) (filesIn grammar history)) (opened-numbers 4 (length words) (filesIn grammar history) f));
+      sets = count-back _ (sets-numbers words (opened 4 (length words) (filesIn grammar history)) (opened-numbers 4 (length words) (filesIn grammar history) f));
+      choices = count-back _ (count-numbers (filesIn grammar history) f);
       stop-marks = written-back _ (written-numbers (λ g w. stopMarks g w ++ drop (length w + 1) marks) marks (opened 1 (length marks) (filesIn grammar history)) (opened-numbers 1 (length marks) (filesIn grammar history) f));
       calls = written-back _ (calls-numbers (ltb (length answers) (length kinds)) (noRoom (filesIn grammar history)) (no-room-numbers (filesIn grammar history) f) answers buf _);
     }

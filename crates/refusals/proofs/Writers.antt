@@ -18,7 +18,7 @@ use Rattle.history_file.specs.believed.HistoryFile
 use Rattle.service.specs.believed.Given.{Given, given, refused, untouched}
 use Rattle.writers.specs.believed.Writers.{filled, grammarFilled, historyFilled, grammarWritten, historyWritten}
 use Rattle.replies.specs.believed.Wire.{lengthWire}
-use Rattle.refusals.specs.Codes.{GrammarWriteNumbered, HistoryWriteNumbered, lengthOf}
+use Rattle.refusals.specs.Codes.{GrammarWriteNumbered, HistoryWriteNumbered, givenOf}
 use Rattle.refusals.proofs.Readers.{chosen, OfNumber, OfGrammar, OfHistory, grammar-from-of, history-from-of}
 
 abbrev OfWriter : (ℕ → Type 0) → Given ℕ → Type 0
@@ -74,7 +74,7 @@ history-above k (inr h) q = omega arith
 -- the number is 0 or one of these, and number and length together say the answer
 pub record WriteCode (P : ℕ → Type 0) (x : Given ℕ) : Type 0 where
   pub one-of : (lengthWire x .answer ≡ 0) ⊎ P (lengthWire x .answer)
-  pub back : lengthOf (lengthWire x .answer) (lengthWire x .length) ≡ x
+  pub back : givenOf (lengthWire x .answer) (lengthWire x .length) ≡ x
 
 write-codes : (P : ℕ → Type 0) → ((k : ℕ) → P k → k ≢ 0) → (x : Given ℕ) → OfWriter P x → WriteCode P x
 write-codes P above (given n) h = record { one-of = inl refl; back = refl }

@@ -41,9 +41,9 @@ GrammarWriteNumbered e = (e ≡ 1) ⊎ (((3 ≤ e) × (e ≤ 9)) ⊎ (e ≡ 15))
 abbrev pub HistoryWriteNumbered : ℕ → Type 0
 HistoryWriteNumbered e = (e ≡ 1) ⊎ ((9 ≤ e) × (e ≤ 15))
 
--- 0 says that the length is that of a file
-abbrev pub lengthOf : ℕ → ℕ → Given ℕ
-lengthOf k n = cond (eqb k 0) (service.given n) (service.refused k)
+-- 0 says that the number beside it is the answer: the length of a file, or the count of choices
+abbrev pub givenOf : ℕ → ℕ → Given ℕ
+givenOf k n = cond (eqb k 0) (service.given n) (service.refused k)
 
 -- the numbers of the services that count, and of reading k: those of the files, 15 and 18
 abbrev pub CountNumbered : ℕ → Type 0

@@ -1,9 +1,9 @@
 -- At a close the rules of the set are the empty rules of the nonterminals that can stand there. A nonterminal has one at most, since no rule
 -- stands twice in a table: so it is enough to look at these nonterminals one by one, each with the rule that the index has of it.
-use Prim.Native.Nat.{ℕ, zero, suc, _-_, _/_, _%_, _^_, _<_, _≤_}
+use Prim.Native.Nat.{ℕ, zero, suc, _+_, _-_, _/_, _%_, _^_, _<_, _≤_}
 use native.Mathlib.Nat.{eq-or-lt-of-le}
 use native.Mathlib.Omega.{arith}
-use mathlib.Core.Path.{_≡_, refl, sym, _∙_, ap, ap₂}
+use mathlib.Core.Path.{_≡_, refl, sym, _∙_, ap}
 use mathlib.Core.Logic.{_⊎_, inl, inr}
 use mathlib.Core.Bool.{Bool, true, false, cond, _&&_, _||_, and-false, or-true, or-false, or-assoc}
 use mathlib.Core.List.{List}
@@ -27,8 +27,8 @@ use Rattle.contexts.proofs.Ends.{close-kind, empty-fits, fits-empty, level-ends
 use Rattle.rule_set.specs.Words.{bitIn, addIn}
 use Rattle.rule_set.specs.declared.Ways.{Ways}
 use Rattle.rule_set.specs.Ends.{endWays}
-use Rattle.rule_set.specs.RuleSet.{keepsAt, twiceWith, waysWith, waysIn, wordsIn}
-use Rattle.rule_set.proofs.Members.{lowest, and-with, and-without, nothing-common}
+use Rattle.rule_set.specs.RuleSet.{keepsAt, waysWith, waysIn, wordsIn}
+use Rattle.rule_set.proofs.Members.{lowest, and-with, and-without, add-new}
 use Rattle.rule_set.proofs.Words.{add-length, add-small, zeros, bit-in-add, held-none, held-same}
 use Rattle.rule_set.proofs.RuleSet.{Keeps, words-held}
 
@@ -66,15 +66,15 @@ module _ {t : List ℕ} {head : Head} (x : Indexed t head) where
 with-end : (here : ℕ) (ways : Ways) (ends L : ℕ) → ways ≡ endWays here ends → bit ends L ≡ false → cond (bit here L && true) (waysWith ways (Rule.Empty L)) ways ≡ endWays here (addBit ends L)
 with-end here ways ends L e new = rw e (go (bit here L) refl)
   where
-    Of : ℕ → ℕ → Ways
-    Of m n = record { met = m; twice = n; next = 0; behind = 0 }
+    Of : ℕ → Ways
+    Of m = record { sum = m; next = 0; behind = 0 }
 
     once : bit (bitAnd here ends) L ≡ false
     once = bit-and here ends L ∙ rw (new, and-false)
 
-    go : (b : Bool) → bit here L ≡ b → cond (b && true) (Of (addBit (bitAnd here ends) L) (twiceWith 0 (bitAnd here ends) L)) (endWays here ends) ≡ endWays here (addBit ends L)
-    go true q = ap₂ Of (sym (and-with here ends L q)) (rw (nothing-common (bitAnd here ends) L once))
-    go false q = ap (λ (n : ℕ). Of n 0) (sym (and-without here ends L q))
+    go : (b : Bool) → bit here L ≡ b → cond (b && true) (Of (bitAnd here ends + 2 ^ L)) (endWays here ends) ≡ endWays here (addBit ends L)
+    go true q = ap Of (sym (and-with here ends L q ∙ add-new (bitAnd here ends) L once))
+    go false q = ap Of (sym (and-without here ends L q))
 
 module _ {t : List ℕ} {head : Head} (x : Indexed t head) (p : Context) (h : 2 ≤ p .kind) (here : ℕ) where
   -- the nonterminal of an empty rule has none before it

@@ -1,15 +1,13 @@
--- The members of a word: the lowest one, those in common with another word, and whether there are any.
+-- The members of a word: the lowest one, those in common with another word, and what one member more adds to it.
 use Prim.Native.Nat.{ℕ, zero, suc, _+_, _-_, _*_, _/_, _%_, _^_, _<_, _≤_}
 use native.Mathlib.Nat.{pow-suc, mul-div-cancel, mul-mod-left, zero-min, min-zero, max-zero, max-eq-right, add-zero}
 use native.Mathlib.Omega.{arith}
 use mathlib.Core.Path.{_≡_, refl, sym, _∙_}
-use mathlib.Core.Logic.{⊎-elim}
-use mathlib.Core.Bool.{Bool, true, false, _&&_, _||_, false≢true, and-false, or-true, or-false}
-use borrow.Author.Tests.{eqb-true, lt-ltb, ltb-true, ltb-false}
-use lib.Bits.{bitAnd, bitOr, and-step, or-step, and-self, and-le-l, and-le-r, or-zero-r, or-add-and}
+use mathlib.Core.Bool.{Bool, true, false, _&&_, _||_, and-false, or-true, or-false}
+use borrow.Author.Tests.{eqb-true}
+use lib.Bits.{bitAnd, and-step, or-step, and-self, or-zero-r, or-add-and}
 use lib.Count.{trailingZeros, under}
-use lib.Dec.{eqb, ltb, lit<}
-use Rattle.laws.proofs.Bools.{both, or-cases, same-test, eqb-refl}
+use lib.Dec.{eqb, lit<}
 use Rattle.bits.specs.Bit.{bit, addBit}
 use Rattle.bits.proofs.Bits.{bit-zero, bit-add, bit-and, same-members}
 
@@ -86,34 +84,22 @@ module _ (h m L : ℕ) where
 common-digit : (m L b : ℕ) → bit (bitAnd m (addBit 0 L)) b ≡ (bit m b && eqb b L)
 common-digit m L b = bit-and m (addBit 0 L) b ∙ rw (bit-add 0 L b, bit-zero b)
 
-pub nothing-common : (m L : ℕ) → bit m L ≡ false → bitAnd m (addBit 0 L) ≡ 0
+nothing-common : (m L : ℕ) → bit m L ≡ false → bitAnd m (addBit 0 L) ≡ 0
 nothing-common m L e = same-members (bitAnd m (addBit 0 L)) 0 (λ b. common-digit m L b ∙ go b (eqb b L) refl ∙ sym (bit-zero b))
   where
     go : (b : ℕ) (x : Bool) → eqb b L ≡ x → (bit m b && x) ≡ false
     go b true q = let i : bit m b ≡ false = rw (eqb-true b L q) e in rw i
     go b false q = and-false (bit m b)
 
-pub some-common : (m L : ℕ) → ltb 0 (bitAnd m (addBit 0 L)) ≡ bit m L
-some-common m L = go (bit m L) refl
-  where
-    go : (x : Bool) → bit m L ≡ x → ltb 0 (bitAnd m (addBit 0 L)) ≡ x
-    go true e = lt-ltb 0 (bitAnd m (addBit 0 L)) (above (bitAnd m (addBit 0 L)) (common-digit m L L ∙ both e (eqb-refl L)))
-      where
-        above : (n : ℕ) → bit n L ≡ true → 0 < n
-        above zero q = absurd (false≢true (sym (bit-zero L) ∙ q))
-        above (suc n) q = omega arith
-    go false e = rw (nothing-common m L e)
+-- ── one member more, as a sum ──
 
--- a union has a member where one of both has
-pub some-union : (m n : ℕ) → ltb 0 (bitOr m n) ≡ (ltb 0 m || ltb 0 n)
-some-union m n = same-test _ _ left right
-  where
-    left : ltb 0 (bitOr m n) ≡ true → (ltb 0 m || ltb 0 n) ≡ true
-    left h = go (ltb 0 m) refl
-      where
-        go : (b : Bool) → ltb 0 m ≡ b → (b || ltb 0 n) ≡ true
-        go true e = refl
-        go false e = lt-ltb 0 n (omega (arith, ltb-true 0 (bitOr m n) h, ltb-false 0 m e, or-add-and m n))
+-- a new member adds 2^L, one that is there already nothing
+pub add-new : (m L : ℕ) → bit m L ≡ false → addBit m L ≡ m + 2 ^ L
+add-new m L e = omega (arith, or-add-and m (2 ^ L), nothing-common m L e)
 
-    right : (ltb 0 m || ltb 0 n) ≡ true → ltb 0 (bitOr m n) ≡ true
-    right h = lt-ltb 0 (bitOr m n) (⊎-elim (λ e. omega (arith, ltb-true 0 m e, or-add-and m n, and-le-r m n)) (λ e. omega (arith, ltb-true 0 n e, or-add-and m n, and-le-l m n)) (or-cases (ltb 0 m) (ltb 0 n) h))
+pub add-old : (m L : ℕ) → bit m L ≡ true → addBit m L ≡ m
+add-old m L e = same-members (addBit m L) m (λ b. bit-add m L b ∙ go b (eqb b L) refl)
+  where
+    go : (b : ℕ) (x : Bool) → eqb b L ≡ x → (bit m b || x) ≡ bit m b
+    go b true q = rw (or-true (bit m b)) (sym (rw (eqb-true b L q) e))
+    go b false q = or-false (bit m b)

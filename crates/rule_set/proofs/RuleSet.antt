@@ -1,4 +1,4 @@
--- What is written has the rules of the set, the nonterminals that they are for and those with which they go on.
+-- What is written has the rules of the set, and the nonterminals with which they go on.
 use Prim.Native.Nat.{ℕ, zero, suc, _<_, _≤_}
 use native.Mathlib.Omega.{arith}
 use mathlib.Core.Path.{_≡_, refl, sym, _∙_, ap}
@@ -6,7 +6,6 @@ use mathlib.Core.Logic.{_≢_}
 use mathlib.Core.Bool.{Bool, true, false, cond, _&&_, _||_, or-false, and-false}
 use mathlib.Core.List.{List}
 use mathlib.Core.Option.{Option, none, some}
-use lib.Dec.{eqb, ltb}
 use lib.ListN.{length, length-set}
 use Rattle.laws.specs.Any.{any, anyBelow}
 use Rattle.laws.proofs.Any.{any-snoc}
@@ -27,7 +26,6 @@ use Rattle.contexts.proofs.Contexts.{applies-apart}
 use Rattle.rule_set.specs.Words.{Held, addIn}
 use Rattle.rule_set.specs.declared.Ways.{Ways}
 use Rattle.rule_set.specs.RuleSet.{keepsAt, withSome, waysWith, waysIn, wordsIn}
-use Rattle.rule_set.proofs.Members.{some-common, some-union}
 use Rattle.rule_set.proofs.Words.{held-none, held-with, held-without}
 
 -- ── one rule ──
@@ -39,7 +37,7 @@ some-bit x K (some M) = bit-add x M K ∙ ap (λ (b : Bool). bit x K || b) (eqb-
 -- ── all rules ──
 
 -- whether some rule passes, by the rules' numbers
-any-numbers : (t : List ℕ) (n : ℕ) (k : Rule → Bool) → any k (rulesIn t n) ≡ anyBelow n (λ r. k (ruleIn t r))
+pub any-numbers : (t : List ℕ) (n : ℕ) (k : Rule → Bool) → any k (rulesIn t n) ≡ anyBelow n (λ r. k (ruleIn t r))
 unfolding rulesIn
 any-numbers t zero k = refl
 any-numbers t (suc n) k = any-snoc k (rulesIn t n) (ruleIn t n) ∙ rw (any-numbers t n k) (or-comm _ (k (ruleIn t n)))
@@ -107,27 +105,3 @@ module _ (t : List ℕ) (here : ℕ) (context : Context) where
   unfolding waysIn rulesIn
   behind-returning K zero = bit-zero K
   behind-returning K (suc n) = grows (λ x. x .behind) (λ R. returnsTo R K) K n _ refl (some-bit (Ways-of n .behind) K (beyond (ruleIn t n))) (behind-returning K n)
-
-  -- those that the set's rules are for
-  met-left : (K n : ℕ) → bit (waysIn t here context n .met) K ≡ any (λ R. keepsAt here context R && eqb (left R) K) (rulesIn t n)
-  unfolding waysIn rulesIn
-  met-left K zero = bit-zero K
-  met-left K (suc n) =
-      grows (λ x. x .met) (λ R. eqb (left R) K) K n _ refl (bit-add (Ways-of n .met) (left (ruleIn t n)) K ∙ ap (λ (b : Bool). bit (Ways-of n .met) K || b) (eqb-comm K (left (ruleIn t n)))) (met-left K n)
-
-  -- rule r, if it is in the set, is for the nonterminal of one before it
-  abbrev pub Again : ℕ → Bool
-  Again r = Keeps r && anyBelow r (λ r′. Keeps r′ && eqb (left (ruleIn t r′)) (left (ruleIn t r)))
-
-  -- whether two rules of the set are for one nonterminal
-  pub choice-two : (n : ℕ) → ltb 0 (waysIn t here context n .twice) ≡ anyBelow n Again
-  unfolding waysIn
-  choice-two zero = refl
-  choice-two (suc n) = go (Keeps n) refl (choice-two n)
-    where
-      more : ltb 0 (waysWith (Ways-of n) (ruleIn t n) .twice) ≡ (ltb 0 (Ways-of n .twice) || bit (Ways-of n .met) (left (ruleIn t n)))
-      more = some-union (Ways-of n .twice) _ ∙ rw (some-common (Ways-of n .met) (left (ruleIn t n)))
-
-      go : (b : Bool) → Keeps n ≡ b → ltb 0 (Ways-of n .twice) ≡ anyBelow n Again → ltb 0 (cond b (waysWith (Ways-of n) (ruleIn t n)) (Ways-of n) .twice) ≡ anyBelow (suc n) Again
-      go true q h = more ∙ rw (q, h, met-left (left (ruleIn t n)) n, any-numbers t n) (or-comm (anyBelow n Again) _)
-      go false q h = rw q h

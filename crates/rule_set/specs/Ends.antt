@@ -6,4 +6,4 @@ use Rattle.rule_set.specs.declared.Ways.{Ways}
 
 -- `ends` are the nonterminals that have an empty rule: one rule for each of them that can stand here, and it leads nowhere
 abbrev pub endWays : ℕ → ℕ → Ways
-endWays here ends = record { met = bitAnd here ends; twice = 0; next = 0; behind = 0 }
+endWays here ends = record { sum = bitAnd here ends; next = 0; behind = 0 }

@@ -1,10 +1,10 @@
 -- The set of rules at a position, rule by rule.
--- Law: words-held, choice-two (rule_set/proofs/RuleSet.antt)
-use Prim.Native.Nat.{ℕ, zero, suc}
+-- Law: words-held (rule_set/proofs/RuleSet.antt)
+-- Law: sum-most, choice-sum (rule_set/proofs/Sums.antt)
+use Prim.Native.Nat.{ℕ, zero, suc, _+_, _^_}
 use mathlib.Core.Bool.{Bool, cond, _&&_}
 use mathlib.Core.List.{List}
 use mathlib.Core.Option.{Option, none, some}
-use lib.Bits.{bitAnd, bitOr}
 use lib.ListN.{replicate}
 use Rattle.bits.specs.Bit.{bit, addBit}
 use Rattle.vpg.specs.declared.Rule.{Rule}
@@ -32,18 +32,18 @@ nextWith x R = withSome x (onward R)
 abbrev pub behindWith : ℕ → Rule → ℕ
 behindWith x R = withSome x (beyond R)
 
--- the nonterminals that two rules are for, with one rule more, which is for L
-abbrev pub twiceWith : ℕ → ℕ → ℕ → ℕ
-twiceWith twice met L = bitOr twice (bitAnd met (addBit 0 L))
+-- the sum of 2^L over the rules, with one rule more, which is for L
+abbrev pub sumWith : ℕ → ℕ → ℕ
+sumWith sum L = sum + 2 ^ L
 
 abbrev pub waysWith : Ways → Rule → Ways
-waysWith x R = record { met = addBit (x .met) (left R); twice = twiceWith (x .twice) (x .met) (left R); next = nextWith (x .next) R; behind = behindWith (x .behind) R }
+waysWith x R = record { sum = sumWith (x .sum) (left R); next = nextWith (x .next) R; behind = behindWith (x .behind) R }
 
 abbrev pub waysTurn : Ways → ℕ → Context → Rule → Ways
 waysTurn x here context R = cond (keepsAt here context R) (waysWith x R) x
 
 abbrev pub noWays : Ways
-noWays = record { met = 0; twice = 0; next = 0; behind = 0 }
+noWays = record { sum = 0; next = 0; behind = 0 }
 
 -- the ways on of those of the first n rules of a table that are in the set
 unfoldable pub waysIn : List ℕ → ℕ → Context → ℕ → Ways

@@ -1,10 +1,10 @@
-// The set of rules at a position: in words, the nonterminals that two of its rules are for, and those with which they go on.
+// The set of rules at a position: in words, the sum by which two rules for one nonterminal are told, and the nonterminals that follow.
 use contexts::Context;
 use tables::Head;
 use tables::Table;
 use vpg::Rule;
 ghost use mathlib.Core.Path.{_≡_};
-ghost use Prim.Native.Nat.{_<_, _≤_};
+ghost use Prim.Native.Nat.{_*_, _<_, _≤_};
 ghost use lib.ListN.{length, replicate};
 ghost use Rattle.tables.specs.Table.{ruleIn};
 ghost use Rattle.tables.specs.Ready.{Below};
@@ -14,13 +14,13 @@ ghost use Rattle.contexts.specs.declared.Context.{Context};
 ghost use Rattle.contexts.specs.Context.{tokenHere};
 ghost use Rattle.rule_set.specs.Words.{addIn};
 ghost use Rattle.rule_set.specs.Ends.{endWays};
-ghost use Rattle.rule_set.specs.RuleSet.{keepsAt, nextWith, behindWith, twiceWith, waysWith, waysTurn, noWays, waysIn, wordsIn};
+ghost use Rattle.rule_set.specs.RuleSet.{keepsAt, nextWith, behindWith, sumWith, waysWith, waysTurn, noWays, waysIn, wordsIn};
 
-// What the set at a position says: the nonterminals that its rules are for, those that two rules are for, the nonterminals at the next position
-// and those behind the close. They are four words: a flag beside them would leave bytes that the compiled loop copies at every rule.
+// What the set at a position says: the sum of 2^L over its rules, L being the nonterminal that a rule is for, the nonterminals at the next
+// position and those behind the close. As a word the nonterminals of the rules are the sum of 2^L over each of them once, so the two are
+// equal exactly where no two rules are for one nonterminal. A rule costs one addition and no look at the others.
 pub struct Ways {
-    pub met: u32,
-    pub twice: u32,
+    pub sum: u64,
     pub next: u32,
     pub behind: u32,
 }
@@ -69,31 +69,27 @@ fn add(words: &mut [u32], r: usize)
     words[r / 32] = bits::with(words[r / 32], r % 32);
 }
 
-// The nonterminals that two rules are for, with one rule more, which is for l: it is the second where l was met before.
-fn twice_with(twice: u32, met: u32, l: usize) -> u32
-    requires { ⌜ l < 32 ⌝ }
-    ensures { λ r. ⌜ r ≡ twiceWith twice met l ⌝ }
+// The sum with one rule more, which is for l. 128 rules add at most 2^39.
+fn sum_with(sum: u64, l: usize) -> u64
+    requires { ⌜ (l < 32) × (sum ≤ 549755813888) ⌝ }
+    ensures { λ r. ⌜ r ≡ sumWith sum l ⌝ }
 {
-    twice | (met & bits::with(0, l))
+    let one = bits::with(0, l);
+    sum + one as u64
 }
 
 // The ways on, with those of rule r of the set.
 fn ways_with(ways: Ways, table: &Table, r: usize) -> Ways
     requires { ⌜ (r < 128) × Below 32 (ruleIn (now table) r) ⌝ }
+    requires { ⌜ ways .sum ≤ r * 4294967296 ⌝ }
     ensures { λ x. ⌜ x ≡ waysWith ways (ruleIn (now (table .entry)) r) ⌝ }
 {
     let l = tables::left_in(table, r) as usize;
     let rule = tables::rule_of(table, r);
-    let twice = twice_with(ways.twice, ways.met, l);
-    let met = bits::with(ways.met, l);
+    let sum = sum_with(ways.sum, l);
     let next = next_with(ways.next, rule);
     let behind = behind_with(ways.behind, rule);
-    Ways {
-        met,
-        twice,
-        next,
-        behind,
-    }
+    Ways { sum, next, behind }
 }
 
 // None of them yet.
@@ -101,8 +97,7 @@ fn no_ways() -> Ways
     ensures { λ x. ⌜ x ≡ noWays ⌝ }
 {
     Ways {
-        met: 0,
-        twice: 0,
+        sum: 0,
         next: 0,
         behind: 0,
     }
@@ -169,9 +164,9 @@ fn ends_words(table: &Table, head: Head, here: u32, words: &mut [u32])
 fn ends_ways(table: &Table, here: u32) -> Ways
     ensures { λ x. ⌜ x ≡ endWays here (endsIn (now (table .entry))) ⌝ }
 {
+    let ends = here & rule_index::ends(table);
     Ways {
-        met: here & rule_index::ends(table),
-        twice: 0,
+        sum: ends as u64,
         next: 0,
         behind: 0,
     }
@@ -193,6 +188,7 @@ pub fn set_at(table: &Table, head: Head, here: u32, context: Context, words: &mu
 // The ways on, with those of rule r where it is in the set.
 fn ways_turn(ways: Ways, here: u32, table: &Table, r: usize, context: Context) -> Ways
     requires { ⌜ (r < 128) × Below 32 (ruleIn (now table) r) ⌝ }
+    requires { ⌜ ways .sum ≤ r * 4294967296 ⌝ }
     ensures { λ x. ⌜ x ≡ waysTurn ways here context (ruleIn (now (table .entry)) r) ⌝ }
 {
     if keeps(here, table, r, context) {

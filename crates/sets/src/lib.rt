@@ -1,6 +1,5 @@
 // The services sets and choice count, over the two files as bytes.
 use service::Opened;
-use service::Outcome;
 use tables::Head;
 use tables::Table;
 ghost use mathlib.Core.Path.{_≡_};
@@ -13,7 +12,6 @@ ghost use Rattle.tables.specs.Ready.{grammarIn};
 ghost use Rattle.rule_index.specs.Index.{Indexed};
 ghost use Rattle.history_file.specs.believed.HistoryFile.{tokensOf};
 ghost use Rattle.history_file.specs.HistoryTokens.{Tokens};
-ghost use Rattle.service.specs.believed.Given.{outcomeSaid};
 ghost use Rattle.sets.specs.believed.Sets.{setsDue, countSaid, countDue};
 
 // How many positions are choices, or document 01's number of the refusal.
@@ -22,15 +20,15 @@ pub enum CountAnswer {
     Refused(u8),
 }
 
-fn sets_on(table: &Table, head: Head, tokens: &[u32], words: &mut [u32])
+fn sets_on(table: &Table, head: Head, tokens: &[u32], words: &mut [u32]) -> u32
     requires { ⌜ Indexed (now table) head ⌝ }
     requires { ⌜ Tokens (now tokens) × WellMatched (tokensOf (now tokens)) ⌝ }
     requires { ⌜ 4 * (length (now tokens) + 1) ≤ length (now words) ⌝ }
-    ensures { λ _. ⌜ now (words .exit) ≡ setWords (grammarIn (now (table .entry)) head) (tokensOf (now (tokens .entry))) ++ drop (4 * (length (now (tokens .entry)) + 1)) (now (words .entry)) ⌝ }
+    ensures { λ r. ⌜ (r ≡ choiceCount (grammarIn (now (table .entry)) head) (tokensOf (now (tokens .entry)))) × (now (words .exit) ≡ setWords (grammarIn (now (table .entry)) head) (tokensOf (now (tokens .entry))) ++ drop (4 * (length (now (tokens .entry)) + 1)) (now (words .entry))) ⌝ }
 {
     let closes = levels::closes_of(tokens);
     let masks = levels::masks_of(table, head, tokens, &closes);
-    sets_core::sets(table, head, tokens, &closes, &masks, words);
+    sets_core::sets(table, head, tokens, &closes, &masks, words)
 }
 
 fn choices_on(table: &Table, head: Head, tokens: &[u32]) -> u32
@@ -43,21 +41,22 @@ fn choices_on(table: &Table, head: Head, tokens: &[u32]) -> u32
     sets_core::choices(table, head, tokens, &closes, &masks)
 }
 
-// Writes four words for each position: the set of rules that stand there in some reading.
-pub fn sets(grammar: &[u8], history: &[u8], words: &mut [u32]) -> Outcome
-    ensures { λ r. ⌜ (outcomeSaid r, now (words .exit)) ≡ setsDue (now (grammar .entry)) (now (history .entry)) (now (words .entry)) ⌝ }
+// Writes four words for each position, the set of rules that stand there in some reading, and answers how many positions are choices.
+pub fn sets(grammar: &[u8], history: &[u8], words: &mut [u32]) -> CountAnswer
+    ensures { λ r. ⌜ (countSaid r, now (words .exit)) ≡ setsDue (now (grammar .entry)) (now (history .entry)) (now (words .entry)) ⌝ }
 {
     let mut table = [0u16; 1154];
     let mut tokens = [0u32; 1024];
     let opened = service::open_files(grammar, history, 4, words.len(), &mut table, &mut tokens);
     let Opened::Files(head, n) = opened else {
-        return Outcome::Refused(service::refusal_of(opened));
+        let number = service::refusal_of(opened);
+        return CountAnswer::Refused(number);
     };
-    sets_on(&table, head, &tokens[..n], words);
-    Outcome::Done
+    let count = sets_on(&table, head, &tokens[..n], words);
+    CountAnswer::Count(count)
 }
 
-// How many positions are choices: two rules of their set are for one nonterminal.
+// How many positions are choices: two rules of their set are for one nonterminal. No buffer is lent.
 pub fn choice_count(grammar: &[u8], history: &[u8]) -> CountAnswer
     ensures { λ r. ⌜ countSaid r ≡ countDue (now (grammar .entry)) (now (history .entry)) ⌝ }
 {

@@ -7,14 +7,14 @@ use mathlib.Core.Bool.{Bool, true, false, cond, _&&_, _||_, or-false}
 use mathlib.Core.List.{List}
 use mathlib.Core.Option.{Option, none, some}
 use borrow.Author.Tests.{eqb-true, eqb-false, ltb-true, ltb-false, lt-ltb}
-use lib.Bits.{bitOr}
+use lib.Bits.{bitAnd, bitOr}
 use lib.Dec.{eqb, ltb}
 use lib.ListN.{length, getD, set, drop, replicate, getElem?, length-set}
 use lib.Seq.{ext-getD, getD-set-same, getD-set-other}
 use Rattle.laws.specs.Any.{anyBelow}
 use Rattle.laws.proofs.Any.{below-same}
 use Rattle.bits.specs.Bit.{bit, addBit}
-use Rattle.bits.proofs.Bits.{bit-zero, bit-add, bit-or}
+use Rattle.bits.proofs.Bits.{bit-zero, bit-add, bit-or, same-members}
 use Rattle.vpg.specs.declared.Rule.{Rule}
 use Rattle.vpg.specs.declared.Token.{Token}
 use Rattle.vpg.specs.believed.Grammar.{Rules, Grammar, left}
@@ -23,21 +23,27 @@ use Rattle.sets_theory.specs.KeptTest.{kept}
 use Rattle.sets_theory.specs.believed.Sets.{listed, wordOf, setWord}
 use Rattle.sets_theory.proofs.Sets.{length-listed, getD-listed}
 use Rattle.level_theory.specs.Pending.{pendingAt, closeOf}
+use Rattle.level_theory.specs.Masks.{lefts}
+use Rattle.level_theory.specs.Walk.{testAt}
 use Rattle.level_theory.specs.Kept.{keeps, going, returning, passed, Front}
 use Rattle.level_theory.proofs.Kept.{front-kept, front-start, front-next}
+use Rattle.level_theory.proofs.Walk.{level-test}
 use Rattle.tables.specs.declared.Head.{Head}
 use Rattle.tables.specs.Table.{ruleIn}
 use Rattle.tables.specs.Ready.{rulesOf, grammarIn}
 use Rattle.tables.proofs.Tables.{length-rules, rules-at, rules-below}
 use Rattle.contexts.specs.declared.Context.{Context}
+use Rattle.contexts.specs.Context.{appliesTo, levelIn}
+use Rattle.contexts.proofs.Contexts.{level-bit}
 use Rattle.history_file.specs.believed.HistoryFile.{tokenOf, tokensOf}
 use Rattle.levels.specs.Levels.{Stands, Setting}
-use Rattle.levels.proofs.Levels.{tokens-at}
+use Rattle.levels.proofs.Levels.{tokens-at, tokens-length}
 use Rattle.levels.proofs.Setting.{closing, closing-room, close-room}
 use Rattle.rule_set.specs.declared.Ways.{Ways}
 use Rattle.rule_set.specs.RuleSet.{keepsAt, waysIn, wordsIn}
 use Rattle.rule_set.specs.Words.{Held}
-use Rattle.rule_set.proofs.RuleSet.{Again, choice-two, words-held, next-going, behind-returning}
+use Rattle.rule_set.proofs.RuleSet.{words-held, next-going, behind-returning}
+use Rattle.rule_set.proofs.Sums.{Again, choice-sum}
 use Rattle.rule_set.proofs.Words.{zeros, held-word}
 use Rattle.sets_core.specs.Start.{startSet}
 
@@ -170,9 +176,18 @@ module _ {t : List ℕ} {head : Head} {ts m mask : List ℕ} (x : Setting t head
       met-here : (q : ℕ) → q < n → metBefore g W p q ≡ anyBelow q (λ q′. keepsAt here context (ruleIn t q′) && eqb (left (ruleIn t q′)) (left (ruleIn t q)))
       met-here q l = below-same q _ _ (λ q′ l′. let b : q′ < n = omega arith in rw (in-set q′ b, rules-at t n q′ b, rules-at t n q l))
 
+      -- the nonterminals that derive the rest of the level here are those of the rules that can stand here
+      level-here : getD mask p 0 ≡ levelIn t context n
+      level-here =
+          same-members (getD mask p 0) (levelIn t context n)
+          (λ L. x .leveled p (omega arith) (rw (tokens-length ts) h) L ∙ sym (level-test G (drop p W) L) ∙ ap (λ (f : Rule → Bool). lefts f G L) (sym tests) ∙ sym (level-bit t context n L))
+        where
+          tests : (λ R. appliesTo R context) ≡ testAt G (drop p W)
+          tests = fun-ext (s G (λ k a b. x .leveled k (omega arith) b))
+
       -- "a position is now a choice when its set holds two rules of one and the same stage"
-      pub choice-here : {r : Ways} → r ≡ waysIn t here context n → choice g W p ≡ ltb 0 (r .twice)
+      pub choice-here : {r : Ways} → r ≡ waysIn t here context n → choice g W p ≡ ltb (bitAnd here (getD mask p 0)) (r .sum)
       unfolding choice
       choice-here {r} e =
-          rw (length-rules t n) (below-same n _ (Again t here context) (λ q l. rw (in-set q l, met-here q l)))
-          ∙ sym (ap (λ (x : Ways). ltb 0 (x .twice)) e ∙ choice-two t here context n)
+          let two : choice g W p ≡ anyBelow n (Again t here context) = rw (length-rules t n) (below-same n _ (Again t here context) (λ q l. rw (in-set q l, met-here q l))) in
+          two ∙ sym (rw (e, level-here) (choice-sum t here context n))

@@ -42,7 +42,16 @@ fn onward(behind: &mut Behind, p: usize, j: usize, ways: Ways) -> u32
     next
 }
 
-// Writes the set of rules at each position, four words each.
+// One more where the position is a choice: the sum over the rules of its set is above the word of their nonterminals, which are those that can
+// stand here and derive the rest of the level.
+fn counted(total: u32, sum: u64, met: u32) -> u32
+    requires { ⌜ total < 2000 ⌝ }
+    ensures { λ r. ⌜ r ≡ one (ltb met sum) + total ⌝ }
+{
+    if (met as u64) < sum { total + 1 } else { total }
+}
+
+// Writes the set of rules at each position, four words each, and answers how many positions are choices.
 pub fn sets(
     table: &Table,
     head: Head,
@@ -50,32 +59,27 @@ pub fn sets(
     closes: &Closes,
     masks: &Masks,
     words: &mut [u32],
-)
+) -> u32
     requires { ⌜ Setting (now table) head (now tokens) (now closes) (now masks) ⌝ }
     requires { ⌜ 4 * (length (now tokens) + 1) ≤ length (now words) ⌝ }
-    ensures { λ _. ⌜ now (words .exit) ≡ setWords (grammarIn (now (table .entry)) head) (tokensOf (now (tokens .entry))) ++ drop (4 * (length (now (tokens .entry)) + 1)) (now (words .entry)) ⌝ }
+    ensures { λ r. ⌜ (r ≡ choiceCount (grammarIn (now (table .entry)) head) (tokensOf (now (tokens .entry)))) × (now (words .exit) ≡ setWords (grammarIn (now (table .entry)) head) (tokensOf (now (tokens .entry))) ++ drop (4 * (length (now (tokens .entry)) + 1)) (now (words .entry))) ⌝ }
 {
     let n = tokens.len();
     let mut behind = [0u32; 1025];
     let mut here = start_set(masks[0], head.start);
+    let mut count: u32 = 0;
     let mut p: usize = 0;
     while p <= n {
         let context = levels::context_at(tokens, closes, masks, p);
         let ways = rule_set::set_at(table, head, here, context, &mut words[4 * p..4 * p + 4]);
+        count = counted(count, ways.sum, here & masks[p]);
         here = onward(&mut behind, p, closes[p], ways);
         p += 1;
     }
+    count
 }
 
-// One more where the position is a choice: some nonterminal has two rules in its set.
-fn counted(total: u32, twice: u32) -> u32
-    requires { ⌜ total < 2000 ⌝ }
-    ensures { λ r. ⌜ r ≡ one (ltb 0 twice) + total ⌝ }
-{
-    if 0 < twice { total + 1 } else { total }
-}
-
-// How many positions are choices.
+// How many positions are choices, where nobody asks for the sets.
 pub fn choices(table: &Table, head: Head, tokens: &[u32], closes: &Closes, masks: &Masks) -> u32
     requires { ⌜ Setting (now table) head (now tokens) (now closes) (now masks) ⌝ }
     ensures { λ r. ⌜ r ≡ choiceCount (grammarIn (now (table .entry)) head) (tokensOf (now (tokens .entry))) ⌝ }
@@ -91,7 +95,7 @@ pub fn choices(table: &Table, head: Head, tokens: &[u32], closes: &Closes, masks
             here,
             levels::context_at(tokens, closes, masks, p),
         );
-        total = counted(total, ways.twice);
+        total = counted(total, ways.sum, here & masks[p]);
         here = onward(&mut behind, p, closes[p], ways);
         p += 1;
     }

@@ -72,16 +72,26 @@ fn several(entries: Entries) -> bool {
     entries.size < entries.end
 }
 
-// Writes the count, and whether it is 0 exactly where there are no two readings; where the list is whole, whether it is the list's.
+// Writes whether the count is 0 exactly where there are no two readings; where the list is whole, whether it is the list's.
 fn tell_count(count: u32, rules: &[u32], list: &[u8], entries: Entries) {
-    say_choices(count);
     tell(b"several readings", several(entries) == (0 < count));
     if entries.whole {
         tell(b"choice count", count == choices(rules, list, entries));
     }
 }
 
-// Writes the service's choice count, and how it compares with the list.
+// Whether the call that writes the sets answers the same count.
+fn same_with_sets(grammar: &[u8], history: &[u8], count: u32) -> bool {
+    let mut space = [0u32; 4104];
+    let words: &mut [u32] = &mut space;
+    let answer = sets::sets(grammar, history, words);
+    let CountAnswer::Count(with_sets) = answer else {
+        return false;
+    };
+    with_sets == count
+}
+
+// Writes the service's choice count, and how it compares with the one that comes with the sets and with the list.
 pub(crate) fn compare_count(
     grammar: &[u8],
     history: &[u8],
@@ -94,5 +104,7 @@ pub(crate) fn compare_count(
         tell(b"choice count", false);
         return;
     };
+    say_choices(count);
+    tell(b"with sets", same_with_sets(grammar, history, count));
     tell_count(count, rules, list, entries);
 }

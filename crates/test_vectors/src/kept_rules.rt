@@ -1,6 +1,6 @@
 // Sets, compared with the rules that the enumerator's list has at each position.
 use crate::entries::Entries;
-use service::Outcome;
+use sets::CountAnswer;
 use test_enumerator::at;
 ghost use Prim.Native.Nat.{_≤_, _<_};
 
@@ -57,7 +57,7 @@ pub(crate) fn same_sets(grammar: &[u8], history: &[u8], list: &[u8], entries: En
     let mut space = [FILLER; 4104];
     let words: &mut [u32] = &mut space;
     let answer = sets::sets(grammar, history, words);
-    let Outcome::Done = answer else {
+    let CountAnswer::Count(_) = answer else {
         return false;
     };
     if !untouched(words, entries.size as usize * 4) {

@@ -9,7 +9,7 @@ fn call_refused(grammar: &[u8], history: &[u8], kind: u8, buffer: &mut [u8], due
 
 fn sets_refused(grammar: &[u8], history: &[u8], buffer: &mut [u32], due: u8) -> bool {
     let answer = sets::sets(grammar, history, buffer);
-    let Outcome::Refused(number) = answer else {
+    let CountAnswer::Refused(number) = answer else {
         return false;
     };
     number == due && crate::kept_rules::untouched(buffer, 0)

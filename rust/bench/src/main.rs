@@ -8,7 +8,7 @@
 //! built with another archive (GAFFMEDLAR_LIB_DIR), or, where that archive lacks a function, as it was when the archive was made:
 //! its library takes turns with the others, but for files with names above 63, which an older one refuses, and for counts of readings
 //! and reading k, which an older one lacks. It is asked for services by their places, so it answers for what then stood in the place of
-//! one; a place that it doesn't have it isn't asked for.
+//! one; a place that it doesn't have it isn't asked for. Some places are there only for what an older one calls at them.
 
 mod clock;
 mod counted;

@@ -1,7 +1,7 @@
 //! Microseconds for one call of a service: on each side here, and with the library of another bench.
 use crate::clock;
 use crate::other::{Other, Question};
-use crate::sides::{call, Buffers, History, Service, Side, SERVICES, SIDES};
+use crate::sides::{again, call, Buffers, History, Service, Side, SERVICES, SIDES};
 use crate::workloads::{workloads, Workload};
 use gaffmedlar::raw;
 use std::hint::black_box;
@@ -183,15 +183,16 @@ pub fn run(rounds: Rounds, other: &mut Option<Other>) -> Result<Vec<Row>, String
     let all = workloads();
     for (place, workload) in all.iter().enumerate() {
         for (number, &(service, name)) in SERVICES.iter().enumerate() {
-            if !service.timed_on(workload) {
+            let asked = workload.for_older()
+                && service.for_older()
+                && other.as_ref().is_some_and(|other| other.has(number));
+            if !service.timed_on(workload) || again(number) && !asked {
                 continue;
             }
             let calls = Calls::of(service, workload);
             let question = Question::of(&all, place, number, rounds.least);
             let (times, before) = timed(calls, rounds, || {
-                let other = other.as_mut().filter(|other| {
-                    workload.for_older() && service.for_older() && other.has(number)
-                });
+                let other = other.as_mut().filter(|_| asked);
                 other.map(|other| other.round(&question)).transpose()
             })?;
             let row = Row {

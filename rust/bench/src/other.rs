@@ -1,6 +1,6 @@
 //! Another bench, built with another archive: it is asked for a round at a time, so that both libraries take turns.
 use crate::measure::Calls;
-use crate::sides::{Side, SERVICES};
+use crate::sides::{again, Side, SERVICES};
 use crate::workloads::{workloads, Workload};
 use std::hash::{DefaultHasher, Hash, Hasher};
 use std::io::{BufRead, BufReader, Write};
@@ -80,9 +80,10 @@ fn told(program: &Path) -> std::io::Result<Option<Vec<usize>>> {
     Ok(places.filter(|places| output.status.success() && !places.is_empty()))
 }
 
-/// The other end of that.
+/// The other end of that: those at which something else is called than at all earlier ones.
 pub fn tell() {
-    let places: Vec<String> = (0..SERVICES.len()).map(|place| place.to_string()).collect();
+    let places = (0..SERVICES.len()).filter(|&place| !again(place));
+    let places: Vec<String> = places.map(|place| place.to_string()).collect();
     println!("{}", places.join(" "));
 }
 

@@ -300,13 +300,15 @@ pub fn run_calls<I: Index>(
     0
 }
 
-pub fn sets<I: Index>(grammar: &[u8], history: &[u8], words: &mut [u32]) -> u8 {
-    number(
-        levels::<I>(grammar, history, words.len(), |positions| 4 * positions).map(|levels| {
-            levels.kept(|place, set, _| words[4 * place..4 * place + 4].copy_from_slice(&set));
-            0
-        }),
-    )
+/// Writes the sets, and counts the choices in the same pass.
+pub fn sets<I: Index>(grammar: &[u8], history: &[u8], words: &mut [u32]) -> Result<u32, u8> {
+    let levels = levels::<I>(grammar, history, words.len(), |positions| 4 * positions)?;
+    let mut count = 0;
+    levels.kept(|place, set, choice| {
+        words[4 * place..4 * place + 4].copy_from_slice(&set);
+        count += u32::from(choice);
+    });
+    Ok(count)
 }
 
 pub fn choice_count<I: Index>(grammar: &[u8], history: &[u8]) -> Result<u32, u8> {

@@ -22,11 +22,10 @@ pub enum Service {
     ReadingFirst,
     ReadingMiddle,
     ReadingLast,
-    /// Both calls on the same history, one behind the other.
-    SetsAndChoiceCount,
 }
 
-/// The older ones first, so that their places stay.
+/// The older ones first, so that their places stay. At the last one an older bench calls for the sets and then for the choice count;
+/// since the sets' call gives both, it is that call once more.
 pub const SERVICES: [(Service, &str); 15] = [
     (Service::GrammarCheck, "grammar check"),
     (Service::HistoryCheck, "history check"),
@@ -42,8 +41,16 @@ pub const SERVICES: [(Service, &str); 15] = [
     (Service::ReadingFirst, "reading 1"),
     (Service::ReadingMiddle, "reading k: middle"),
     (Service::ReadingLast, "reading k: last"),
-    (Service::SetsAndChoiceCount, "sets and choice count"),
+    (Service::Sets, "sets and choice count"),
 ];
+
+/// Whether what is called at a place is called at an earlier one too. Then its times are wanted beside those of a bench that calls for
+/// something else there, and not by themselves.
+pub fn again(place: usize) -> bool {
+    let (service, _) = SERVICES[place];
+    let mut earlier = SERVICES[..place].iter();
+    earlier.any(|&(other, _)| other == service)
+}
 
 impl Service {
     /// What does not go by the history, and lists of calls, are timed on one history alone; the long list once. That the time for
@@ -166,7 +173,7 @@ fn library(service: Service, grammar: &[u8], history: &History, to: &mut Buffers
         Service::TenCalls | Service::ThousandCalls => {
             raw::run_calls(grammar, file, &to.calls, &mut to.answers, &mut to.bytes).into()
         }
-        Service::Sets => raw::sets(grammar, file, &mut to.words).into(),
+        Service::Sets => counted_beside(raw::sets(grammar, file, &mut to.words), to),
         Service::ChoiceCount => raw::choice_count(grammar, file).count,
         Service::StopMarks => raw::stop_marks(grammar, file, &mut to.bytes).into(),
         Service::ReadingCount => told(raw::reading_count(grammar, file), to),
@@ -177,11 +184,13 @@ fn library(service: Service, grammar: &[u8], history: &History, to: &mut Buffers
         Service::ReadingFirst | Service::ReadingMiddle | Service::ReadingLast => {
             raw::reading_at(grammar, file, history.number(service), &mut to.bytes).into()
         }
-        Service::SetsAndChoiceCount => {
-            to.answers[0] = raw::sets(grammar, file, &mut to.words);
-            raw::choice_count(grammar, file).count
-        }
     }
+}
+
+/// The count; the answer goes into the first of those for calls.
+fn counted_beside(reply: raw::CountReply, to: &mut Buffers) -> u32 {
+    to.answers[0] = reply.answer;
+    reply.count
 }
 
 /// The answer; the count goes into the first two words.
@@ -212,7 +221,13 @@ fn in_rust<I: Index>(service: Service, grammar: &[u8], history: &History, to: &m
         Service::TenCalls | Service::ThousandCalls => {
             plain::run_calls::<I>(grammar, file, &to.calls, &mut to.answers, &mut to.bytes).into()
         }
-        Service::Sets => plain::sets::<I>(grammar, file, &mut to.words).into(),
+        Service::Sets => {
+            let (answer, count) = match plain::sets::<I>(grammar, file, &mut to.words) {
+                Ok(count) => (0, count),
+                Err(number) => (number, 0),
+            };
+            counted_beside(raw::CountReply { answer, count }, to)
+        }
         Service::ChoiceCount => plain::choice_count::<I>(grammar, file).unwrap_or(0),
         Service::StopMarks => pair_states::by_currents(grammar, file, &mut to.bytes).into(),
         Service::ReadingCount => told(reply_of(counted::reading_count::<I>(grammar, file)), to),
@@ -225,10 +240,6 @@ fn in_rust<I: Index>(service: Service, grammar: &[u8], history: &History, to: &m
             let k = history.number(service);
             counted::reading_at::<I>(grammar, file, k, &mut to.bytes).into()
         }
-        Service::SetsAndChoiceCount => {
-            to.answers[0] = plain::sets::<I>(grammar, file, &mut to.words);
-            plain::choice_count::<I>(grammar, file).unwrap_or(0)
-        }
     }
 }
 
@@ -236,6 +247,7 @@ fn in_rust<I: Index>(service: Service, grammar: &[u8], history: &History, to: &m
 mod tests {
     use super::*;
     use frames::choices::{self, EITHER};
+    use frames::sets::CALLS;
     use frames::{g_from, wide, Example, G, G_EXCHANGED};
 
     /// What a side gives: the first reading if there is one, what "next reading" answers after it, the sets' first words,
@@ -258,9 +270,10 @@ mod tests {
         let (answer, to) = made(Service::FirstReading);
         let first = if answer == 0 { to.bytes } else { vec![] };
         let (next, _) = made(Service::NextReading);
-        let (_, to) = made(Service::Sets);
+        let (with_sets, to) = made(Service::Sets);
         let words = to.words.chunks(4).map(|words| words[0]).collect();
         let (choices, _) = made(Service::ChoiceCount);
+        assert_eq!((with_sets, to.answers[0]), (choices, 0));
         let (_, to) = made(Service::StopMarks);
         (first, next, words, choices, to.bytes)
     }
@@ -316,6 +329,28 @@ mod tests {
                 assert_eq!(given, due(example));
             }
         }
+    }
+
+    /// Plain Rust writes the words and counts in one call, refuses as the library does, and then writes nothing.
+    #[test]
+    fn sets_with_their_count() {
+        for call in &CALLS {
+            for sets in [plain::sets::<Scan>, plain::sets::<Classes>] {
+                let mut words = call.before();
+                assert_eq!(sets(call.grammar, call.history, &mut words), call.due());
+                assert_eq!(words, call.after());
+            }
+        }
+    }
+
+    /// One place alone is there for older benches.
+    #[test]
+    fn places() {
+        let names: Vec<&str> = (0..SERVICES.len())
+            .filter(|&place| again(place))
+            .map(|place| SERVICES[place].1)
+            .collect();
+        assert_eq!(names, ["sets and choice count"]);
     }
 
     /// No side loses a bit of a name.

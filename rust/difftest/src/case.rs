@@ -48,6 +48,8 @@ pub enum Service {
     RunCalls,
     Sets,
     ChoiceCount,
+    /// Whether the count beside the sets is the choice count: by the library, called for both.
+    SameCount,
     /// Whether there is more than one reading: by the library there is exactly when it counts a choice.
     SeveralReadings,
     StopMarks,
@@ -68,7 +70,7 @@ pub enum Service {
     HistoryAgain,
 }
 
-pub const SERVICES: [Service; 19] = [
+pub const SERVICES: [Service; 20] = [
     Service::GrammarCheck,
     Service::HistoryCheck,
     Service::FirstReading,
@@ -76,6 +78,7 @@ pub const SERVICES: [Service; 19] = [
     Service::RunCalls,
     Service::Sets,
     Service::ChoiceCount,
+    Service::SameCount,
     Service::SeveralReadings,
     Service::StopMarks,
     Service::ReadingCount,
@@ -190,15 +193,12 @@ pub fn library(case: &Case, service: Service) -> Outcome {
             into_bytes(&case.next, |part| raw::next_reading(grammar, history, part))
         }
         Service::RunCalls => library_calls(case),
-        Service::Sets => {
-            let mut words = Lent::new(&case.words, WORD);
-            let answer = raw::sets(grammar, history, words.part());
-            Outcome::of(answer, &[], &[], &words.checked(WORD))
-        }
+        Service::Sets => library_sets(case),
         Service::ChoiceCount => {
             let reply = raw::choice_count(grammar, history);
             Outcome::of(reply.answer, &[reply.count.into()], &[], &[])
         }
+        Service::SameCount => library_same(case),
         Service::SeveralReadings => {
             let reply = raw::choice_count(grammar, history);
             Outcome::of(reply.answer, &[u64::from(reply.count > 0)], &[], &[])
@@ -223,6 +223,25 @@ fn library_check(case: &Case, service: Service) -> Outcome {
     }
     let reply = raw::history_check(&case.history);
     Outcome::of(reply.answer, &[reply.tokens.into()], &[], &[])
+}
+
+fn library_sets(case: &Case) -> Outcome {
+    let mut words = Lent::new(&case.words, WORD);
+    let reply = raw::sets(&case.grammar, &case.history, words.part());
+    let words = words.checked(WORD);
+    Outcome::of(reply.answer, &[reply.count.into()], &[], &words)
+}
+
+/// Both counts, where the sets are not refused.
+fn library_same(case: &Case) -> Outcome {
+    let (grammar, history) = (&case.grammar, &case.history);
+    let sets = raw::sets(grammar, history, &mut case.words.clone());
+    if sets.answer != 0 {
+        return Outcome::of(sets.answer, &[0], &[], &[]);
+    }
+    let choices = raw::choice_count(grammar, history);
+    let same = u64::from(sets.count == choices.count);
+    Outcome::of(choices.answer, &[same], &[], &[])
 }
 
 fn library_calls(case: &Case) -> Outcome {
@@ -274,10 +293,14 @@ pub fn due(case: &Case, work: &Work, service: Service) -> Outcome {
         }
         Service::Sets => {
             let mut words = case.words.clone();
-            let answer = work.sets(&mut words);
-            Outcome::of(answer, &[], &[], &words)
+            let counted = work.sets(&mut words).map(|count| [count.into()]);
+            Outcome {
+                words,
+                ..counts_due(counted)
+            }
         }
         Service::ChoiceCount => counts_due(work.choice_count().map(|count| [count.into()])),
+        Service::SameCount => counts_due(work.sets(&mut case.words.clone()).map(|_| [1])),
         Service::SeveralReadings => counts_due(work.several_readings().map(|yes| [yes.into()])),
         Service::StopMarks => bytes_due(&case.marks, |lent| work.stop_marks(lent)),
         Service::StepBytes => counts_due(

@@ -5,6 +5,7 @@ use crate::heads;
 use crate::miscount::{self, Miscount};
 use crate::misnumber::{self, Misnumber};
 use crate::misread::{self, Misread};
+use crate::misset::{self, Misset};
 use crate::writing::{self, Kind};
 use frames::Token;
 use reference::Work;
@@ -76,6 +77,8 @@ pub enum Fault {
     StepOfTwoBytes,
     /// Choices counted in a wrong way.
     Miscount(Miscount),
+    /// The words, the count and the refusal of the sets' call don't go together.
+    Misset(Misset),
     /// Readings counted, numbered or refused in a wrong way.
     Misnumber(Misnumber),
     /// A name of which the low bits count alone.
@@ -87,10 +90,12 @@ pub enum Fault {
 /// Every fault.
 pub fn all() -> Vec<Fault> {
     let choices = miscount::all().into_iter().map(Fault::Miscount);
+    let sets = misset::ALL.into_iter().map(Fault::Misset);
     let names = cut_names::all().into_iter().map(Fault::CutName);
     let numbers = misread::all().into_iter().map(Fault::Misread);
     let readings = misnumber::all().into_iter().map(Fault::Misnumber);
-    let drawn_up = choices.chain(readings).chain(names).chain(numbers);
+    let drawn_up = choices.chain(sets).chain(readings);
+    let drawn_up = drawn_up.chain(names).chain(numbers);
     FAULTS.into_iter().chain(drawn_up).collect()
 }
 
@@ -149,6 +154,7 @@ const FROM_STAGE_0: [(Fault, Service); 9] = [
 pub fn spoiled(fault: Fault, case: &Case, service: Service, outcome: Outcome) -> Outcome {
     match fault {
         Fault::Miscount(miscount) => return miscount.spoiled(case, service, outcome),
+        Fault::Misset(misset) => return misset.spoiled(case, service, outcome),
         Fault::Misnumber(misnumber) => return misnumber.spoiled(case, service, outcome),
         Fault::CutName(cut) => return cut.spoiled(case, service, outcome),
         Fault::Misread(misread) => return misread.spoiled(case, service, outcome),

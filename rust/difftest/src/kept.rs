@@ -15,7 +15,7 @@ pub fn kept(grammar: &[u8], history: &[u8]) -> Vec<Vec<Kept>> {
         return vec![];
     };
     let mut words = vec![0; 4 * positions];
-    work.sets(&mut words);
+    work.sets(&mut words).expect("files that pass, and room");
     let of_set = |set: &[u32]| {
         let rules = (0..read.rules.len()).filter(|rule| set[rule / 32] >> (rule % 32) & 1 == 1);
         let kept = |rule| Kept {

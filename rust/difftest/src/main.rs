@@ -4,8 +4,9 @@
 //!     difftest [--cases N] [--long] [--seed S] [--self-test]
 //!     difftest --help
 //!
-//! A case is a grammar file and a history file, with which every service is called once, and a list of calls made; that there is
-//! a choice exactly where there is more than one reading is seen to, and the bytes of a step are asked for at a position. Readings
+//! A case is a grammar file and a history file, with which every service is called once, and a list of calls made; that the count
+//! beside the sets is the choice count and that there is a choice exactly where there is more than one reading is seen to, and the
+//! bytes of a step are asked for at a position. Readings
 //! are counted, in all and with a rule at a position, where the counts of all rules add up; and one is asked for by its number,
 //! behind which the next one by its number is the one that a step leads to. Some files have counts around 2^64. The
 //! writers are called with elements, what they write is read back, and both files are written again from their numbers. Half of
@@ -26,6 +27,7 @@ mod make;
 mod miscount;
 mod misnumber;
 mod misread;
+mod misset;
 mod names;
 mod near_top;
 mod numbered;
@@ -114,7 +116,7 @@ fn show(case: &Case, difference: &Difference) {
             println!("  answers  {}", hex(&case.answers));
             println!("  lent     {}", hex(&case.buffer));
         }
-        Service::Sets => println!("  lent     {} words", case.words.len()),
+        Service::Sets | Service::SameCount => println!("  lent     {} words", case.words.len()),
         Service::StopMarks => println!("  lent     {}", hex(&case.marks)),
         Service::StepBytes => println!("  position {}", case.position),
         Service::ReadingCountAt | Service::CountsAddUp => {

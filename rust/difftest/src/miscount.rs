@@ -1,4 +1,4 @@
-//! Planted faults in the count of choices: a library that goes by the right sets in a wrong way.
+//! Planted faults in the count of choices, told by itself or beside the sets: a library that goes by the right sets in a wrong way.
 use crate::case::{Case, Outcome, Service};
 use crate::kept::{kept, Kept};
 use std::collections::HashSet;
@@ -31,49 +31,74 @@ enum Wrong {
     OneMore,
     /// As many as there are tokens, whatever the sets are.
     Invented,
+    /// 1 where there is none.
+    OneForNone,
+    /// What was counted is lost on the way out.
+    Lost,
 }
 
-/// It, in the count itself or in whether it is above 0.
+/// It, in the count by itself, in the count beside the sets, in whether both are the same, or in whether it is above 0.
 #[derive(Clone, Copy, PartialEq, Eq, Debug)]
 pub struct Miscount {
     wrong: Wrong,
     service: Service,
 }
 
-/// Every one that is planted. Those that are right in whether there is a choice at all can't be told by that.
+/// In either count.
+const COUNTED: [Wrong; 12] = [
+    Wrong::AnyTwo,
+    Wrong::JustBefore,
+    Wrong::StillNoted,
+    Wrong::ThreeBits,
+    Wrong::FourBits,
+    Wrong::EachWord,
+    Wrong::OneRule,
+    Wrong::EachRule,
+    Wrong::FirstLeftOut,
+    Wrong::LastLeftOut,
+    Wrong::OneMore,
+    Wrong::Invented,
+];
+
+/// In the count beside the sets alone.
+const BESIDE: [Wrong; 2] = [Wrong::OneForNone, Wrong::Lost];
+
+/// In one of both counts, so that they differ.
+const NOT_THE_SAME: [Wrong; 5] = [
+    Wrong::AnyTwo,
+    Wrong::LastLeftOut,
+    Wrong::OneMore,
+    Wrong::OneForNone,
+    Wrong::Lost,
+];
+
+/// In whether there is a choice at all: those that are right in that can't be told by it.
+const ABOVE_0: [Wrong; 8] = [
+    Wrong::NeverNoted,
+    Wrong::StillNoted,
+    Wrong::EachWord,
+    Wrong::OneRule,
+    Wrong::FirstLeftOut,
+    Wrong::LastLeftOut,
+    Wrong::OneMore,
+    Wrong::Invented,
+];
+
+/// Every one that is planted.
 pub fn all() -> Vec<Miscount> {
-    let counted = [
-        Wrong::AnyTwo,
-        Wrong::JustBefore,
-        Wrong::NeverNoted,
-        Wrong::StillNoted,
-        Wrong::ThreeBits,
-        Wrong::FourBits,
-        Wrong::EachWord,
-        Wrong::OneRule,
-        Wrong::EachRule,
-        Wrong::FirstLeftOut,
-        Wrong::LastLeftOut,
-        Wrong::OneMore,
-        Wrong::Invented,
+    let planted: [(Service, &[Wrong]); 6] = [
+        (Service::ChoiceCount, &COUNTED),
+        (Service::ChoiceCount, &[Wrong::NeverNoted]),
+        (Service::Sets, &COUNTED),
+        (Service::Sets, &BESIDE),
+        (Service::SameCount, &NOT_THE_SAME),
+        (Service::SeveralReadings, &ABOVE_0),
     ];
-    let above_0 = [
-        Wrong::NeverNoted,
-        Wrong::StillNoted,
-        Wrong::EachWord,
-        Wrong::OneRule,
-        Wrong::FirstLeftOut,
-        Wrong::LastLeftOut,
-        Wrong::OneMore,
-        Wrong::Invented,
-    ];
-    let in_service = |wrong: &[Wrong], service| {
+    let in_service = |(service, wrong): (Service, &[Wrong])| {
         let miscount = |&wrong: &Wrong| Miscount { wrong, service };
         wrong.iter().map(miscount).collect::<Vec<_>>()
     };
-    let mut all = in_service(&counted, Service::ChoiceCount);
-    all.extend(in_service(&above_0, Service::SeveralReadings));
-    all
+    planted.into_iter().flat_map(in_service).collect()
 }
 
 impl Miscount {
@@ -82,12 +107,15 @@ impl Miscount {
         if service != self.service || outcome.answer != 0 {
             return outcome;
         }
-        let count = self.wrong.count(&kept(&case.grammar, &case.history)) as u64;
+        let sets = kept(&case.grammar, &case.history);
+        let count = self.wrong.count(&sets);
         let given = match service {
+            Service::SameCount => u64::from(count == choices(&sets)),
             Service::SeveralReadings => u64::from(count > 0),
-            _ => count,
+            _ => count as u64,
         };
-        Outcome::of(0, &[given], &[], &[])
+        let counts = vec![given];
+        Outcome { counts, ..outcome }
     }
 }
 
@@ -99,6 +127,11 @@ fn met_again(met: &mut HashSet<u16>, set: &[Kept]) -> usize {
 
 fn is_choice(set: &[Kept]) -> bool {
     met_again(&mut HashSet::new(), set) > 0
+}
+
+/// The right count.
+fn choices(sets: &[Vec<Kept>]) -> usize {
+    sets.iter().filter(|set| is_choice(set)).count()
 }
 
 /// Whether a set is a choice by so many low bits of its stages.
@@ -144,6 +177,8 @@ impl Wrong {
             Wrong::LastLeftOut => taken(&sets[..sets.len().saturating_sub(2)]),
             Wrong::OneMore => taken(sets) + 1,
             Wrong::Invented => sets.len() - 1,
+            Wrong::OneForNone => taken(sets).max(1),
+            Wrong::Lost => 0,
             _ => taken(sets),
         }
     }
@@ -179,6 +214,9 @@ mod tests {
         let some = [AnyTwo, StillNoted, LastLeftOut];
         assert_eq!(counts(&ECHO, &marks, &some), [2, 1, 0]);
         assert_eq!(counts(&THREE, &marks, &[EachRule, JustBefore]), [2, 1]);
+        // right where there is a choice, and where there is none
+        assert_eq!(counts(&G, &step, &[OneForNone, Lost]), [1, 0]);
+        assert_eq!(counts(&G, &[1, 0], &[OneForNone, Lost]), [1, 0]);
         // stages 1 and 2 stand at two positions, and stage 0 at the first and at the last
         assert_eq!(counts(&G, &step, &[StillNoted, EachWord]), [3, 1]);
     }

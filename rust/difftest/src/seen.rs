@@ -118,7 +118,9 @@ impl Seen {
             Service::HistoryCheck => [0].into_iter().chain(history).collect(),
             Service::FirstReading => both.chain([15, 100]).collect(),
             Service::NextReading => both.chain([15, 16, 101]).collect(),
-            Service::Sets | Service::StopMarks | Service::RunCalls => both.chain([15]).collect(),
+            Service::Sets | Service::SameCount | Service::StopMarks | Service::RunCalls => {
+                both.chain([15]).collect()
+            }
             Service::ChoiceCount | Service::SeveralReadings => both.collect(),
             Service::ReadingCount | Service::CountsAddUp => both.chain([102]).collect(),
             Service::ReadingCountAt => both.chain([18, 102]).collect(),

@@ -205,6 +205,7 @@ fn all_rows() -> Option<(Case, Difference)> {
     let services = [
         Service::Sets,
         Service::ChoiceCount,
+        Service::SameCount,
         Service::SeveralReadings,
     ];
     let mut case = Case {

@@ -136,12 +136,14 @@ pub fn due_again(file: &[u8], kind: Kind) -> Outcome {
     }
 }
 
-/// And a grammar keeps its meaning: the words are the history's sets by what was written.
+/// And a grammar keeps its meaning: the words and the count are the history's sets and choices by what was written.
 pub fn library_grammar_again(grammar: &[u8], history: &[u8]) -> Outcome {
     let mut outcome = library_again(grammar, Kind::Grammar);
     if let Some(written) = outcome.lent.first() {
-        let sets = gaffmedlar::sets(written, history);
-        outcome.words = sets.map_or(vec![], |sets| sets.words().to_vec());
+        if let Ok(sets) = gaffmedlar::sets(written, history) {
+            outcome.words = sets.words().to_vec();
+            outcome.counts = vec![sets.choices() as u64];
+        }
     }
     outcome
 }
@@ -151,7 +153,8 @@ pub fn due_grammar_again(grammar: &[u8], work: &Work) -> Outcome {
     let mut outcome = due_again(grammar, Kind::Grammar);
     if let Some(positions) = work.positions() {
         outcome.words = vec![0; 4 * positions];
-        work.sets(&mut outcome.words);
+        let count = work.sets(&mut outcome.words).expect("room for all words");
+        outcome.counts = vec![count.into()];
     }
     outcome
 }

@@ -2,6 +2,7 @@
 
 pub mod choices;
 pub mod counts;
+pub mod sets;
 pub mod wide;
 
 /// A grammar, a history, and what is due for them: all readings in order, the stop marks, and the positions that are choices.

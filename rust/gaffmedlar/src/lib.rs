@@ -297,24 +297,36 @@ pub fn run_calls(
     }
 }
 
-/// The set of each position: the rules that stand there in some reading.
+/// The set of each position: the rules that stand there in some reading. The same pass counts the choices.
 pub fn sets(grammar: &[u8], history: &[u8]) -> Result<Sets, Refused> {
     let mut words = vec![0; WORDS_MAX];
-    sets_into(grammar, history, &mut words)?;
+    let choices = sets_into(grammar, history, &mut words)?;
     words.truncate(4 * (history_check(history)? + 1));
-    Ok(Sets { words })
+    Ok(Sets { words, choices })
 }
 
 /// The same as words in the caller's buffer: rule 32k + b stands at position p in some reading exactly when bit b of word
-/// 4p + k is 1. The buffer needs 4(n + 1) words; [`WORDS_MAX`] are enough for every history.
-pub fn sets_into(grammar: &[u8], history: &[u8], words: &mut [u32]) -> Result<(), Refused> {
-    done(wire::sets(grammar, history, words), grammar)
+/// 4p + k is 1. The buffer needs 4(n + 1) words, and those behind stay; [`WORDS_MAX`] are enough for every history.
+///
+/// It gives how many positions are choices: what [`choice_count`] gives, from the pass that writes the words.
+///
+/// ```
+/// # let grammar = [3, 7, 0, 0, 2, 0, 0, 1, 0, 0, 2, 0, 0, 2, 0, 0, 1, 1, 0, 1, 0, 1, 1, 2, 0, 2, 0, 2];
+/// let mut words = [7; 17];
+/// assert_eq!(gaffmedlar::sets_into(&grammar, &[3, 1, 0, 2], &mut words), Ok(1));
+/// assert_eq!(words, [6, 0, 0, 0, 40, 0, 0, 0, 80, 0, 0, 0, 1, 0, 0, 0, 7]);
+/// ```
+pub fn sets_into(grammar: &[u8], history: &[u8], words: &mut [u32]) -> Result<usize, Refused> {
+    let reply = wire::sets(grammar, history, words);
+    done(reply.answer, grammar)?;
+    Ok(reply.count as usize)
 }
 
 /// What [`sets`] gives.
 #[derive(Clone, Debug, PartialEq, Eq)]
 pub struct Sets {
     words: Vec<u32>,
+    choices: usize,
 }
 
 impl Sets {
@@ -341,13 +353,19 @@ impl Sets {
     pub fn words(&self) -> &[u32] {
         &self.words
     }
+
+    /// How many positions are choices, as [`choice_count`] gives it.
+    pub fn choices(&self) -> usize {
+        self.choices
+    }
 }
 
 /// How many positions are choices. A position is a choice when its set holds two rules of one and the same stage: a reading that
 /// has come to this stage there can go on by either. Where readings have different rules at a position only because each has come
 /// to a stage of its own, that is no choice: they differed before.
 ///
-/// There is more than one reading exactly when the count isn't 0. Where there is no reading it is 0.
+/// There is more than one reading exactly when the count isn't 0. Where there is no reading it is 0. Whoever wants the sets too has
+/// the count from them: [`Sets::choices`].
 ///
 /// ```
 /// // stage 0 ends, or makes a step with stage 1 or with stage 2 inside, each of which goes on by marks and ends

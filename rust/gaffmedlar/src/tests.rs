@@ -5,6 +5,7 @@ use frames::{g_from, wide, G, G_EXCHANGED};
 
 mod choices;
 mod counts;
+mod sets;
 
 #[test]
 fn numbers_and_words() {
@@ -36,7 +37,7 @@ fn services() {
     let all: Vec<Vec<u8>> = readings(&G, &history).unwrap().collect();
     assert_eq!(all, [vec![1, 3, 4, 0], vec![2, 5, 6, 0]]);
     let mut words = [9; 17];
-    assert_eq!(sets_into(&G, &history, &mut words), Ok(()));
+    assert_eq!(sets_into(&G, &history, &mut words), Ok(1));
     assert_eq!(words, [6, 0, 0, 0, 40, 0, 0, 0, 80, 0, 0, 0, 1, 0, 0, 0, 9]);
     assert_eq!(choice_count(&G, &history), Ok(1));
     let mut marks = [9; 5];
@@ -97,6 +98,7 @@ fn reads(grammar: &[u8], history: &[u8], due: &[Vec<u8>], due_marks: &[u8]) {
     }
     let choices = choice_count(grammar, history).unwrap();
     assert_eq!(choices, choices_of(grammar, due).len());
+    assert_eq!(sets.choices() as usize, choices);
     assert_eq!(choices > 0, due.len() > 1);
     let mut marks = vec![9; positions];
     assert_eq!(stop_marks(grammar, history, &mut marks), Ok(()));
@@ -232,22 +234,6 @@ fn refused_heads() {
     }
 }
 
-#[test]
-fn sets_by_position_and_rule() {
-    let sets = sets(&G, &[3, 1, 0, 2]).unwrap();
-    assert_eq!(sets.positions(), 4);
-    assert_eq!(sets.words().len(), 16);
-    let rules: Vec<Vec<u8>> = (0..5).map(|p| sets.rules(p).collect()).collect();
-    assert_eq!(rules, [vec![1, 2], vec![3, 5], vec![4, 6], vec![0], vec![]]);
-    assert!(sets.contains(1, 5) && !sets.contains(1, 4));
-    // rule 129 at position 0 is no bit of position 1
-    assert!(!sets.contains(0, 129) && !sets.contains(0, 131) && !sets.contains(4, 0));
-    assert!(!sets.contains(usize::MAX, 1));
-    // no reading: all sets are empty
-    let none = super::sets(&G, &[1, 0]).unwrap();
-    assert_eq!(none.words(), [0; 8]);
-}
-
 fn of_grammar<T>(refusal: Refusal) -> Result<T, Refused> {
     let file = Some(File::Grammar);
     Err(Refused { refusal, file })
@@ -288,7 +274,7 @@ fn which_file() {
                 due.map(|()| Next::Written)
             );
             assert_eq!(stop_marks(grammar, bad_history, buffer), due);
-            assert_eq!(sets_into(grammar, bad_history, &mut []), due);
+            assert_eq!(sets_into(grammar, bad_history, &mut []), due.map(|()| 0));
             assert_eq!(choice_count(grammar, bad_history), due.map(|()| 0));
             assert_eq!(readings(grammar, bad_history).err(), due.err());
             let answers = run_calls(grammar, bad_history, &[Call::Next], buffer);

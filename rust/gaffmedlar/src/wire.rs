@@ -113,7 +113,7 @@ mod linked {
             history_len: usize,
             words: *mut u32,
             words_len: usize,
-        ) -> u8;
+        ) -> CountReply;
         pub fn gaffmedlar_choice_count(
             grammar: *const u8,
             grammar_len: usize,
@@ -258,7 +258,7 @@ pub fn run_calls(
     }
 }
 
-pub fn sets(grammar: &[u8], history: &[u8], words: &mut [u32]) -> u8 {
+pub fn sets(grammar: &[u8], history: &[u8], words: &mut [u32]) -> CountReply {
     unsafe {
         linked::gaffmedlar_sets(
             grammar.as_ptr(),

@@ -149,15 +149,12 @@ impl Work {
         0
     }
 
-    pub fn sets(&self, words: &mut [u32]) -> u8 {
-        match self.served(|positions| 4 * positions, words.len()) {
-            Ok(served) => {
-                let sets = served.sets();
-                words[..sets.len()].copy_from_slice(sets);
-                0
-            }
-            Err(number) => number,
-        }
+    /// Writes the sets, and gives the number of choices; or the refusal.
+    pub fn sets(&self, words: &mut [u32]) -> Result<u32, u8> {
+        let served = self.served(|positions| 4 * positions, words.len())?;
+        let sets = served.sets();
+        words[..sets.len()].copy_from_slice(sets);
+        Ok(served.choices().len() as u32)
     }
 
     /// The number of choices, or the refusal.
@@ -318,6 +315,7 @@ impl Served {
 mod tests {
     use super::*;
     use frames::choices::{marks, steps, EITHER, EXAMPLES, SAMPLES};
+    use frames::sets::CALLS;
     use frames::{g_from, history_file, wide, Example, G, G_EXCHANGED};
 
     /// Every reading, the stop marks and the choice count.
@@ -403,6 +401,17 @@ mod tests {
         }
         assert_eq!(Work::new(&[1, 0], &[0]).choice_count(), Err(4));
         assert_eq!(Work::new(&G, &[1, 1]).choice_count(), Err(13));
+    }
+
+    /// The words, the count, and the words that stay.
+    #[test]
+    fn sets_with_their_count() {
+        for call in &CALLS {
+            let mut words = call.before();
+            let told = Work::new(call.grammar, call.history).sets(&mut words);
+            assert_eq!(told, call.due());
+            assert_eq!(words, call.after());
+        }
     }
 
     /// As many choices as there are marks or steps: more readings than can be listed.

@@ -31,6 +31,10 @@ abbrev pub countWire : Given ℕ → CountReply
 countWire (given n) = record { answer = 0; count = n }
 countWire (service.refused k) = record { answer = k; count = 0 }
 
+-- document 02, 2.7: the count of choices, with the words that the call leaves in its buffer
+abbrev pub setsWire : Given ℕ × List ℕ → CountReply × List ℕ
+setsWire p = (countWire (p .0), p .1)
+
 -- 0 with the count; 102, or the number of the refusal, with 0
 abbrev pub readingsWire : Given Told → ReadingsReply
 readingsWire (given (exact n)) = record { answer = 0; count = n }

@@ -11,6 +11,7 @@ use Rattle.contexts.specs.Context.{tokenHere}
 use Rattle.rule_set.specs.RuleSet.{waysIn, wordsIn}
 use Rattle.rule_set.proofs.Words.{add-length}
 use Rattle.rule_set.proofs.RuleSet.{ways-passed, words-passed}
+use Rattle.rule_set.proofs.Sums.{sum-most}
 use Rattle.rule_set.proofs.class_set.Statement.{statement}
 use Rattle.rule_set.proofs.class_set.Tie as tie
 
@@ -55,8 +56,13 @@ add-requires c κs =
 
 ways-with-requires : tie.Need-ways-with-requires Inv-loop μ-loop
 ways-with-requires c κs =
-    let s = c .before .before .before .before .before .before .before .before .before .before .before .before .before .before .before .before in
-    (omega (arith, s .pre .0 .0 .ready .few), s .pre .0 .0 .ready .small _ (c .before .before .before .before .before .before .before .loop-test .taken))
+    let l = c .before .before .before .before .before .before .before .before in
+    let s = l .before .before .before .before .before .before .before .before in
+    let x = s .pre .0 .0 in
+    let taken = c .before .before .before .before .before .before .before .loop-test .taken in (
+      (omega (arith, x .ready .few), x .ready .small _ taken),
+      rw (l .loop .inv .2) (sum-most (s .args .table .now) (s .args .here) (s .args .context) (l .loop .r) (λ q h. x .ready .small q (omega arith) .0)),
+    )
 
 loop-less : tie.Need-loop-less Inv-loop μ-loop
 loop-less c =

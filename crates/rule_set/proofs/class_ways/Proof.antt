@@ -9,6 +9,7 @@ use Rattle.rule_index.proofs.Walk.{starts, goes-on}
 use Rattle.contexts.specs.Context.{tokenHere}
 use Rattle.rule_set.specs.RuleSet.{waysIn}
 use Rattle.rule_set.proofs.RuleSet.{ways-passed}
+use Rattle.rule_set.proofs.Sums.{sum-most}
 use Rattle.rule_set.proofs.class_ways.Statement.{statement}
 use Rattle.rule_set.proofs.class_ways.Tie as tie
 
@@ -34,8 +35,12 @@ loop-holds c =
 
 ways-turn-requires : tie.Need-ways-turn-requires Inv-loop μ-loop
 ways-turn-requires c κs =
+    let l = c .before .loop in
     let s = c .before .before .before .before in
-    (omega (arith, s .pre .0 .ready .few), s .pre .0 .ready .small _ (c .loop-test .taken))
+    let x = s .pre .0 in (
+      (omega (arith, x .ready .few), x .ready .small _ (c .loop-test .taken)),
+      rw (l .inv .1) (sum-most (s .args .table .now) (s .args .here) (s .args .context) (l .r) (λ q h. x .ready .small q (omega arith) .0)),
+    )
 
 next-of-requires : tie.Need-next-of-requires Inv-loop μ-loop
 next-of-requires c κs = omega (arith, c .before .before .before .before .before .pre .0 .ready .few)

@@ -48,7 +48,7 @@ returns-2 : tie.Need-returns-2
 returns-2 c =
     let o = c .before .before .before .before .before .before .before .before .before .open-files .ensures in
     let k = o .passes _ _ (c .before .before .before .before .before .before .before .opened .given .1) in
-    rw (k .is, length-map (take _ _) tokenOf, c .before .before .sets-on .ensures)
+    rw (k .is, length-map (take _ _) tokenOf, c .before .before .sets-on .ensures .0, c .before .before .sets-on .ensures .1)
 
 pub sets-spec : {M : Type 1} → statement M
 sets-spec =

@@ -33,8 +33,14 @@ context-at-requires c κs = let s = c .before .before .before .before .before in
 ways-at-requires : tie.Need-ways-at-requires Inv-loop μ-loop
 ways-at-requires c κs = c .before .before .before .before .before .before .pre .indexed
 
+mul-counted : tie.Need-mul-counted Inv-loop μ-loop
+mul-counted c = search needs
+
+element-copy-out-counted : tie.Need-element-copy-out-counted Inv-loop μ-loop
+element-copy-out-counted c = search needs
+
 counted-requires : tie.Need-counted-requires Inv-loop μ-loop
-counted-requires c κs = omega (arith, c .before .before .before .before .before .before .before .pre .tokens .few, choices-most (c .before .before .before .loop .inv .1))
+counted-requires c κs = omega (arith, c .before .before .before .before .before .before .before .before .pre .tokens .few, choices-most (c .before .before .before .before .loop .inv .1))
 
 mul-onward : tie.Need-mul-onward Inv-loop μ-loop
 mul-onward c = search needs
@@ -44,7 +50,7 @@ element-copy-out-onward c = search needs
 
 onward-requires : tie.Need-onward-requires Inv-loop μ-loop
 onward-requires c κs =
-    let i = c .before .before .before .before .before in
+    let i = c .before .before .before .before .before .before in
     onward-room (i .before .before .before .before .before .pre) (i .before .loop .inv .0) (omega (arith, i .loop-test .taken))
 
 add-p : tie.Need-add-p Inv-loop μ-loop
@@ -55,12 +61,12 @@ loop-less c = search needs
 
 loop-again : tie.Need-loop-again Inv-loop μ-loop
 loop-again c =
-    let i = c .before .before .before .before .before .before in
+    let i = c .before .before .before .before .before .before .before in
     let x = i .before .before .before .before .before .pre in
     let l = i .before .loop in
     let h : l .p ≤ length (i .before .before .before .before .before .args .tokens .now) = omega (arith, i .loop-test .taken) in
-    let context = c .before .before .before .before .before .context-at in
-    let ways = c .before .before .before .before .ways-at .ensures in (
+    let context = c .before .before .before .before .before .before .context-at in
+    let ways = c .before .before .before .before .before .ways-at .ensures in (
       going-next x (l .inv .0) h (context .result) (context .ensures) ways (c .onward .ensures .0) (c .onward .ensures .1),
       choices-next (l .inv .1) (choice-here x (l .inv .0) h (context .result) (context .ensures) ways) (c .before .before .before .counted .ensures),
     )
@@ -83,6 +89,8 @@ choices-spec =
     loop-holds
     context-at-requires
     ways-at-requires
+    mul-counted
+    element-copy-out-counted
     counted-requires
     mul-onward
     element-copy-out-onward

@@ -9,10 +9,10 @@ add-result : tie.Need-add-result
 add-result c = search needs
 
 returns : tie.Need-returns
-returns c = rw (lt-ltb 0 (c .before .args .twice) (omega arith)) (omega arith)
+returns c = let a = c .before .args in rw (lt-ltb (a .met) (a .sum) (omega arith)) (omega arith)
 
 returns-2 : tie.Need-returns-2
-returns-2 c = rw (le-ltb 0 (c .before .args .twice) (omega arith)) (omega arith)
+returns-2 c = let a = c .before .args in rw (le-ltb (a .met) (a .sum) (omega arith)) (omega arith)
 
 pub counted-spec : {M : Type 1} → statement M
 counted-spec = tie.close (tie.spec add-result returns returns-2)

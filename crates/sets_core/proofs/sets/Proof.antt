@@ -1,4 +1,5 @@
--- `sets`: before position p the pass stands where `Going` says, and the words of the positions before p are written.
+-- `sets`: before position p the pass stands where `Going` says, and the words of the positions before p are written and
+-- the choices among them counted.
 use borrow.Author.Needs.{needs}
 use Prim.Native.Nat.{_+_, _-_, _*_, _≤_}
 use mathlib.Core.Path.{_≡_, _∙_}
@@ -8,16 +9,17 @@ use lib.ListN.{length}
 use Rattle.tables.specs.Ready.{grammarIn}
 use Rattle.history_file.specs.believed.HistoryFile.{tokensOf}
 use Rattle.levels.proofs.Levels.{tokens-length}
-use Rattle.sets_core.proofs.Pass.{Going, going-start, onward-room, going-next, words-here}
+use Rattle.sets_core.proofs.Pass.{Going, going-start, onward-room, going-next, words-here, choice-here}
+use Rattle.sets_core.proofs.Counts.{Choices, choices-none, choices-most, choices-next, choices-all}
 use Rattle.sets_core.proofs.Written.{Written, written-none, written-length, written-next, written-all}
 use Rattle.sets_core.proofs.sets.Statement.{statement}
 use Rattle.sets_core.proofs.sets.Tie as tie
 
 abbrev Inv-loop : tie.InvT-loop
-Inv-loop table head tokens closes masks words₀ n behind₀ here₀ p₀ words behind here p = Going table head tokens p here behind × Written (grammarIn table head) (tokensOf tokens) words₀ p words
+Inv-loop table head tokens closes masks words₀ n behind₀ here₀ count₀ p₀ words behind here count p = Going table head tokens p here behind × Written (grammarIn table head) (tokensOf tokens) words₀ p words × Choices (grammarIn table head) (tokensOf tokens) p count
 
 abbrev μ-loop : tie.MeasureT-loop
-μ-loop table head tokens closes masks words₀ n behind₀ here₀ p₀ words behind here p = length tokens + 1 - p
+μ-loop table head tokens closes masks words₀ n behind₀ here₀ count₀ p₀ words behind here count p = length tokens + 1 - p
 
 element-copy-out-start-set : tie.Need-element-copy-out-start-set Inv-loop μ-loop
 element-copy-out-start-set c = search needs
@@ -26,7 +28,7 @@ start-set-requires : tie.Need-start-set-requires Inv-loop μ-loop
 start-set-requires c κs = search needs
 
 loop-holds : tie.Need-loop-holds Inv-loop μ-loop
-loop-holds c = (rw (c .start-set .ensures) (going-start (c .before .before .before .before .pre .0)), written-none)
+loop-holds c = (rw (c .start-set .ensures) (going-start (c .before .before .before .before .pre .0)), written-none, choices-none)
 
 context-at-requires : tie.Need-context-at-requires Inv-loop μ-loop
 context-at-requires c κs = let s = c .before .before .before .before .before .before in (s .pre .0 .tokens, (omega arith, s .pre .0 .matched))
@@ -62,6 +64,17 @@ set-at-requires c κs =
     let four : 4 * l .p + 4 - 4 * l .p ≡ 4 = omega arith in
     (s .pre .0 .indexed, mid-len (4 * l .p) (4 * l .p + 4) (l .words) (omega (arith, s .pre .1, e)) ∙ four)
 
+mul-counted : tie.Need-mul-counted Inv-loop μ-loop
+mul-counted c = search needs
+
+element-copy-out-counted : tie.Need-element-copy-out-counted Inv-loop μ-loop
+element-copy-out-counted c = search needs
+
+counted-requires : tie.Need-counted-requires Inv-loop μ-loop
+counted-requires c κs =
+    let l = c .before .before .before .before .before .before .before in
+    omega (arith, l .before .before .before .before .before .pre .0 .tokens .few, choices-most (l .loop .inv .2))
+
 mul-onward : tie.Need-mul-onward Inv-loop μ-loop
 mul-onward c = search needs
 
@@ -70,25 +83,26 @@ element-copy-out-onward c = search needs
 
 onward-requires : tie.Need-onward-requires Inv-loop μ-loop
 onward-requires c κs =
-    let i = c .before .before .before .before .before .before .before in
+    let i = c .before .before .before .before .before .before .before .before .before in
     onward-room (i .before .before .before .before .before .before .pre .0) (i .before .loop .inv .0) (omega (arith, i .loop-test .taken))
 
 add-p : tie.Need-add-p Inv-loop μ-loop
-add-p c = let i = c .before .before .before .before .before .before .before .before in omega (arith, i .loop-test .taken, i .before .before .before .before .before .before .pre .0 .tokens .few)
+add-p c = let i = c .before .before .before .before .before .before .before .before .before .before in omega (arith, i .loop-test .taken, i .before .before .before .before .before .before .pre .0 .tokens .few)
 
 loop-less : tie.Need-loop-less Inv-loop μ-loop
 loop-less c = search needs
 
 loop-again : tie.Need-loop-again Inv-loop μ-loop
 loop-again c =
-    let i = c .before .before .before .before .before .before .before .before in
+    let i = c .before .before .before .before .before .before .before .before .before .before in
     let s = i .before .before .before .before .before .before in
     let l = i .before .loop in
     let h : l .p ≤ length (s .args .tokens .now) = omega (arith, i .loop-test .taken) in
-    let context = c .before .before .before .before .before .before .before .context-at in
-    let set = c .before .before .before .before .before .set-at .ensures in (
+    let context = c .before .before .before .before .before .before .before .before .before .context-at in
+    let set = c .before .before .before .before .before .before .before .set-at .ensures in (
       going-next (s .pre .0) (l .inv .0) h (context .result) (context .ensures) (set .0) (c .onward .ensures .0) (c .onward .ensures .1),
       written-next (l .inv .1) (omega (arith, s .pre .1)) (words-here (s .pre .0) (l .inv .0) h (context .result) (context .ensures) (set .1)),
+      choices-next (l .inv .2) (choice-here (s .pre .0) (l .inv .0) h (context .result) (context .ensures) (set .0)) (c .before .before .before .counted .ensures),
     )
 
 same-length : tie.Need-same-length Inv-loop μ-loop
@@ -99,7 +113,7 @@ returns c =
     let l = c .before .loop in
     let tokens = c .before .before .before .before .before .before .args .tokens .now in
     let e : l .p ≡ length tokens + 1 = omega (arith, l .inv .0 .within, c .loop-test .left) in
-    written-all (l .inv .1) (tokens-length tokens) e
+    (choices-all (l .inv .2) (tokens-length tokens) e, written-all (l .inv .1) (tokens-length tokens) e)
 
 pub sets-spec : {M : Type 1} → statement M
 sets-spec =
@@ -119,6 +133,9 @@ sets-spec =
     part-set-at-start
     part-set-at-end
     set-at-requires
+    mul-counted
+    element-copy-out-counted
+    counted-requires
     mul-onward
     element-copy-out-onward
     onward-requires

@@ -1,6 +1,6 @@
 //! Choices: what is due by the readings and the left sides of their rules, and by hand.
 use super::{example, reads};
-use crate::{choice_count, numbers, readings, write_grammar};
+use crate::{choice_count, numbers, readings, sets, write_grammar, Refused};
 use frames::choices::{marks, steps, EITHER, EXAMPLES, SAMPLES};
 use frames::{grammar_file, wide, Rule, G};
 
@@ -32,19 +32,27 @@ pub fn choices_of(grammar: &[u8], all: &[Vec<u8>]) -> Vec<usize> {
     (0..positions).filter(is_choice).collect()
 }
 
+/// How many choices there are: by the service that counts them, and by the sets, which are to tell the same.
+fn counted(grammar: &[u8], history: &[u8]) -> Result<usize, Refused> {
+    let count = choice_count(grammar, history);
+    let with_sets = sets(grammar, history).map(|sets| sets.choices() as usize);
+    assert_eq!(with_sets, count);
+    count
+}
+
 /// Two rules of one stage are a choice, and different rules of different stages are none.
 #[test]
 fn by_hand() {
     for due in &EXAMPLES {
         let (grammar, history, readings, marks) = example(due);
         assert_eq!(choices_of(&grammar, &readings), due.choices);
-        assert_eq!(choice_count(&grammar, &history), Ok(due.choices.len()));
+        assert_eq!(counted(&grammar, &history), Ok(due.choices.len()));
         reads(&grammar, &history, &readings, &marks);
         let longer = write_grammar(&numbers(&grammar)).unwrap();
         reads(&longer, &history, &readings, &marks);
     }
     for due in &wide::EXAMPLES {
-        let count = choice_count(due.grammar, due.history);
+        let count = counted(due.grammar, due.history);
         assert_eq!(count, Ok(due.choices.len()));
     }
 }
@@ -55,7 +63,7 @@ fn of_samples() {
     for (grammar, history, due) in SAMPLES {
         let all: Vec<Vec<u8>> = readings(grammar, history).unwrap().collect();
         assert_eq!(choices_of(grammar, &all), due);
-        assert_eq!(choice_count(grammar, history), Ok(due.len()));
+        assert_eq!(counted(grammar, history), Ok(due.len()));
         assert_eq!(all.len() > 1, !due.is_empty());
     }
 }
@@ -65,9 +73,9 @@ fn of_samples() {
 fn many_choices() {
     for count in [0, 1, 2, 31, 32, 1023, 1024] {
         let marks = marks(count);
-        assert_eq!(choice_count(&EITHER, &marks), Ok(count));
+        assert_eq!(counted(&EITHER, &marks), Ok(count));
         let steps = steps(count / 2);
-        assert_eq!(choice_count(&G, &steps), Ok(count / 2));
+        assert_eq!(counted(&G, &steps), Ok(count / 2));
     }
 }
 
@@ -87,7 +95,7 @@ fn of_two_stages() {
             let rest = [mark(low, end), mark(high, end), Rule::Ends { from: end }];
             let rules = [&to_both[..], &rest].concat();
             let grammar = grammar_file(32, Some(start), &rules);
-            assert_eq!(choice_count(&grammar, &[2, 0, 0]), Ok(1));
+            assert_eq!(counted(&grammar, &[2, 0, 0]), Ok(1));
             let all: Vec<Vec<u8>> = readings(&grammar, &[2, 0, 0]).unwrap().collect();
             assert_eq!(all, [[0, 2, 4], [1, 3, 4]]);
         }
@@ -122,7 +130,7 @@ fn in_all_words() {
     for start in 0..32 {
         for (low, high) in [(0, 1), (0, 127), (31, 32), (40, 50), (63, 96), (126, 127)] {
             let grammar = two_among_128(start, [low, high]);
-            assert_eq!(choice_count(&grammar, &history), Ok(1));
+            assert_eq!(counted(&grammar, &history), Ok(1));
             let all: Vec<Vec<u8>> = readings(&grammar, &history).unwrap().collect();
             let first: Vec<u8> = all.iter().map(|reading| reading[0]).collect();
             assert_eq!(first, [low as u8, high as u8]);
