@@ -814,8 +814,22 @@ static void without_pointers(void)
     due("the reading", reading[0], 0);
 }
 
+/* The version as a number, by its text and by the library. */
+static void versions(void)
+{
+    unsigned first, second, third;
+    if (sscanf(GAFFMEDLAR_VERSION, "%u.%u.%u", &first, &second, &third) != 3 ||
+        10000 * first + 100 * second + third != GAFFMEDLAR_VERSION_NUMBER ||
+        gaffmedlar_version() != GAFFMEDLAR_VERSION_NUMBER) {
+        printf("version %s, its number %d, and the library's, %u, differ\n", GAFFMEDLAR_VERSION, GAFFMEDLAR_VERSION_NUMBER,
+               (unsigned)gaffmedlar_version());
+        faults++;
+    }
+}
+
 int main(void)
 {
+    versions();
     without_pointers();
     steps();
     written_with_the_start();

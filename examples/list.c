@@ -1,7 +1,7 @@
 /* Lists the readings of a history: list_c GRAMMAR HISTORY
  *
- * The status is that of ./list: 0 readings are listed, 1 there is none, 2 a file is refused, 3 the listing could not be
- * written whole.
+ * The status is that of ./list: 0 readings are listed, 1 there is none, 2 a file is refused, 3 a file is missing or can't be read,
+ * or the listing could not be written whole.
  *
  * Build, in the repository's root:
  *     tools/build library
@@ -21,18 +21,20 @@ struct file {
     size_t length;
 };
 
-/* Reads the first bytes of a file; a missing one counts as empty, and is said. */
-static void read_file(const char *name, struct file *into)
+/* Reads the first bytes of a file. One that is missing or can't be read counts as empty, which is said and answered by 0. */
+static int read_file(const char *name, struct file *into)
 {
     FILE *file = fopen(name, "rb");
     if (file == NULL) {
         perror(name);
-        return;
+        return 0;
     }
     into->length = fread(into->bytes, 1, FILE_BYTES, file);
-    if (ferror(file))
+    int whole = !ferror(file);
+    if (!whole)
         perror(name);
     fclose(file);
+    return whole;
 }
 
 /* Prints the readings of two files that pass. The buffer is long enough, so 0, 100 and 101 are all that can come. */
@@ -86,9 +88,10 @@ int main(int count, char **words)
         fprintf(stderr, "usage: list_c GRAMMAR HISTORY\n");
         return FAILED;
     }
-    read_file(words[1], &grammar);
-    read_file(words[2], &history);
+    int readable = read_file(words[1], &grammar) & read_file(words[2], &history);
     enum status status = list(&grammar, &history);
+    if (!readable)
+        status = FAILED;
 
     /* printf keeps what it prints for a while: only now it is known whether all of it was written */
     int lost = ferror(stdout);

@@ -1,8 +1,10 @@
 /* Gaffmedlar: reads edit histories by a visibly pushdown grammar.
  *
- * Link target/staticlib/libgaffmedlar.a, which `rt staticlib gaffmedlar` writes (x86-64 Linux). Of C's library it needs
- * memcpy and memset, nothing else. Each function of the archive is proved to give what its definition gives, for files
- * and buffers of any length and content. README.md says what the two files hold, docs/SPECIFICATION.md all the rest.
+ * Link libgaffmedlar.a or libgaffmedlar.so (x86-64 Linux): in the repository `tools/build library` makes both, in
+ * target/staticlib and target/shared; installed, `pkg-config --cflags --libs gaffmedlar` names them. Of C's library they need
+ * memcpy and memset, nothing else. Each function is proved to give what its definition gives, for files and buffers of any
+ * length and content; what this header does by itself is not. docs/LINKING.md says how to link and to call, docs/GRAMMARS.md
+ * what the two files hold, docs/SPECIFICATION.md all the rest.
  *
  * Answers
  *
@@ -65,12 +67,20 @@
  *
  * Stack
  *
- * "Stack" below is what the function itself uses at most: measured on files at every limit, at least 1 KiB more, and
- * rounded up to 4 KiB. A thread needs some for its own start beside that: 64 KiB are enough for a thread that calls any
- * of the functions but three. gaffmedlar_reading_count, gaffmedlar_reading_count_at and gaffmedlar_reading_at take more,
- * since they hold a count of 64 bits for each stage at each position: 320 KiB are enough for a thread that calls them. Where
- * stacks are smaller, call them in a thread that has so much, or step through the readings with gaffmedlar_next_reading.
- * examples/stack.c measures all of this, and the gate fails where less than 1 KiB is left of a number stated here.
+ * "Stack" below is what a call uses at most: measured on files at every limit, with at least 1 KiB left, and rounded up to
+ * 4 KiB. It holds what C's memcpy and memset use on top of the function, and what the dynamic linker does when they are called
+ * for the first time, as glibc does on x86-64 with its widest registers. With another C library or linker some KiB can come on
+ * top: leave them room where a stack is cut to size. A thread needs some for its own start beside that:
+ * 64 KiB are enough for a thread that calls any of the functions but three. gaffmedlar_reading_count,
+ * gaffmedlar_reading_count_at and gaffmedlar_reading_at take more, since they hold a count of 64 bits for each stage at each
+ * position: 320 KiB are enough for a thread that calls them. Where stacks are smaller, call them in a thread that has so much,
+ * or step through the readings with gaffmedlar_next_reading. examples/stack.c reads these numbers here and measures all of it;
+ * the gate fails where less than 1 KiB is left of one.
+ *
+ * Structs
+ *
+ * A struct comes back by value. Between its fields there are bytes that belong to none of them (three behind an answer that
+ * stands before 32 bits, seven before 64), and their content is not promised: compare fields, not the bytes of two structs.
  */
 #ifndef GAFFMEDLAR_H
 #define GAFFMEDLAR_H
@@ -82,8 +92,10 @@
 extern "C" {
 #endif
 
-/* The version of the library; the same stands in the file VERSION. */
-#define GAFFMEDLAR_VERSION "0.2.0"
+/* The version that this header belongs to, as text and as a number: 10,000 times its first part, 100 times the second, and
+ * the third. gaffmedlar_version gives the number of the library that is linked or loaded. */
+#define GAFFMEDLAR_VERSION "0.3.0"
+#define GAFFMEDLAR_VERSION_NUMBER 300
 
 #define GAFFMEDLAR_OK 0
 #define GAFFMEDLAR_NO_READING 100
@@ -115,6 +127,8 @@ extern "C" {
 #define GAFFMEDLAR_STAGES_MAX 32
 #define GAFFMEDLAR_RULES_MAX 128
 #define GAFFMEDLAR_TOKENS_MAX 1024
+#define GAFFMEDLAR_OPEN_STEPS_MAX 128       /* steps that are open at once */
+#define GAFFMEDLAR_NAME_MAX 65535           /* the largest name of a mark, an open or a close */
 #define GAFFMEDLAR_READING_MAX 1025         /* bytes of a reading, and of the stop marks */
 #define GAFFMEDLAR_WORDS_MAX 4100           /* words of the sets */
 #define GAFFMEDLAR_GRAMMAR_BYTES_MAX 1285   /* bytes of a grammar file */
@@ -156,6 +170,10 @@ struct gaffmedlar_written {
     size_t length;  /* bytes of the file; 0 where refused */
 };
 
+/* The version of the library: GAFFMEDLAR_VERSION_NUMBER of the header that belongs to it. A program that loads a shared library
+ * compares the two before its first call. Libraries before 0.3.0 don't have this function. Stack: 8 KiB. */
+uint32_t gaffmedlar_version(void);
+
 /* Checks a grammar file. Answers 0 with the counts, or 1 to 9. Writes nothing. Stack: 8 KiB. */
 struct gaffmedlar_grammar gaffmedlar_grammar_check(const uint8_t *grammar, size_t grammar_len);
 
@@ -191,8 +209,10 @@ uint8_t gaffmedlar_run_calls(const uint8_t *grammar, size_t grammar_len, const u
  * With no reading all these words are 0, and so is the count.
  * Answers 0 (written) with the count; or, with count 0, 1 to 14 or 15 (words_len, a number of WORDS, below 4 (n + 1)).
  * Writes words[0] to words[4 n + 3], with answer 0 alone. Stack: 32 KiB.
- * In older headers it answers a number alone, the one that is now in the struct. A program that was compiled with such a
- * header has to be compiled again, since a struct is handed back in another way than a number. */
+ * Before 0.2.0 it answered a number alone, and the count that headers had then, gaffmedlar_doubtful_count, is gone: choices are
+ * counted in its place. A program that was written for such a header has to be changed and compiled again. (On x86-64 the struct
+ * comes back in one register with the number in its lowest byte, so that an older program reads the number and never sees the
+ * count. Nothing promises that.) */
 struct gaffmedlar_count gaffmedlar_sets(const uint8_t *grammar, size_t grammar_len, const uint8_t *history,
                                         size_t history_len, uint32_t *words, size_t words_len);
 
@@ -224,7 +244,7 @@ struct gaffmedlar_readings gaffmedlar_reading_count_at(const uint8_t *grammar, s
  * gaffmedlar_next_reading, which go on from it too.
  * Answers 0 (written), 1 to 14, 15 (reading_len below n + 1, also where there is no reading), or 18 (k is 0 or above the
  * count, which is every k where there is no reading). Where gaffmedlar_reading_count answers 102, no k but 0 is refused.
- * Writes reading[0] to reading[n], with answer 0 alone. Stack: 304 KiB. */
+ * Writes reading[0] to reading[n], with answer 0 alone. Stack: 308 KiB. */
 uint8_t gaffmedlar_reading_at(const uint8_t *grammar, size_t grammar_len, const uint8_t *history, size_t history_len,
                               uint64_t k, uint8_t *reading, size_t reading_len);
 
@@ -238,11 +258,11 @@ uint8_t gaffmedlar_stop_marks(const uint8_t *grammar, size_t grammar_len, const 
  * the position through the last byte of its close. They hold the tokens of the step and nothing else. The position is
  * counted in tokens, from 0, and may be any number.
  * A step has 2 bytes at least, so length 0 says that it is refused; start is then 0 too, and gaffmedlar_step_refusal says
- * why. Writes nothing. Stack: 8 KiB. */
+ * why. Writes nothing. Stack: 12 KiB. */
 struct gaffmedlar_part gaffmedlar_step_bytes(const uint8_t *history, size_t history_len, size_t position);
 
 /* Says why gaffmedlar_step_bytes gives an empty part. Answers 0 where it gives a step, else 1, 2, 9 to 14, or 17 (the
- * history passes, and no open stands at the position). Writes nothing. Stack: 8 KiB. */
+ * history passes, and no open stands at the position). Writes nothing. Stack: 12 KiB. */
 uint8_t gaffmedlar_step_refusal(const uint8_t *history, size_t history_len, size_t position);
 
 /* Writes a grammar file from its numbers in their order, one element each, with either beginning: the stage count, the rule
@@ -254,7 +274,7 @@ uint8_t gaffmedlar_step_refusal(const uint8_t *history, size_t history_len, size
  * few elements), 3 to 8, or 9 (elements follow the last rule), never 2; and where nothing is wrong with the numbers, 15
  * (file_len below the length of the file as it is written, with its start). An element may be any number: one that is too
  * large for every file gets the number of its place, 70,000 as a name 7, 4,294,967,295 as the stage count 3.
- * Writes file[0] to file[length - 1], with answer 0 alone. Stack: 8 KiB. */
+ * Writes file[0] to file[length - 1], with answer 0 alone. Stack: 12 KiB. */
 struct gaffmedlar_written gaffmedlar_write_grammar(const uint32_t *numbers, size_t numbers_len, uint8_t *file,
                                                    size_t file_len);
 

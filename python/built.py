@@ -6,24 +6,21 @@ import importlib
 import os
 import subprocess
 
-from streams import CouldNotRun, why
+from frames import FILE_BYTES  # noqa: F401
+from streams import INSTALLED, ROOT, CouldNotRun, why
 
-ROOT = os.path.dirname(os.path.dirname(os.path.realpath(__file__)))
-
-# The listing program reads so many bytes of a file and lists so many readings; so do the programs here. No file that passes is longer,
-# and what stands behind these bytes changes no answer.
-FILE_BYTES = 4096
+# The listing program lists so many readings.
 LIMIT = 1000
 
 
 def library():
-    if not os.environ.get("GAFFMEDLAR_LIBRARY"):
+    if not INSTALLED and not os.environ.get("GAFFMEDLAR_LIBRARY"):
         try:
-            build = subprocess.run([os.path.join(ROOT, "tools", "build"), "library"], stdin=subprocess.DEVNULL)
+            build = subprocess.run([os.path.join(ROOT, "tools", "build")], stdin=subprocess.DEVNULL)
         except OSError as e:
             raise CouldNotRun("tools/build can't be run: %s" % why(e))
         if build.returncode:
-            raise CouldNotRun("there is no library to work with: 'tools/build library' failed")
+            raise CouldNotRun("there is no library to work with: 'tools/build' failed")
     try:
         return importlib.import_module("gaffmedlar")
     except ImportError as e:

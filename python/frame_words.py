@@ -33,7 +33,7 @@ def notes_beside(path, kind, data):
 
 
 def rule_sentence(rule):
-    """A rule as README.md has it."""
+    """A rule in words."""
     if rule[0] == 0:
         return "stage %d becomes nothing" % rule[1]
     if rule[0] == 1:

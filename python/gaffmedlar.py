@@ -21,11 +21,13 @@ of one and the same stage. A history has more than one reading exactly when it h
 gives the sets and how many choices there are; `choice_count` gives that count alone.
 
 A count of readings is an int where it is at most 2^64 - 1, and OVER where there are more. `reading_count`,
-`reading_count_at`, `reading_at` and `reading_at_into` take up to 304 KiB of the stack of the thread that calls them, all
-others up to 48 KiB. A thread that Python starts has more, unless threading.stack_size has made it less.
+`reading_count_at`, `reading_at` and `reading_at_into` take up to 308 KiB of the stack of the thread that calls them, all
+others up to 48 KiB. A thread that Python starts has more, unless threading.stack_size has made it less; where it has less
+left than a call takes, and the system can tell, the call is not made and a RuntimeError says so.
 
-The library is the file that the environment variable GAFFMEDLAR_LIBRARY names; otherwise it is looked for beside the
-installed module, and in the repository's target/shared.
+The library is the file that the environment variable GAFFMEDLAR_LIBRARY names; otherwise the one that the repository has
+built, where this module lies in it, or the one that was installed with this module. Its version has to be the module's:
+another one is an ImportError that names both.
 """
 from __future__ import annotations
 
@@ -33,10 +35,13 @@ import ctypes
 import enum
 import operator
 import os
+import platform
+import sys
+import threading
 from array import array
 from typing import Any, Iterable, Iterator, List, NamedTuple, Optional, Union
 
-__version__ = "0.2.0"
+__version__ = "0.3.0"
 
 __all__ = [
     "Call", "CallAnswer", "First", "GRAMMAR_BYTES_MAX", "GrammarCounts", "HISTORY_BYTES_MAX", "Next", "OVER", "Over",
@@ -95,15 +100,20 @@ class Refusal(Exception):
     name     the number's name, as in the C header: "STILL_OPEN"
     words    what is wrong, in words
     file     "grammar" or "history", whichever file is at fault, or was to be written; None where it is the call (15 to 18)
+    element  of a writer: which of the numbers is at fault, counted from 0 (as many as there are, where one is missing); else None
+    place    of a writer: that element in words, with its rule or token and its field; else None
     """
 
-    def __init__(self, number: int, file: Optional[str]):
-        super().__init__(number, file)
+    def __init__(self, number: int, file: Optional[str], element: Optional[int] = None, place: Optional[str] = None):
+        super().__init__(number, file, element, place)
         row = REFUSALS[number - 1]
         self.number, self.name, self.words, self.file = row.number, row.name, row.words, file
+        self.element, self.place = element, place
 
     def __str__(self) -> str:
-        return "%s%s (%d)" % ("the %s: " % self.file if self.file else "", self.words, self.number)
+        said = ["the %s: " % self.file] if self.file else []
+        said += [self.place + ": "] if self.place else []
+        return "%s%s (%d)" % ("".join(said), self.words, self.number)
 
 
 # ---- answers
@@ -190,46 +200,69 @@ _RULE = [ctypes.c_size_t]
 _RULE_MAX = ctypes.c_size_t(-1).value
 _K = [ctypes.c_uint64]
 _K_MAX = ctypes.c_uint64(-1).value
-# What include/gaffmedlar.h declares: the reply, and a pointer and a number of elements for each file, list and buffer.
+# What include/gaffmedlar.h declares: the reply, a pointer and a number of elements for each file, list and buffer, and the KiB of stack.
 _SERVICES = {
-    "grammar_check": (_GrammarReply, _READ),
-    "history_check": (_HistoryReply, _READ),
-    "first_reading": (ctypes.c_uint8, _READ + _READ + _LENT),
-    "next_reading": (ctypes.c_uint8, _READ + _READ + _LENT),
-    "run_calls": (ctypes.c_uint8, _READ + _READ + _READ + _LENT + _LENT),
-    "sets": (_CountReply, _READ + _READ + _LENT),
-    "choice_count": (_CountReply, _READ + _READ),
-    "reading_count": (_ReadingsReply, _READ + _READ),
-    "reading_count_at": (_ReadingsReply, _READ + _READ + _POSITION + _RULE),
-    "reading_at": (ctypes.c_uint8, _READ + _READ + _K + _LENT),
-    "stop_marks": (ctypes.c_uint8, _READ + _READ + _LENT),
-    "step_bytes": (_PartReply, _READ + _POSITION),
-    "step_refusal": (ctypes.c_uint8, _READ + _POSITION),
-    "write_grammar": (_WriteReply, _ELEMENTS + _LENT),
-    "write_history": (_WriteReply, _ELEMENTS + _LENT),
+    "version": (ctypes.c_uint32, [], 8),
+    "grammar_check": (_GrammarReply, _READ, 8),
+    "history_check": (_HistoryReply, _READ, 8),
+    "first_reading": (ctypes.c_uint8, _READ + _READ + _LENT, 32),
+    "next_reading": (ctypes.c_uint8, _READ + _READ + _LENT, 40),
+    "run_calls": (ctypes.c_uint8, _READ + _READ + _READ + _LENT + _LENT, 48),
+    "sets": (_CountReply, _READ + _READ + _LENT, 32),
+    "choice_count": (_CountReply, _READ + _READ, 32),
+    "reading_count": (_ReadingsReply, _READ + _READ, 288),
+    "reading_count_at": (_ReadingsReply, _READ + _READ + _POSITION + _RULE, 288),
+    "reading_at": (ctypes.c_uint8, _READ + _READ + _K + _LENT, 308),
+    "stop_marks": (ctypes.c_uint8, _READ + _READ + _LENT, 28),
+    "step_bytes": (_PartReply, _READ + _POSITION, 12),
+    "step_refusal": (ctypes.c_uint8, _READ + _POSITION, 12),
+    "write_grammar": (_WriteReply, _ELEMENTS + _LENT, 12),
+    "write_history": (_WriteReply, _ELEMENTS + _LENT, 12),
 }
-# Where the library lies, seen from this module's folder: installed, and in the repository.
-_PLACES = ("../libgaffmedlar.so", "../../libgaffmedlar.so", "../../lib/libgaffmedlar.so", "../target/shared/libgaffmedlar.so")
+# Where the library lies, seen from this module's folder: in the repository its own build, and installed PREFIX/lib.
+_OWN_BUILD, _INSTALLED = "../target/shared/libgaffmedlar.so", "../../libgaffmedlar.so"
 
 
 def _library_path() -> str:
+    """The library's file. What lies elsewhere is not looked for: it could be of another version."""
     named = os.environ.get("GAFFMEDLAR_LIBRARY")
     if named:
         return named
     here = os.path.dirname(os.path.realpath(__file__))
-    places = [os.path.normpath(os.path.join(here, place)) for place in _PLACES]
-    for place in places:
-        if os.path.exists(place):
-            return place
+    in_repository = os.path.exists(os.path.join(here, "..", "tools", "build"))
+    place = os.path.normpath(os.path.join(here, _OWN_BUILD if in_repository else _INSTALLED))
+    if os.path.exists(place):
+        return place
     raise ImportError("libgaffmedlar.so is not there. In Gaffmedlar's folder run 'tools/build library', which makes it; or set "
-                      "GAFFMEDLAR_LIBRARY to its path. Looked for: " + ", ".join(places))
+                      "GAFFMEDLAR_LIBRARY to its path. Looked for: " + place)
+
+
+def _version_words(number: int) -> str:
+    """300 as 0.3.0."""
+    return "%d.%d.%d" % (number // 10000, number // 100 % 100, number % 100)
+
+
+def _compare_version(library: ctypes.CDLL, path: str) -> None:
+    """Refuses a library of another version than this module's: its answers could mean something else."""
+    library.gaffmedlar_grammar_check  # where it lacks this too, it is no library of this name at all
+    try:
+        function = library.gaffmedlar_version
+    except AttributeError:
+        said = "older than 0.3.0: it doesn't say its version"
+    else:
+        function.restype, function.argtypes = ctypes.c_uint32, []
+        said = "version " + _version_words(function())
+    if said != "version " + __version__:
+        raise ImportError("%s is %s, and the module %s is version %s. They belong together: in Gaffmedlar's folder 'tools/build library' makes "
+                          "the library of that version; GAFFMEDLAR_LIBRARY names another file" % (path, said, os.path.realpath(__file__), __version__))
 
 
 def _load(path: str) -> ctypes.CDLL:
     try:
         # with a slash in it the name is a path, and the system's own folders are not searched
         library = ctypes.CDLL(os.path.abspath(path))
-        for name, (reply, arguments) in _SERVICES.items():
+        _compare_version(library, path)
+        for name, (reply, arguments, _) in _SERVICES.items():
             function = getattr(library, "gaffmedlar_" + name)
             function.restype, function.argtypes = reply, arguments
     except (OSError, AttributeError) as e:
@@ -280,12 +313,64 @@ def _elements(values: Iterable[int]) -> Any:
     return (ctypes.c_uint32 * len(elements))(*elements)
 
 
+# ---- the stack of the thread that calls
+class _Context(ctypes.Structure):
+    """The beginning of what getcontext writes on x86-64 Linux, as far as the stack pointer, and room for the rest."""
+    _fields_ = [("before", ctypes.c_uint64 * 20), ("stack_pointer", ctypes.c_uint64), ("rest", ctypes.c_uint64 * 235)]
+
+
+_STACK_BESIDE = 12 << 10  # for ctypes, for what is bound at the first call, and for memcpy and memset
+_thread = threading.local()
+
+
+def _libc() -> Any:
+    """C's library where it can tell a thread's stack, else None."""
+    try:
+        libc = ctypes.CDLL(None)
+        known = libc.pthread_getattr_np, libc.pthread_attr_getstack, libc.pthread_attr_destroy, libc.pthread_self, libc.getcontext
+    except (OSError, AttributeError):
+        return None
+    libc.pthread_self.restype = ctypes.c_ulong
+    libc.pthread_getattr_np.argtypes = [ctypes.c_ulong, ctypes.c_void_p]
+    return libc if known and sys.platform == "linux" and platform.machine() == "x86_64" else None
+
+
+_c = _libc()
+
+
+def _stack() -> range:
+    """The addresses of this thread's stack; none where they aren't told. They are asked for once in each thread."""
+    if not hasattr(_thread, "stack"):
+        attributes, begins, size = (ctypes.c_uint64 * 16)(), ctypes.c_void_p(), ctypes.c_size_t()
+        told = _c.pthread_getattr_np(_c.pthread_self(), attributes) == 0
+        if told:
+            told = _c.pthread_attr_getstack(attributes, ctypes.byref(begins), ctypes.byref(size)) == 0
+            _c.pthread_attr_destroy(attributes)
+        first = begins.value or 0
+        _thread.stack = range(first, first + size.value) if told else range(0)
+    return _thread.stack
+
+
+def _need_stack(service: str) -> None:
+    """Raises where the service takes more of the stack than this thread has left: the call would end the whole program."""
+    if _c is None:
+        return
+    stack, context = _stack(), _Context()
+    if not stack or _c.getcontext(ctypes.byref(context)) != 0 or context.stack_pointer not in stack:
+        return
+    kib, left = _SERVICES[service][2], context.stack_pointer - stack.start
+    if left < (kib << 10) + _STACK_BESIDE:
+        raise RuntimeError("%s takes up to %d KiB of the stack, and this thread has %d KiB left: call it in a thread that is started after "
+                           "threading.stack_size(%d << 10)" % (service, kib, left >> 10, kib + 208))
+
+
 def _call(service: str, *values: Any) -> Any:
     """Calls a service with the address and the number of elements of each value, and a position, a rule or a k as it is.
 
     A buffer's array is an argument of this function alone, so that an exception which is raised for the answer doesn't
     keep it, and with it the caller's buffer, from being released.
     """
+    _need_stack(service)
     arguments = [part for value in values for part in ((value,) if isinstance(value, int) else (value, len(value)))]
     return getattr(_library, "gaffmedlar_" + service)(*arguments)
 
@@ -560,11 +645,112 @@ def numbers(file: Any) -> List[int]:
     return found + [_ELEMENT_MAX] * (place > 0)
 
 
+# ---- which element a writer's refusal is about; plain Python beside the proved services, which give the refusal alone
+_STAGES_MAX = 32
+_RULES_MAX = 128
+_TOKENS_MAX = 1024
+_OPEN_STEPS_MAX = 128
+_NAME_MAX = 65535
+# The fields behind a rule's form, by form: the letter of document 01, and what it is.
+_FIELDS = (
+    {"L": "the stage on the left"},
+    {"L": "the stage on the left", "c": "the mark's name", "L1": "the stage behind the mark"},
+    {"L": "the stage on the left", "a": "the open's name", "L1": "the stage inside the step", "b": "the close's name", "L2": "the stage behind the close"},
+)
+
+
+class _Found(Exception):
+    """The first fault of some numbers: the number of the refusal, the element, and its place in words."""
+
+
+class _Walk:
+    """Goes through the numbers of a file and raises _Found at the first fault."""
+
+    def __init__(self, numbers: List[int]):
+        self.numbers, self.at = numbers, 0
+
+    def next(self, what: str, least: int, most: int, refusal: int) -> int:
+        if self.at == len(self.numbers):
+            raise _Found(1, self.at, "element %d is missing: %s" % (self.at, what))
+        number = self.numbers[self.at]
+        if not least <= number <= most:
+            raise _Found(refusal, self.at, "element %d is %d: %s" % (self.at, number, what))
+        self.at += 1
+        return number
+
+    def ends(self, item: str) -> None:
+        if self.at < len(self.numbers):
+            raise _Found(9, self.at, "element %d stands behind the last %s" % (self.at, item))
+
+
+def _rule_walked(walk: _Walk, rule: int, stages: int) -> List[int]:
+    first = walk.at
+    form = walk.next("the form of rule %d" % rule, 0, 2, 5)
+    for letter, words in _FIELDS[form].items():
+        most, refusal = (stages - 1, 6) if letter.startswith("L") else (_NAME_MAX, 7)
+        walk.next("field %s of rule %d, %s" % (letter, rule, words), 0, most, refusal)
+    return walk.numbers[first:walk.at]
+
+
+def _grammar_walked(walk: _Walk) -> None:
+    says_start = walk.numbers[:1] == [0]
+    walk.at += says_start
+    stages = walk.next("the stage count", 1, _STAGES_MAX, 3)
+    if says_start:
+        walk.next("the start stage", 0, stages - 1, 6)
+    seen: List[List[int]] = []
+    for rule in range(walk.next("the rule count", 1, _RULES_MAX, 4)):
+        first, own = walk.at, _rule_walked(walk, rule, stages)
+        if own in seen:
+            raise _Found(8, first, "elements %d to %d, rule %d, are those of rule %d" % (first, walk.at - 1, rule, seen.index(own)))
+        seen.append(own)
+    walk.ends("rule")
+
+
+def _token_walked(walk: _Walk, token: int, opens: List[int]) -> None:
+    at, number = walk.at, walk.next("token %d" % token, 0, 4 * _NAME_MAX + 3, 11)
+    kind = ("mark", "open", "close", None)[number % 4]
+    said = "element %d is %d: token %d, " % (at, number, token) + ("%s %d" % (kind, number // 4) if kind else "of kind 3")
+    if kind is None:
+        raise _Found(11, at, said)
+    if kind == "open":
+        if len(opens) == _OPEN_STEPS_MAX:
+            raise _Found(14, at, said)
+        opens.append(at)
+    elif kind == "close":
+        if not opens:
+            raise _Found(12, at, said)
+        opens.pop()
+
+
+def _history_walked(walk: _Walk) -> None:
+    opens: List[int] = []
+    for token in range(walk.next("the token count", 0, _TOKENS_MAX, 10)):
+        _token_walked(walk, token, opens)
+    if opens:
+        number = walk.numbers[opens[-1]]
+        raise _Found(13, opens[-1], "element %d is %d: token %d, open %d, which nothing closes" % (opens[-1], number, opens[-1] - 1, number // 4))
+    walk.ends("token")
+
+
+def _not_written(number: int, kind: str, numbers: List[int]) -> Refusal:
+    """A writer's refusal, with its element where the walk finds the same fault."""
+    if _whose(number) == "call":
+        return Refusal(number, None)
+    try:
+        {"grammar": _grammar_walked, "history": _history_walked}[kind](_Walk(numbers))
+    except _Found as found:
+        if found.args[0] == number:
+            return Refusal(number, kind, *found.args[1:])
+    return Refusal(number, kind)
+
+
 def _written(kind: str, values: Iterable[int], file: Any) -> int:
     """The length of the grammar or the history that is written into the buffer `file`."""
-    reply = _call("write_" + kind, _elements(values), _lent(file))
+    elements = _elements(values)
+    reply = _call("write_" + kind, elements, _lent(file))
     if reply.answer != 0:
-        raise Refusal(reply.answer, None if _whose(reply.answer) == "call" else kind)
+        raise _not_written(reply.answer, kind, list(elements))
     return reply.length
 
 
@@ -575,7 +761,8 @@ def write_grammar_into(numbers: Iterable[int], file: Any) -> int:
     or the stage count and the rule count alone, where stage 0 is the start. Behind it stand the numbers of each rule. What is
     written always has its start: from numbers without one the file is two bytes longer than in the short form, and the buffer
     has to hold that. 1 says that there are too few numbers, 9 that there are too many. Bytes behind the file stay;
-    GRAMMAR_BYTES_MAX bytes are enough for every grammar. A number below 0 or above 4,294,967,295 is a ValueError.
+    GRAMMAR_BYTES_MAX bytes are enough for every grammar. A number below 0 or above 4,294,967,295 is a ValueError. The refusal
+    says which element is at fault: its `element`, and its `place` in words.
     """
     return _written("grammar", numbers, file)
 

@@ -224,12 +224,17 @@ def too_deep(file, refused):
 FOUND = {1: cut_off, 2: number_form, 8: rule_twice, 9: bytes_follow, 11: no_token, 12: no_step_open, 13: still_open, 14: too_deep}
 
 
-def report(name, file, refused):
-    """The lines on a file that is refused."""
+def row_of(number):
+    """The row of docs/refusals.tsv."""
     try:
-        row = table(ROOT)[refused.number - 1]
+        return table(ROOT)[number - 1]
     except OSError as e:
         raise CouldNotRun("docs/refusals.tsv: can't be read: %s" % why(e))
+
+
+def report(name, file, refused):
+    """The lines on a file that is refused."""
+    row = row_of(refused.number)
     line = "" if file.bytes_shown else "line %d: " % file.text.line(refused)
     yield "%s: %srefused by %d: %s" % (name, line, refused.number, row["words"])
     for said in FOUND.get(refused.number, out_of_range)(file, refused):

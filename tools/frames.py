@@ -33,6 +33,16 @@ MOST = (1 << 7 * NUMBER_BYTES) - 1
 NAME_MOST = 65535
 TOKEN_MOST = 4 * NAME_MOST + 2
 
+# The most stages and rules of a grammar, tokens of a history, and steps that are open at once.
+STAGES_MOST = 32
+RULES_MOST = 128
+TOKENS_MOST = 1024
+OPEN_STEPS_MOST = 128
+
+# As many bytes of a file the listing program reads, and the commands too. No file that passes is longer, and what stands behind these bytes
+# changes no answer.
+FILE_BYTES = 4096
+
 
 class Grammar(NamedTuple):
     """What a grammar file says, in the order of grammar_bytes, so that grammar_bytes(*grammar) is the file again.
@@ -168,9 +178,9 @@ def read_beginning(reader):
     recorded = reader.data[:1] == b"\x00"
     if recorded:
         reader.number("leading 0")
-    stages = reader.within("stage count", 1, 32, 3)
+    stages = reader.within("stage count", 1, STAGES_MOST, 3)
     start = reader.within("start", 0, stages - 1, 6) if recorded else None
-    reader.due = reader.within("rule count", 1, 128, 4)
+    reader.due = reader.within("rule count", 1, RULES_MOST, 4)
     return stages, start
 
 
@@ -194,7 +204,7 @@ def read_grammar(data, lax=False):
 def read_history(data, lax=False):
     """A history file's tokens."""
     reader = Reader(data, lax)
-    reader.due = reader.within("token count", 0, 1024, 10)
+    reader.due = reader.within("token count", 0, TOKENS_MOST, 10)
     tokens, opens = [], []
     for item in range(reader.due):
         reader.begin(item)
@@ -203,7 +213,7 @@ def read_history(data, lax=False):
         if t % 4 == 3:
             reader.refuse(11, at, must=True, field="token", value=t, allowed=(0, TOKEN_MOST))
         if t % 4 == 1:
-            if len(opens) == 128:
+            if len(opens) == OPEN_STEPS_MOST:
                 reader.refuse(14, at, field="token", value=t, others=opens)
             opens.append((item, at))
         if t % 4 == 2:

@@ -10,6 +10,7 @@ import sys
 
 import judges
 from frames import CLOSE, EXCHANGED, G, OPEN
+from usage import answered
 
 GRAMMAR, HISTORY = 0, 1
 CASES = []
@@ -561,6 +562,7 @@ for label, file, answer in others(HISTORY, small_files(HISTORY)):
 
 
 def main():
+    answered(__doc__, sys.argv[1:], not sys.argv[1:])
     labels = [label for _, label, _, _ in CASES]
     assert len(labels) == len(set(labels)), "a label stands twice"
     assert all(len(label) < 256 and len(file) <= 4096 for _, label, file, _ in CASES)

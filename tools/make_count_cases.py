@@ -15,6 +15,7 @@ from judges import Bytes, Refused, judge_grammar, judge_history
 from make_listings import readings
 from make_vectors import Draw
 from wide_names import chains
+from usage import answered
 
 HALF, LAST = 1 << 63, (1 << 64) - 1
 
@@ -570,6 +571,7 @@ def drawn_large(wanted):
 
 
 def main():
+    answered(__doc__, sys.argv[1:], not sys.argv[1:])
     examples()
     examples_at_the_top()
     small()

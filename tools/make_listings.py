@@ -15,6 +15,7 @@ import judges
 from choice_frames import choice_frames
 from frames import CLOSE, EXCHANGED, G, MARK, OPEN, Refused, grammar_bytes, history_bytes, read_grammar, read_history
 from wide_names import chains, lost, masks
+from usage import answered
 
 
 # ---- readings: from a stage at a position, what is still due being a chain of (close name, stage after it)
@@ -284,6 +285,7 @@ def listing_held(grammar, history):
 
 
 if __name__ == "__main__":
+    answered(__doc__, sys.argv[1:], not sys.argv[1:])
     for part in (samples, of_document_01, recorded_starts, wide_names, told_apart, renamed, refusals, many_readings, counted_by_hand):
         part()
     with open("crates/test_listings/data/cases.bin", "wb") as f:

@@ -12,6 +12,7 @@ import sys
 
 from frames import grammar_bytes, history_bytes
 from make_listings import listing
+from usage import answered
 
 PIECE = 1 << 20
 
@@ -40,6 +41,5 @@ def main(folder):
 
 
 if __name__ == "__main__":
-    if len(sys.argv) != 2:
-        sys.exit(__doc__.strip())
+    answered(__doc__, sys.argv[1:], len(sys.argv) == 2 and not sys.argv[1].startswith("-"))
     main(sys.argv[1])

@@ -12,6 +12,7 @@ import sys
 
 from case_files import write_cases
 from frames import CLOSE, MARK, OPEN, Refused, history_bytes, read_history
+from usage import answered
 
 HALF, LAST = 1 << 63, (1 << 64) - 1
 CASES = []
@@ -280,6 +281,7 @@ def packed(label, file, position, answer):
 
 
 def main():
+    answered(__doc__, sys.argv[1:], not sys.argv[1:])
     examples()
     refused_numbers()
     refused_tokens()

@@ -13,6 +13,7 @@ from choice_frames import choice_frames
 from frames import CLOSE, EXCHANGED, G, MARK, OPEN, Refused, grammar_bytes, history_bytes, read_grammar, read_history
 from make_listings import choices, readings
 from wide_names import PAIRS, chains, lost, masks
+from usage import answered
 
 SHOW, MARKS = 1, 2
 ALL = 65535
@@ -383,6 +384,7 @@ def drawn_thrice(wanted):
 
 
 if __name__ == "__main__":
+    answered(__doc__, sys.argv[1:], not sys.argv[1:])
     of_document_01()
     limits_of_document_01()
     recorded_starts()

@@ -13,6 +13,7 @@ import frames
 import judges
 from case_files import write_cases
 from frames import CLOSE, EXCHANGED, G, MARK, MOST, OPEN
+from usage import answered
 
 GRAMMAR, HISTORY = 0, 1
 KINDS = ["grammar", "history"]
@@ -734,6 +735,7 @@ def packed(which, label, elements, before, number, length, after):
 
 
 def main():
+    answered(__doc__, sys.argv[1:], not sys.argv[1:])
     examples()
     wide_examples()
     for part in (too_few_or_too_many_rules, grammar_heads, grammar_limits, names, stages_of_rules, equal_rules, names_of_one_bit):

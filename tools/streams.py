@@ -1,13 +1,19 @@
 """Files in and out for the commands: a clear message for whatever goes wrong, and nothing half written."""
+import errno
 import os
+import re
 import signal
 import stat
 import sys
 import tempfile
 import traceback
 
-# The statuses of a command. 1 is left to ./list, where it says that there is no reading.
+# The statuses of a command. 1 is left to those that read frames: there is no reading.
 DONE, REFUSED, COULD_NOT_RUN = 0, 2, 3
+
+ROOT = os.path.dirname(os.path.dirname(os.path.realpath(__file__)))
+# In an installed copy nothing can be built, and the commands have other names.
+INSTALLED = not os.path.exists(os.path.join(ROOT, "tools", "build"))
 
 # A longer text is no readable form of a grammar or a history.
 MOST_TEXT = 1 << 22
@@ -30,8 +36,40 @@ def shown(path):
     return "standard input" if path == "-" else printable(path)
 
 
+def called(text):
+    """A text of ours with the commands by the names that they have here: ./check is gaffmedlar-check where it is installed."""
+    return re.sub(r"(?:\./|tools/)(list|survey|explain|check|text)\b", r"gaffmedlar-\1", text) if INSTALLED else text
+
+
+def about(words, doc):
+    """Says what a command is, or its version, where the words ask for that and nothing else; whether they do."""
+    if words in (["-h"], ["--help"]):
+        say([called(doc.strip())])
+    elif words == ["--version"]:
+        with open(os.path.join(ROOT, "VERSION"), encoding="ascii") as file:
+            say(["gaffmedlar " + file.read().strip()])
+    else:
+        return False
+    return True
+
+
+def taken(words, option):
+    """Whether an option stands among the words, before a '--', and the words without it."""
+    end = words.index("--") if "--" in words else len(words)
+    return option in words[:end], [word for word in words[:end] if word != option] + words[end:]
+
+
 def why(error):
-    return error.strerror or str(error)
+    return "a loop of links" if error.errno == errno.ELOOP else error.strerror or str(error)
+
+
+def open_plain(path):
+    """A file to be read. What is no plain file is not opened, since it could keep us waiting, but for a pipe that the shell hands over."""
+    mode = os.stat(path).st_mode
+    handed_over = path == "/dev/stdin" or path.startswith("/dev/fd/")
+    if not stat.S_ISREG(mode) and not stat.S_ISDIR(mode) and not (handed_over and stat.S_ISFIFO(mode)):
+        raise OSError("no plain file")
+    return open(path, "rb")
 
 
 def read_start(path, most):
@@ -39,7 +77,7 @@ def read_start(path, most):
     try:
         if path == "-":
             return start_of(standard("stdin"), most)
-        with open(path, "rb") as file:
+        with open_plain(path) as file:
             return start_of(file, most)
     except OSError as e:
         raise CouldNotRun("%s: can't be read: %s" % (shown(path), why(e)))
@@ -116,8 +154,9 @@ def say(lines):
 
 def complain(command, message):
     """A message to standard error, where it is open."""
+    name = "gaffmedlar-" + command if INSTALLED else command
     try:
-        standard("stderr").write(encoded("%s: %s\n" % (command, message), sys.stderr))
+        standard("stderr").write(encoded("%s: %s\n" % (name, message), sys.stderr))
         standard("stderr").flush()
     except OSError:
         pass

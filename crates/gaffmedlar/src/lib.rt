@@ -22,6 +22,18 @@ ghost use Rattle.stop_marks.specs.believed.StopMarks.{marksDue};
 ghost use Rattle.step_bytes.specs.believed.StepBytes.{stepOf, numberIn};
 ghost use Rattle.writers.specs.believed.Writers.{grammarWritten, historyWritten};
 ghost use Rattle.replies.specs.believed.Wire.{grammarWire, historyWire, countWire, setsWire, readingsWire, outcomeWire, callsWire, partWire, stepCode, writeWire};
+ghost use Rattle.gaffmedlar.specs.believed.Version.{version};
+
+// 10,000 times the first part of the version, 100 times the second, and the third.
+const VERSION: u32 = 300;
+
+// The version of the library, for whoever was compiled or written for one.
+#[no_mangle]
+pub extern "C" fn gaffmedlar_version() -> u32
+    ensures { λ r. ⌜ r ≡ version ⌝ }
+{
+    VERSION
+}
 
 #[no_mangle]
 pub extern "C" fn gaffmedlar_grammar_check(grammar: &[u8]) -> GrammarReply

@@ -30,6 +30,7 @@ use std::path::{Path, PathBuf};
 use std::process::ExitCode;
 
 const USAGE: &str = "usage: bench [--quick] [--docs] [--out DIR] [--before BENCH]
+       bench --help | --version
 
 Prints a table of times, and writes bench.csv and bench.svg into target/bench. It takes two to three minutes.
 
@@ -41,6 +42,8 @@ Prints a table of times, and writes bench.csv and bench.svg into target/bench. I
   --places         tells the places of the services that this bench has: what --before asks first
   --answer         makes the rounds that another bench asks for on standard input: what --before calls";
 
+const VERSION: &str = concat!("gaffmedlar ", env!("CARGO_PKG_VERSION"));
+
 struct Options {
     quick: bool,
     folder: PathBuf,
@@ -48,7 +51,7 @@ struct Options {
 }
 
 enum Task {
-    Usage,
+    Say(&'static str),
     Measure(Options),
     Places,
     Answer,
@@ -73,7 +76,8 @@ fn task() -> Result<Task, String> {
             }
             Some("--places") => return Ok(Task::Places),
             Some("--answer") => return Ok(Task::Answer),
-            Some("-h" | "--help") => return Ok(Task::Usage),
+            Some("-h" | "--help") => return Ok(Task::Say(USAGE)),
+            Some("--version") => return Ok(Task::Say(VERSION)),
             _ => return Err(format!("{} is no option\n{USAGE}", word.to_string_lossy())),
         }
     }
@@ -141,8 +145,8 @@ fn measure(options: &Options) -> Result<(), String> {
 
 fn main() -> ExitCode {
     let done = match task() {
-        Ok(Task::Usage) => {
-            println!("{USAGE}");
+        Ok(Task::Say(text)) => {
+            println!("{text}");
             Ok(())
         }
         Ok(Task::Measure(options)) => measure(&options),

@@ -58,6 +58,7 @@ const LIMIT_EVERY: usize = 200;
 const SELF_EVERY: u64 = 8;
 
 const USAGE: &str = "usage: difftest [--cases N] [--long] [--seed S] [--self-test]
+       difftest --help | --version
 
 Compares the proved library with the reference, on 200,000 cases unless told.
 
@@ -72,7 +73,7 @@ struct Options {
     cases: u64,
     seed: u64,
     self_test: bool,
-    help: bool,
+    said: Option<&'static str>,
 }
 
 fn options() -> Result<Options, String> {
@@ -80,7 +81,7 @@ fn options() -> Result<Options, String> {
         cases: CASES,
         seed: 1,
         self_test: false,
-        help: false,
+        said: None,
     };
     let mut words = std::env::args().skip(1);
     while let Some(word) = words.next() {
@@ -93,7 +94,8 @@ fn options() -> Result<Options, String> {
             "--seed" => options.seed = number()?,
             "--long" => options.cases = LONG,
             "--self-test" => options.self_test = true,
-            "-h" | "--help" => options.help = true,
+            "-h" | "--help" => options.said = Some(USAGE),
+            "--version" => options.said = Some(concat!("gaffmedlar ", env!("CARGO_PKG_VERSION"))),
             _ => return Err(format!("{word} is no option\n{USAGE}")),
         }
     }
@@ -226,8 +228,10 @@ fn self_test(options: &Options) -> bool {
 
 fn run() -> ExitCode {
     let well = match options() {
-        Ok(options) if options.help => {
-            println!("{USAGE}");
+        Ok(Options {
+            said: Some(text), ..
+        }) => {
+            println!("{text}");
             true
         }
         Ok(options) if options.self_test => self_test(&options),

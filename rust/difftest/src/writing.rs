@@ -4,7 +4,7 @@ use crate::case::{Lent, Outcome, BYTE};
 use crate::faults::Fault;
 use crate::heads;
 use frames::numbers_file;
-use gaffmedlar::{raw, Refusal};
+use gaffmedlar::{raw, NotWritten};
 use reference::Work;
 
 /// What a writer is called with: the numbers of a file, one element each, and the buffer.
@@ -43,7 +43,7 @@ impl Kind {
         }
     }
 
-    fn write_whole(self, elements: &[u32]) -> Result<Vec<u8>, Refusal> {
+    fn write_whole(self, elements: &[u32]) -> Result<Vec<u8>, NotWritten> {
         match self {
             Kind::Grammar => gaffmedlar::write_grammar(elements),
             Kind::History => gaffmedlar::write_history(elements),
@@ -77,7 +77,7 @@ impl Kind {
 }
 
 /// What the library's writer gives. A file that was written is checked and read back: the counts are its length, the
-/// check's answer and counts, the words its numbers.
+/// check's answer and counts, the words its numbers. Of elements that are refused it is counted whether the wrapper names one.
 pub fn library(writing: &Writing, kind: Kind) -> Outcome {
     let mut guarded = Lent::new(&writing.buffer, BYTE);
     let reply = kind.write(&writing.elements, guarded.part());
@@ -89,6 +89,11 @@ pub fn library(writing: &Writing, kind: Kind) -> Outcome {
         counts.push(answer.into());
         counts.extend(of_file);
         words = gaffmedlar::numbers(file);
+    }
+    if reply.answer != 0 {
+        let refused = kind.write_whole(&writing.elements).err();
+        let named = refused.is_some_and(|refused| refused.element.is_some());
+        counts.push(named.into());
     }
     Outcome::of(reply.answer, &counts, &[&bytes], &words)
 }
@@ -103,7 +108,7 @@ pub fn due(writing: &Writing, kind: Kind) -> Outcome {
             counts.extend(kind.counts(&numbers));
             Outcome::of(0, &counts, &[&buffer], &numbers)
         }
-        Err(number) => Outcome::of(number, &[0], &[&buffer], &[]),
+        Err(number) => Outcome::of(number, &[0, (number != 15).into()], &[&buffer], &[]),
     }
 }
 
@@ -114,7 +119,7 @@ pub fn library_again(file: &[u8], kind: Kind) -> Outcome {
     match kind.check(file) {
         (0, _) => match again(file).and_then(|once| Ok([again(&once)?, once])) {
             Ok([twice, once]) => Outcome::of(0, &[], &[&once, &twice], &[]),
-            Err(refusal) => Outcome::of(refusal.number(), &[], &[], &[]),
+            Err(refused) => Outcome::of(refused.refusal.number(), &[], &[], &[]),
         },
         (number, _) => Outcome::of(number, &[], &[], &[]),
     }

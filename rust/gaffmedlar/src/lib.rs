@@ -2,8 +2,12 @@
 //!
 //! Every function here calls one proved service of the archive `libgaffmedlar.a` and turns its number into an enum; [`numbers`]
 //! alone is plain Rust. The files are byte strings of any content; a file or a buffer that does not pass is answered by a
-//! [`Refused`], and then no element of a buffer changes. The bytes of one step, which need a history alone, and the writers,
-//! which make one file, are refused by the [`Refusal`] itself. README.md says what the two files hold.
+//! [`Refused`], and then no element of a buffer changes. The bytes of one step, which need a history alone,
+//! are refused by the [`Refusal`] itself, and the writers by [`NotWritten`], which names the element at fault.
+//! docs/GRAMMARS.md says what the two files hold.
+//!
+//! The archive has to be of this crate's version, [`VERSION`]: the first call compares, and panics with both versions and the
+//! archive's path where it isn't.
 //!
 //! A grammar file says its start stage, behind a leading 0 and the stage count, or else starts at stage 0. Every function goes
 //! by that start; [`write_grammar`] always writes it out.
@@ -16,8 +20,8 @@
 
 mod counts;
 mod numbers;
-#[cfg(test)]
-mod tests;
+mod places;
+mod version;
 mod wire;
 mod writers;
 
@@ -26,7 +30,10 @@ pub use counts::{
     NumberedReadings, ReadingCount,
 };
 pub use numbers::numbers;
-pub use writers::{write_grammar, write_grammar_into, write_history, write_history_into};
+pub use version::{library_version, VERSION};
+pub use writers::{
+    write_grammar, write_grammar_into, write_history, write_history_into, NotWritten,
+};
 
 use std::fmt;
 use std::ops::Range;
@@ -140,6 +147,13 @@ impl fmt::Display for Refused {
 }
 
 impl std::error::Error for Refused {}
+
+// What a file can have, for the words of a refusal.
+const STAGES_MAX: u32 = 32;
+const RULES_MAX: u32 = 128;
+const TOKENS_MAX: u32 = 1024;
+const OPEN_STEPS_MAX: u32 = 128;
+const NAME_MAX: u32 = 65535;
 
 /// Bytes of the longest reading: of a history of 1,024 tokens.
 pub const READING_MAX: usize = 1025;

@@ -1,4 +1,5 @@
 //! What include/gaffmedlar.h declares.
+use crate::version::compare;
 
 /// 0 and the counts, or the number of the refusal and zeros.
 #[repr(C)]
@@ -53,6 +54,7 @@ mod linked {
     use super::{CountReply, GrammarReply, HistoryReply, PartReply, ReadingsReply, WriteReply};
 
     extern "C" {
+        pub fn gaffmedlar_version() -> u32;
         pub fn gaffmedlar_grammar_check(grammar: *const u8, grammar_len: usize) -> GrammarReply;
         pub fn gaffmedlar_history_check(history: *const u8, history_len: usize) -> HistoryReply;
         pub fn gaffmedlar_first_reading(
@@ -156,15 +158,23 @@ mod linked {
 // Each call below hands over slices as pointer and length. The proved functions read and write within these lengths
 // only, ask nothing of their content, keep no pointer and end, so the calls are sound.
 
+/// 10,000 times the first part of the version, 100 times the second, and the third.
+pub fn version() -> u32 {
+    unsafe { linked::gaffmedlar_version() }
+}
+
 pub fn grammar_check(grammar: &[u8]) -> GrammarReply {
+    compare();
     unsafe { linked::gaffmedlar_grammar_check(grammar.as_ptr(), grammar.len()) }
 }
 
 pub fn history_check(history: &[u8]) -> HistoryReply {
+    compare();
     unsafe { linked::gaffmedlar_history_check(history.as_ptr(), history.len()) }
 }
 
 pub fn first_reading(grammar: &[u8], history: &[u8], reading: &mut [u8]) -> u8 {
+    compare();
     unsafe {
         linked::gaffmedlar_first_reading(
             grammar.as_ptr(),
@@ -178,6 +188,7 @@ pub fn first_reading(grammar: &[u8], history: &[u8], reading: &mut [u8]) -> u8 {
 }
 
 pub fn next_reading(grammar: &[u8], history: &[u8], reading: &mut [u8]) -> u8 {
+    compare();
     unsafe {
         linked::gaffmedlar_next_reading(
             grammar.as_ptr(),
@@ -191,6 +202,7 @@ pub fn next_reading(grammar: &[u8], history: &[u8], reading: &mut [u8]) -> u8 {
 }
 
 pub fn reading_count(grammar: &[u8], history: &[u8]) -> ReadingsReply {
+    compare();
     unsafe {
         linked::gaffmedlar_reading_count(
             grammar.as_ptr(),
@@ -207,6 +219,7 @@ pub fn reading_count_at(
     position: usize,
     rule: usize,
 ) -> ReadingsReply {
+    compare();
     unsafe {
         linked::gaffmedlar_reading_count_at(
             grammar.as_ptr(),
@@ -221,6 +234,7 @@ pub fn reading_count_at(
 
 /// Readings are counted from 1.
 pub fn reading_at(grammar: &[u8], history: &[u8], k: u64, reading: &mut [u8]) -> u8 {
+    compare();
     unsafe {
         linked::gaffmedlar_reading_at(
             grammar.as_ptr(),
@@ -242,6 +256,7 @@ pub fn run_calls(
     answers: &mut [u8],
     buffer: &mut [u8],
 ) -> u8 {
+    compare();
     unsafe {
         linked::gaffmedlar_run_calls(
             grammar.as_ptr(),
@@ -259,6 +274,7 @@ pub fn run_calls(
 }
 
 pub fn sets(grammar: &[u8], history: &[u8], words: &mut [u32]) -> CountReply {
+    compare();
     unsafe {
         linked::gaffmedlar_sets(
             grammar.as_ptr(),
@@ -272,6 +288,7 @@ pub fn sets(grammar: &[u8], history: &[u8], words: &mut [u32]) -> CountReply {
 }
 
 pub fn choice_count(grammar: &[u8], history: &[u8]) -> CountReply {
+    compare();
     unsafe {
         linked::gaffmedlar_choice_count(
             grammar.as_ptr(),
@@ -283,6 +300,7 @@ pub fn choice_count(grammar: &[u8], history: &[u8]) -> CountReply {
 }
 
 pub fn stop_marks(grammar: &[u8], history: &[u8], marks: &mut [u8]) -> u8 {
+    compare();
     unsafe {
         linked::gaffmedlar_stop_marks(
             grammar.as_ptr(),
@@ -296,14 +314,17 @@ pub fn stop_marks(grammar: &[u8], history: &[u8], marks: &mut [u8]) -> u8 {
 }
 
 pub fn step_bytes(history: &[u8], position: usize) -> PartReply {
+    compare();
     unsafe { linked::gaffmedlar_step_bytes(history.as_ptr(), history.len(), position) }
 }
 
 pub fn step_refusal(history: &[u8], position: usize) -> u8 {
+    compare();
     unsafe { linked::gaffmedlar_step_refusal(history.as_ptr(), history.len(), position) }
 }
 
 pub fn write_grammar(numbers: &[u32], file: &mut [u8]) -> WriteReply {
+    compare();
     unsafe {
         linked::gaffmedlar_write_grammar(
             numbers.as_ptr(),
@@ -315,6 +336,7 @@ pub fn write_grammar(numbers: &[u32], file: &mut [u8]) -> WriteReply {
 }
 
 pub fn write_history(numbers: &[u32], file: &mut [u8]) -> WriteReply {
+    compare();
     unsafe {
         linked::gaffmedlar_write_history(
             numbers.as_ptr(),

@@ -1,8 +1,8 @@
 //! The sets service: its words and its count by hand, what stays of the lent words, and the sets by position and rule.
 use super::{of_call, of_grammar, of_history};
-use crate::{choice_count, raw, sets, sets_into, Refusal};
 use frames::sets::{Call, CALLS};
 use frames::G;
+use gaffmedlar::{choice_count, raw, sets, sets_into, Refusal};
 
 /// The numbers of the library as they are: beside a refusal the count is 0, and no word has changed.
 #[test]

@@ -1,13 +1,13 @@
 //! Counts of readings and the k-th of them: by hand, up to the largest exact count and over it, and by stepping.
 use super::{of_call, of_grammar, of_history};
-use crate::ReadingCount::{Exact, Over};
-use crate::{
-    numbered_readings, raw, reading_at, reading_at_into, reading_count, reading_count_at, readings,
-    ReadingCount, Refusal, Refused,
-};
 use frames::choices::{marks, steps, EXAMPLES, SAMPLES};
 use frames::counts::{examples, Count, Example, POWER_LESS_ONE};
 use frames::{g_from, grammar_file, wide, Rule, G};
+use gaffmedlar::ReadingCount::{Exact, Over};
+use gaffmedlar::{
+    numbered_readings, raw, reading_at, reading_at_into, reading_count, reading_count_at, readings,
+    ReadingCount, Refusal, Refused,
+};
 
 /// A count as this crate tells it.
 fn told(count: Count) -> ReadingCount {
@@ -26,7 +26,7 @@ fn kth_by_hand(example: &Example) {
     for (k, due) in &example.readings {
         let due = due.clone().or_else(out_of_range);
         assert_eq!(reading_at(grammar, history, *k), due);
-        let positions = crate::history_check(history).unwrap() + 1;
+        let positions = gaffmedlar::history_check(history).unwrap() + 1;
         let mut lent = vec![77; positions + 3];
         let given = reading_at_into(grammar, history, *k, &mut lent);
         assert_eq!(given, due.clone().map(|_| ()));
@@ -98,7 +98,7 @@ fn is_listed(grammar: &[u8], history: &[u8]) {
     let above = listed.len() as u64 + 1;
     assert_eq!((all.get(above), all.from(above).next()), (None, None));
     assert_eq!(all.into_iter().collect::<Vec<_>>(), listed);
-    for position in 0..=crate::history_check(history).unwrap() {
+    for position in 0..=gaffmedlar::history_check(history).unwrap() {
         for rule in 0..=128 {
             let has = |reading: &&Vec<u8>| usize::from(reading[position]) == rule;
             let count = listed.iter().filter(has).count();
@@ -128,7 +128,7 @@ fn counts_add_up() {
     for example in examples() {
         let all = numbered_readings(&example.grammar, &example.history).unwrap();
         let Exact(total) = all.count() else { continue };
-        for position in 0..=crate::history_check(&example.history).unwrap() {
+        for position in 0..=gaffmedlar::history_check(&example.history).unwrap() {
             let counts = (0..128).map(|rule| all.count_at(position, rule).exact());
             let sum: u64 = counts
                 .map(|count| count.expect("not above the total"))

@@ -1,11 +1,15 @@
 //! The wrapper on examples: every service, both beginnings of a grammar, names of up to three bytes, refusals.
-use super::*;
+#![cfg(test)]
 use choices::choices_of;
 use frames::{g_from, wide, G, G_EXCHANGED};
+use gaffmedlar::*;
+use std::ops::Range;
 
 mod choices;
 mod counts;
+mod numbers;
 mod sets;
+mod writers;
 
 #[test]
 fn numbers_and_words() {

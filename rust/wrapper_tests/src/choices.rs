@@ -1,8 +1,8 @@
 //! Choices: what is due by the readings and the left sides of their rules, and by hand.
 use super::{example, reads};
-use crate::{choice_count, numbers, readings, sets, write_grammar, Refused};
 use frames::choices::{marks, steps, EITHER, EXAMPLES, SAMPLES};
 use frames::{grammar_file, wide, Rule, G};
+use gaffmedlar::{choice_count, numbers, readings, sets, write_grammar, Refused};
 
 /// The left side of each rule of a grammar that passes.
 fn left_sides(grammar: &[u8]) -> Vec<u32> {
