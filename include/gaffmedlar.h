@@ -182,14 +182,14 @@ struct gaffmedlar_history gaffmedlar_history_check(const uint8_t *history, size_
 
 /* Gives the first reading.
  * Answers 0 (written), 100 (none), 1 to 14, or 15 (reading_len below n + 1, also where there is no reading).
- * Writes reading[0] to reading[n], with answer 0 alone. Stack: 32 KiB. */
+ * Writes reading[0] to reading[n], with answer 0 alone. Stack: 28 KiB. */
 uint8_t gaffmedlar_first_reading(const uint8_t *grammar, size_t grammar_len, const uint8_t *history,
                                  size_t history_len, uint8_t *reading, size_t reading_len);
 
 /* Overwrites the reading in the first n + 1 bytes of the buffer by the one that comes next in the order.
  * Answers 0 (written), 101 (it is the last one), 1 to 14, 15 (reading_len below n + 1), or 16 (the first n + 1 bytes are
  * no reading). Bytes behind these are not looked at.
- * Writes reading[0] to reading[n], with answer 0 alone. Stack: 40 KiB. */
+ * Writes reading[0] to reading[n], with answer 0 alone. Stack: 32 KiB. */
 uint8_t gaffmedlar_next_reading(const uint8_t *grammar, size_t grammar_len, const uint8_t *history,
                                 size_t history_len, uint8_t *reading, size_t reading_len);
 
@@ -199,7 +199,7 @@ uint8_t gaffmedlar_next_reading(const uint8_t *grammar, size_t grammar_len, cons
  * refused, or a buffer_len below n + 1, is told there, once for each call. Where answers_len is below calls_len no call
  * is made: it answers 1 to 14 where a file is refused, else 15.
  * Writes answers[0] to answers[calls_len - 1], with answer 0 alone, and buffer[0] to buffer[n] where a call of the list
- * writes a reading. Stack: 48 KiB. */
+ * writes a reading. Stack: 40 KiB. */
 uint8_t gaffmedlar_run_calls(const uint8_t *grammar, size_t grammar_len, const uint8_t *history,
                              size_t history_len, const uint8_t *calls, size_t calls_len, uint8_t *answers,
                              size_t answers_len, uint8_t *buffer, size_t buffer_len);
@@ -208,7 +208,7 @@ uint8_t gaffmedlar_run_calls(const uint8_t *grammar, size_t grammar_len, const u
  * stands at position p in some reading, else 0. The count is that of gaffmedlar_choice_count, which says what a choice is.
  * With no reading all these words are 0, and so is the count.
  * Answers 0 (written) with the count; or, with count 0, 1 to 14 or 15 (words_len, a number of WORDS, below 4 (n + 1)).
- * Writes words[0] to words[4 n + 3], with answer 0 alone. Stack: 32 KiB.
+ * Writes words[0] to words[4 n + 3], with answer 0 alone. Stack: 28 KiB.
  * Before 0.2.0 it answered a number alone, and the count that headers had then, gaffmedlar_doubtful_count, is gone: choices are
  * counted in its place. A program that was written for such a header has to be changed and compiled again. (On x86-64 the struct
  * comes back in one register with the number in its lowest byte, so that an older program reads the number and never sees the
@@ -220,7 +220,7 @@ struct gaffmedlar_count gaffmedlar_sets(const uint8_t *grammar, size_t grammar_l
  * reading that has come to this stage there can go on by either. Where readings have different rules at a position only
  * because each has come to a stage of its own, that is no choice: they differed before. The history has more than one
  * reading exactly when the count isn't 0. Whoever wants the sets gets the same count with them, from gaffmedlar_sets.
- * Answers 0 with the count (0 where there is no reading), or 1 to 14. Writes nothing. Stack: 32 KiB. */
+ * Answers 0 with the count (0 where there is no reading), or 1 to 14. Writes nothing. Stack: 28 KiB. */
 struct gaffmedlar_count gaffmedlar_choice_count(const uint8_t *grammar, size_t grammar_len, const uint8_t *history,
                                                 size_t history_len);
 

@@ -22,7 +22,7 @@ gives the sets and how many choices there are; `choice_count` gives that count a
 
 A count of readings is an int where it is at most 2^64 - 1, and OVER where there are more. `reading_count`,
 `reading_count_at`, `reading_at` and `reading_at_into` take up to 308 KiB of the stack of the thread that calls them, all
-others up to 48 KiB. A thread that Python starts has more, unless threading.stack_size has made it less; where it has less
+others up to 40 KiB. A thread that Python starts has more, unless threading.stack_size has made it less; where it has less
 left than a call takes, and the system can tell, the call is not made and a RuntimeError says so.
 
 The library is the file that the environment variable GAFFMEDLAR_LIBRARY names; otherwise the one that the repository has
@@ -205,11 +205,11 @@ _SERVICES = {
     "version": (ctypes.c_uint32, [], 8),
     "grammar_check": (_GrammarReply, _READ, 8),
     "history_check": (_HistoryReply, _READ, 8),
-    "first_reading": (ctypes.c_uint8, _READ + _READ + _LENT, 32),
-    "next_reading": (ctypes.c_uint8, _READ + _READ + _LENT, 40),
-    "run_calls": (ctypes.c_uint8, _READ + _READ + _READ + _LENT + _LENT, 48),
-    "sets": (_CountReply, _READ + _READ + _LENT, 32),
-    "choice_count": (_CountReply, _READ + _READ, 32),
+    "first_reading": (ctypes.c_uint8, _READ + _READ + _LENT, 28),
+    "next_reading": (ctypes.c_uint8, _READ + _READ + _LENT, 32),
+    "run_calls": (ctypes.c_uint8, _READ + _READ + _READ + _LENT + _LENT, 40),
+    "sets": (_CountReply, _READ + _READ + _LENT, 28),
+    "choice_count": (_CountReply, _READ + _READ, 28),
     "reading_count": (_ReadingsReply, _READ + _READ, 288),
     "reading_count_at": (_ReadingsReply, _READ + _READ + _POSITION + _RULE, 288),
     "reading_at": (ctypes.c_uint8, _READ + _READ + _K + _LENT, 308),

@@ -1,11 +1,12 @@
 -- The laws of `bit` and `addBit`, over every width.
-use Prim.Native.Nat.{ℕ, zero, suc, _+_, _-_, _/_, _%_, _^_, _<_, _≤_}
+use Prim.Native.Nat.{ℕ, zero, suc, _+_, _*_, _-_, _/_, _%_, _^_, _<_, _≤_}
 use mathlib.Core.Bool.{true, false, _||_, _&&_}
-use mathlib.Core.Path.{_≡_, refl, sym, _∙_, ap}
-use native.Mathlib.Nat.{zero-div, div-one, div-eq-of-lt, lt-of-lt-of-le, mod-lt, pow-suc, mul-div-cancel, mul-mod-left, mod-eq-of-lt}
+use mathlib.Core.Path.{_≡_, refl, sym, _∙_, ap, ap₂}
+use native.Mathlib.Nat.{zero-add, div-add-mod', zero-div, div-one, div-eq-of-lt, lt-of-lt-of-le, mod-lt, pow-suc, mul-div-cancel, mul-mod-left, mod-eq-of-lt}
+use native.Mathlib.Decide.{decLt}
 use native.Mathlib.Omega.{arith}
-use borrow.Author.Tests.{eq-eqb}
-use lib.Dec.{eqb, lit<, eqb·zero-suc, eqb·suc-zero, eqb·suc-suc}
+use borrow.Author.Tests.{eq-eqb, le-leb, lt-leb}
+use lib.Dec.{eqb, leb, lit<, eqb·zero-suc, eqb·suc-zero, eqb·suc-suc}
 use lib.Arith.{lt-one}
 use lib.Bits.{bitAnd, bitOr, and-shr, and-mod, and-mask, or-shr, or-mod, or-lt}
 use lib.Pow.{pow-pos, pow-lt, pow-mono, shr-shr, shr-lt}
@@ -112,3 +113,44 @@ bit-all k b l =
 -- a set within a width that has no member is empty
 pub no-member : (k m : ℕ) → m < 2 ^ k → ((b : ℕ) → b < k → bit m b ≡ false) → m ≡ 0
 no-member k m h e = same k m 0 h (pow-pos k) (λ b l. e b l ∙ sym (bit-zero b))
+
+-- ── two sets in one word ──
+
+-- the digits behind the first k are those of the quotient
+pub bit-shift : (k m b : ℕ) → bit (m / 2 ^ k) b ≡ bit m (k + b)
+bit-shift k m b = rw (← shr-shr m k b)
+
+twice : (k h : ℕ) → h * 2 ^ suc k ≡ 2 * (h * 2 ^ k)
+twice k h = rw (pow-suc 2 k) (omega arith)
+
+halved : (k m h : ℕ) → (m + h * 2 ^ suc k) / 2 ≡ m / 2 + h * 2 ^ k
+halved k m h = rw (twice k h) (omega arith)
+
+pub joined-low : (k m h b : ℕ) → b < k → bit (m + h * 2 ^ k) b ≡ bit m b
+joined-low zero m h b l = absurd (omega arith)
+joined-low (suc k) m h zero l =
+    let e : (m + 2 * (h * 2 ^ k)) % 2 ≡ m % 2 = omega arith in
+    bit-first (m + h * 2 ^ suc k) ∙ rw (twice k h, e) refl ∙ sym (bit-first m)
+joined-low (suc k) m h (suc b) l = bit-suc (m + h * 2 ^ suc k) b ∙ rw (halved k m h) (joined-low k (m / 2) h b (omega arith)) ∙ sym (bit-suc m b)
+
+pub joined-high : (k m h b : ℕ) → m < 2 ^ k → bit (m + h * 2 ^ k) (k + b) ≡ bit h b
+joined-high zero m h b l = let e : m + h * 2 ^ 0 ≡ h = omega (arith, lt-one l) in rw (e, zero-add b)
+joined-high (suc k) m h b l =
+    let e : suc k + b ≡ suc (k + b) = omega arith in
+    rw (e, bit-suc (m + h * 2 ^ suc k) (k + b), halved k m h) (joined-high k (m / 2) h b (half k m l))
+
+-- the first k digits are those of the remainder
+pub bit-mod : (k m b : ℕ) → b < k → bit (m % 2 ^ k) b ≡ bit m b
+bit-mod k m b l =
+    let e : m % 2 ^ k + m / 2 ^ k * 2 ^ k ≡ m = omega (arith, div-add-mod' m (2 ^ k)) in
+    sym (joined-low k (m % 2 ^ k) (m / 2 ^ k) b l) ∙ ap (λ (x : ℕ). bit x b) e
+
+-- the members from w on
+pub bit-from : (w m b : ℕ) → bit (m / 2 ^ w * 2 ^ w) b ≡ (leb w b && bit m b)
+bit-from w m b = go (decLt b w)
+  where
+    go : Dec (b < w) → bit (m / 2 ^ w * 2 ^ w) b ≡ (leb w b && bit m b)
+    go (yes l) = ap (λ (x : ℕ). bit x b) (sym (zero-add (m / 2 ^ w * 2 ^ w))) ∙ joined-low w 0 (m / 2 ^ w) b l ∙ bit-zero b ∙ rw (lt-leb w b l)
+    go (no l) =
+        let e : b ≡ w + (b - w) = omega arith in
+        rw (le-leb w b (omega arith)) (ap₂ bit (sym (zero-add (m / 2 ^ w * 2 ^ w))) e ∙ joined-high w 0 (m / 2 ^ w) (b - w) (pow-pos w) ∙ bit-shift w m (b - w) ∙ ap (bit m) (sym e))

@@ -36,7 +36,7 @@ pub fn call(grammar: &[u8], history: &[u8], kind: u8, buffer: &mut [u8]) -> u8
 fn no_room(grammar: &[u8], history: &[u8]) -> u8
     ensures { λ r. ⌜ r ≡ noRoom (filesIn (now (grammar .entry)) (now (history .entry))) ⌝ }
 {
-    let mut table = [0u16; 1154];
+    let mut table = [0u16; 1412];
     let mut tokens = [0u32; 1024];
     let opened = service::open_files(grammar, history, 0, 0, &mut table, &mut tokens);
     match opened {

@@ -7,7 +7,7 @@ use mathlib.Core.List.{List, [], _∷_, List·Memᴰ, List·Memᴰ·head, List·
 use mathlib.Core.Option.{Option·some-injective}
 use lib.ListN.{length, getElem?}
 use Rattle.vpg.specs.declared.Token.{Token}
-use Rattle.vpg.specs.believed.Grammar.{Grammar, Reading}
+use Rattle.vpg.specs.believed.Grammar.{Grammar, General, Reading}
 use Rattle.vpg.specs.believed.Order.{Ascending}
 use Rattle.vpg.specs.Runs.{entries}
 use Rattle.vpg.proofs.Ascends.{entries-ascending}
@@ -47,15 +47,15 @@ module _ (g : Grammar) (w : List Token) where
       (K, z .one, z .other, z .differ, ((e, a, z .one-at), x), ((f, b, z .other-at), y))
 
   -- and at each choice two readings differ first: one of them has the other rule instead of its own, and goes on from there
-  choice-differ : (p : ℕ) → Choice g w p → DifferFirst g w p
-  choice-differ p (K, r, r′, d, k, k′) =
+  choice-differ : General (g .well) (g .rules) → (p : ℕ) → Choice g w p → DifferFirst g w p
+  choice-differ ok p (K, r, r′, d, k, k′) =
       let ((e, a, i), x) = k in
       let ((f, b, j), y) = k′ in
-      let z = instead (g .rules) w (g .start) [] e (g .start) [] f p r r′ K (entries-readings g w e .1 a) (entries-readings g w f .1 b) i j x y in
+      let z = instead (g .well) (g .rules) ok w (g .start) [] e (g .start) [] f p r r′ K tt tt (entries-readings g w e .1 a) (entries-readings g w f .1 b) i j x y in
       (e, z .numbers, a, entries-readings g w (z .numbers) .0 (z .run), record { one = r; other = r′; before = sym (z .before); one-at = i; other-at = z .at; differ = d })
 
-  pub choice-first : (p : ℕ) → Choice g w p ↔ DifferFirst g w p
-  choice-first p = (choice-differ p, differ-choice p)
+  pub choice-first : General (g .well) (g .rules) → (p : ℕ) → Choice g w p ↔ DifferFirst g w p
+  choice-first ok p = (choice-differ ok p, differ-choice p)
 
   somewhere : Several g w → (p : ℕ) × Choice g w p
   somewhere (e, f, d, a, b) =

@@ -8,7 +8,7 @@ use mathlib.Core.Option.{some, Option·some-injective}
 use lib.ListN.{length, take, getElem?}
 use Rattle.laws.proofs.Lists.{trichotomy, heads, tails, at-below, at-some}
 use Rattle.vpg.specs.declared.Token.{Token}
-use Rattle.vpg.specs.believed.Grammar.{Grammar}
+use Rattle.vpg.specs.believed.Grammar.{Grammar, General}
 use Rattle.vpg.specs.believed.Order.{Before, Ascending}
 use Rattle.vpg.specs.Runs.{entries}
 use Rattle.vpg.proofs.Ascends.{entries-ascending}
@@ -98,15 +98,15 @@ two-of (e ∷ f ∷ l) p (inr h) =
     let t = two-of (f ∷ l) p h in
     record { one = t .one; other = t .other; one-in = List·Memᴰ·tail (t .one-in); other-in = List·Memᴰ·tail (t .other-in); apart = t .apart }
 
-pub choice-neighbours : (g : Grammar) (w : List Token) (p : ℕ) → Choice g w p ↔ Neighbours (entries g w) p
-choice-neighbours g w p = (listed, chosen)
+pub choice-neighbours : (g : Grammar) → General (g .well) (g .rules) → (w : List Token) (p : ℕ) → Choice g w p ↔ Neighbours (entries g w) p
+choice-neighbours g ok w p = (listed, chosen)
   where
     listed : Choice g w p → Neighbours (entries g w) p
     listed c =
-        let (e, f, a, b, d) = choice-first g w p .0 c in
+        let (e, f, a, b, d) = choice-first g w ok p .0 c in
         any-two p (suc (length w)) (entries g w) e f (entries-ascending g w) (entry-length g w) (entries-readings g w e .1 a) (entries-readings g w f .1 b) d
 
     chosen : Neighbours (entries g w) p → Choice g w p
     chosen h =
         let t = two-of (entries g w) p h in
-        choice-first g w p .1 (t .one, t .other, entries-readings g w (t .one) .0 (t .one-in), entries-readings g w (t .other) .0 (t .other-in), t .apart)
+        choice-first g w ok p .1 (t .one, t .other, entries-readings g w (t .one) .0 (t .one-in), entries-readings g w (t .other) .0 (t .other-in), t .apart)

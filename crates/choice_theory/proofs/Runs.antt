@@ -9,12 +9,12 @@ use lib.ListN.{length, take, getElem?}
 use Rattle.laws.proofs.Lists.{trichotomy, heads, tails}
 use Rattle.vpg.specs.declared.Rule.{Rule}
 use Rattle.vpg.specs.declared.Token.{Token}
-use Rattle.vpg.specs.believed.Grammar.{Rules, left}
+use Rattle.vpg.specs.believed.Grammar.{Rules, General, left}
 use Rattle.vpg.specs.Runs.{Stack, State, runs}
-use Rattle.vpg.proofs.Take.{Move, by-empty, by-mark, by-step, moves, Taken, taken, ended, end}
+use Rattle.vpg.proofs.Take.{Move, by-empty, by-next, by-step, moves, Taken, taken, ended, end}
 use Rattle.vpg.proofs.Take as step
-use Rattle.level_theory.specs.Masks.{masks}
-use Rattle.level_theory.proofs.Alive.{applies-goes, goes-applies, run-fits, fits-run}
+use Rattle.level_theory.specs.Masks.{masks, Calm}
+use Rattle.level_theory.proofs.Alive.{applies-goes, goes-applies, calm-on, run-fits, fits-run}
 use Rattle.choice_theory.specs.Several.{Differ}
 
 -- ── lists ──
@@ -43,7 +43,7 @@ For g r L = (R : Rule) × (getElem? g r ≡ some R) × (left R ≡ L)
 
 move-left : {R : Rule} {L : ℕ} {s : Stack} {t : Token} {L′ : ℕ} {s′ : Stack} → Move R L s t L′ s′ → left R ≡ L
 move-left by-empty = refl
-move-left by-mark = refl
+move-left by-next = refl
 move-left by-step = refl
 
 -- by one rule there is one way on
@@ -91,31 +91,35 @@ pub record Instead (g : Rules) (w : List Token) (L : ℕ) (s : Stack) (e : List 
 one-for : (g : Rules) (r K L : ℕ) → For g r K → For g r L → K ≡ L
 one-for g r K L (R, e, q) (R′, e′, q′) = sym q ∙ ap left (Option·some-injective R R′ (sym e ∙ e′)) ∙ q′
 
--- at the first position, where both run from the same nonterminal
-instead-here : (g : Rules) (w : List Token) (L : ℕ) (s : Stack) (e : List ℕ) (s′ : Stack) (f : List ℕ) (r : ℕ) →
-    List·Memᴰ e (runs g (L, s) w) → List·Memᴰ f (runs g (L, s′) w) → getElem? f 0 ≡ some r → Instead g w L s e 0 r
-instead-here g [] L s e s′ f r m m′ b =
-    let k = ended g L s′ f m′ in
-    record { numbers = k .number ∷ []; run = rw (ended g L s e m .done) (end g (k .is)); before = refl; at = rw (k .shape) at b }
-instead-here g (t ∷ w) L s e s′ f r m m′ b =
-    let h = taken g L s t w e m in
-    let k = taken g L s′ t w f m′ in
-    let mine = goes-applies (masks g w) (h .goes) (run-fits g w (h .nonterminal) (h .due) (h .rest) (h .run)) in
-    let its = goes-applies (masks g w) (k .goes) (run-fits g w (k .nonterminal) (k .due) (k .rest) (k .run)) in
-    let way = applies-goes (masks g w) t (k .rule) s (mine .match) (its .applied) in
-    let (x, run) = fits-run g w (way .nonterminal) (way .due) (way .fits) in
-    record { numbers = k .number ∷ x; run = rw (its .from) at (step.take g w (k .is) (way .goes) run); before = refl; at = rw (k .shape) at b }
+-- W: the well-matched nonterminals are those below it
+module _ (W : ℕ) (g : Rules) (ok : General W g) where
+  -- at the first position, where both run from the same nonterminal
+  instead-here : (w : List Token) (L : ℕ) (s : Stack) (e : List ℕ) (s′ : Stack) (f : List ℕ) (r : ℕ) → Calm W L s → Calm W L s′ →
+      List·Memᴰ e (runs g (L, s) w) → List·Memᴰ f (runs g (L, s′) w) → getElem? f 0 ≡ some r → Instead g w L s e 0 r
+  instead-here [] L s e s′ f r c c′ m m′ b =
+      let k = ended g L s′ f m′ in
+      record { numbers = k .number ∷ []; run = rw (ended g L s e m .done) (end g (k .is)); before = refl; at = rw (k .shape) at b }
+  instead-here (t ∷ w) L s e s′ f r c c′ m m′ b =
+      let h = taken g L s t w e m in
+      let k = taken g L s′ t w f m′ in
+      let ah = ok (h .number) (h .rule) (h .is) in
+      let ak = ok (k .number) (k .rule) (k .is) in
+      let mine = goes-applies W (masks W g w) ah c (h .goes) (run-fits W g ok w (h .nonterminal) (h .due) (calm-on W ah (h .goes) c) (h .rest) (h .run)) in
+      let its = goes-applies W (masks W g w) ak c′ (k .goes) (run-fits W g ok w (k .nonterminal) (k .due) (calm-on W ak (k .goes) c′) (k .rest) (k .run)) in
+      let way = applies-goes W (masks W g w) t (k .rule) s ak (rw (its .from) (mine .match)) (its .applied) in
+      let (x, run) = fits-run W g ok w (way .nonterminal) (way .due) (way .fits) in
+      record { numbers = k .number ∷ x; run = rw (its .from) at (step.take g w (k .is) (way .goes) run); before = refl; at = rw (k .shape) at b }
 
--- a rule that some run has at a position can stand there in any other that has a rule of the same nonterminal there: what it needs is decided
--- within its level, and what is due behind the level stays as it was
-pub instead : (g : Rules) (w : List Token) (L : ℕ) (s : Stack) (e : List ℕ) (L′ : ℕ) (s′ : Stack) (f : List ℕ) (p r r′ K : ℕ) →
-    List·Memᴰ e (runs g (L, s) w) → List·Memᴰ f (runs g (L′, s′) w) → getElem? e p ≡ some r → getElem? f p ≡ some r′ → For g r K → For g r′ K → Instead g w L s e p r′
-instead g w L s e L′ s′ f zero r r′ K m m′ a b x y =
-    let same : L ≡ L′ = sym (one-for g r K L x (head-for g w L s e r m a)) ∙ one-for g r′ K L′ y (head-for g w L′ s′ f r′ m′ b) in
-    instead-here g w L s e s′ f r′ m (rw same m′) b
-instead g [] L s e L′ s′ f (suc p) r r′ K m m′ a b x y = absurd (Option·none-ne-some r (rw (ended g L s e m .shape) at a))
-instead g (t ∷ w) L s e L′ s′ f (suc p) r r′ K m m′ a b x y =
-    let h = taken g L s t w e m in
-    let k = taken g L′ s′ t w f m′ in
-    let z = instead g w (h .nonterminal) (h .due) (h .rest) (k .nonterminal) (k .due) (k .rest) p r r′ K (h .run) (k .run) (rw (h .shape) at a) (rw (k .shape) at b) x y in
-    record { numbers = h .number ∷ z .numbers; run = step.take g w (h .is) (h .goes) (z .run); before = ap (λ (l : List ℕ). h .number ∷ l) (z .before) ∙ sym (ap (take (suc p)) (h .shape)); at = z .at }
+  -- a rule that some run has at a position can stand there in any other that has a rule of the same nonterminal there: what it needs is decided
+  -- within its level, or, for a nonterminal that is no well-matched one, within all that is left, and what is due behind the level stays as it was
+  pub instead : (w : List Token) (L : ℕ) (s : Stack) (e : List ℕ) (L′ : ℕ) (s′ : Stack) (f : List ℕ) (p r r′ K : ℕ) → Calm W L s → Calm W L′ s′ →
+      List·Memᴰ e (runs g (L, s) w) → List·Memᴰ f (runs g (L′, s′) w) → getElem? e p ≡ some r → getElem? f p ≡ some r′ → For g r K → For g r′ K → Instead g w L s e p r′
+  instead w L s e L′ s′ f zero r r′ K c c′ m m′ a b x y =
+      let same : L ≡ L′ = sym (one-for g r K L x (head-for g w L s e r m a)) ∙ one-for g r′ K L′ y (head-for g w L′ s′ f r′ m′ b) in
+      instead-here w L s e s′ f r′ c (rw same c′) m (rw same m′) b
+  instead [] L s e L′ s′ f (suc p) r r′ K c c′ m m′ a b x y = absurd (Option·none-ne-some r (rw (ended g L s e m .shape) at a))
+  instead (t ∷ w) L s e L′ s′ f (suc p) r r′ K c c′ m m′ a b x y =
+      let h = taken g L s t w e m in
+      let k = taken g L′ s′ t w f m′ in
+      let z = instead w (h .nonterminal) (h .due) (h .rest) (k .nonterminal) (k .due) (k .rest) p r r′ K (calm-on W (ok (h .number) (h .rule) (h .is)) (h .goes) c) (calm-on W (ok (k .number) (k .rule) (k .is)) (k .goes) c′) (h .run) (k .run) (rw (h .shape) at a) (rw (k .shape) at b) x y in
+      record { numbers = h .number ∷ z .numbers; run = step.take g w (h .is) (h .goes) (z .run); before = ap (λ (l : List ℕ). h .number ∷ l) (z .before) ∙ sym (ap (take (suc p)) (h .shape)); at = z .at }

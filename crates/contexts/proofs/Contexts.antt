@@ -18,7 +18,7 @@ use Rattle.history_file.specs.believed.HistoryFile.{tokenWith}
 use Rattle.contexts.specs.declared.Context.{Context}
 use Rattle.rule_index.specs.Classes.{classAt, classOf}
 use Rattle.rule_index.proofs.Classes.{class-apart}
-use Rattle.contexts.specs.Context.{tokenHere, afterClose, appliesTo, levelIn}
+use Rattle.contexts.specs.Context.{tokenHere, lowHere, insideHere, afterClose, appliesTo, levelIn}
 
 -- a digit of a word to which a number is added, if a test passes
 pub with-bit : (q : Bool) (m l L : ℕ) (s : Bool) → bit m L ≡ s → bit (cond q (addBit m l) m) L ≡ (s || (eqb l L && q))
@@ -26,12 +26,12 @@ with-bit true m l L s e = bit-add m l L ∙ rw (e, eqb-comm L l, and-true (eqb l
 with-bit false m l L s e = e ∙ sym (rw (and-false (eqb l L)) (or-false s))
 
 -- a nonterminal is in the level exactly when one of its rules can stand here
-pub level-bit : (t : List ℕ) (p : Context) (n L : ℕ) → bit (levelIn t p n) L ≡ lefts (λ R. appliesTo R p) (rulesIn t n) L
+pub level-bit : (W : ℕ) (t : List ℕ) (p : Context) (n L : ℕ) → bit (levelIn W t p n) L ≡ lefts (λ R. appliesTo W R p) (rulesIn t n) L
 unfolding levelIn rulesIn
-level-bit t p zero L = bit-zero L
-level-bit t p (suc n) L =
-    with-bit (appliesTo (ruleIn t n) p) (levelIn t p n) (left (ruleIn t n)) L _ (level-bit t p n L)
-    ∙ sym (any-snoc (λ R. eqb (left R) L && appliesTo R p) (rulesIn t n) (ruleIn t n))
+level-bit W t p zero L = bit-zero L
+level-bit W t p (suc n) L =
+    with-bit (appliesTo W (ruleIn t n) p) (levelIn W t p n) (left (ruleIn t n)) L _ (level-bit W t p n L)
+    ∙ sym (any-snoc (λ R. eqb (left R) L && appliesTo W R p) (rulesIn t n) (ruleIn t n))
 
 -- the kinds of marks and opens
 no-close : (p : Context) → p .kind < 2 → anyClose (tokenHere p) ≡ false
@@ -43,11 +43,7 @@ no-close p h = go (p .kind) h
     go (suc zero) h = refl
     go (suc (suc k)) h = absurd (omega arith)
 
--- at a mark or an open a rule of another class can't stand, and adds nothing to the level
-module _ (t : List ℕ) (p : Context) (h : p .kind < 2) (q : ℕ) (d : classOf (ruleIn t q) ≢ classAt (tokenHere p)) where
-  pub applies-apart : appliesTo (ruleIn t q) p ≡ false
-  applies-apart = class-apart (bit (p .inside)) (afterClose p) (tokenHere p) (no-close p h) (ruleIn t q) d
-
-  pub level-apart : levelIn t p (suc q) ≡ levelIn t p q
-  unfolding levelIn
-  level-apart = rw applies-apart
+-- at a mark or an open a rule of another class can't stand
+module _ (W : ℕ) (t : List ℕ) (p : Context) (h : p .kind < 2) (q : ℕ) (d : classOf (ruleIn t q) ≢ classAt (tokenHere p)) where
+  pub applies-apart : appliesTo W (ruleIn t q) p ≡ false
+  applies-apart = class-apart (lowHere W p (left (ruleIn t q))) (insideHere p) (afterClose p) (tokenHere p) (no-close p h) (ruleIn t q) d

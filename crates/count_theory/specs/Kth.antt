@@ -10,16 +10,17 @@ use Rattle.vpg.specs.declared.Rule.{Rule}
 use Rattle.vpg.specs.declared.Token.{Token}
 use Rattle.vpg.specs.believed.Grammar.{Rules, left}
 use Rattle.vpg.specs.Runs.{State, runs}
+use Rattle.level_theory.specs.Masks.{Calm}
 use Rattle.count_theory.specs.Allowed.{Allowed}
 use Rattle.count_theory.specs.Counts.{given, sum, counts, total, weight, worth}
 
 -- the counts from position p on are those of all runs
-abbrev pub Free : Allowed → Rules → List Token → ℕ → Type 0
-Free ok g w p = (s : State) → length (runs g s (drop p w)) ≡ total (counts ok g p (drop p w)) (s .0) (s .1)
+abbrev pub Free : Allowed → ℕ → Rules → List Token → ℕ → Type 0
+Free ok W g w p = (s : State) → Calm W (s .0) (s .1) → length (runs g s (drop p w)) ≡ total W (counts ok W g p (drop p w)) (s .0) (s .1)
 
 -- how many runs from a state have rule R at position p
-abbrev pub size : Allowed → Rules → List Token → ℕ → State → Rule → ℕ
-size ok g w p s R = given (eqb (left R) (s .0)) (worth ok g w p R) * weight (s .1) (counts ok g p (drop p w) .1)
+abbrev pub size : Allowed → ℕ → Rules → List Token → ℕ → State → Rule → ℕ
+size ok W g w p s R = given (eqb (left R) (s .0)) (worth ok W g w p R) * weight W (s .0) (s .1) (counts ok W g p (drop p w) .1)
 
 -- the k-th of all is the i-th of rule r, where each rule R has f R of them
 pub record Located (f : Rule → ℕ) (g : Rules) (k r i : ℕ) : Type 0 where

@@ -1,4 +1,5 @@
 pub mod Grammars
 pub mod Kept
+pub mod MatchedGrammars
 pub mod WideGrammars
 pub mod WideHistories

@@ -12,6 +12,7 @@ use Rattle.rules.specs.declared.RuleRead.the-variants.{Read}
 use Rattle.rules.specs.believed.Rule.{forms, pairAt, after}
 use Rattle.tables.specs.Table.{earlier}
 use Rattle.vpg.specs.declared.Rule.{Rule}
+use Rattle.vpg.specs.declared.Token.{Token}
 use Rattle.grammar_file.specs.believed.GrammarFile.{GrammarFile, accepted, refused, afterRule, afterCount, either}
 
 -- 7: "a name above 63"
@@ -28,7 +29,7 @@ stepNarrow number at nonterminals from name to =
 unfoldable pub bodyNarrow : (ℕ → NumberRead) → ℕ → ℕ → ℕ → ℕ → RuleRead
 bodyNarrow number at nonterminals form from =
     after (pairAt number at narrowNames 7 nonterminals) λ name to next.
-    cond (eqb form 1) (Read (Rule.Mark from (record { 0 = name }) to) next) (stepNarrow number next nonterminals from name to)
+    cond (eqb form 1) (Read (Rule.Next from (Token.Mark (record { 0 = name })) to) next) (stepNarrow number next nonterminals from name to)
 
 -- "its form, then L; or L c L1; or L a L1 b L2"
 unfoldable pub ruleNarrow : (ℕ → NumberRead) → ℕ → ℕ → RuleRead
@@ -39,7 +40,7 @@ ruleNarrow number at nonterminals =
 -- the rules still due. 8: "a rule equal in form and all fields to an earlier rule"; 9: "bytes follow the last rule"
 unfoldable pub rulesNarrow : Source → ℕ → ℕ → ℕ → ℕ → List Rule → GrammarFile
 rulesNarrow x nonterminals start zero at rules =
-    cond (x .more at) (refused 9) (accepted (record { nonterminals = nonterminals; start = start; rules = rules }))
+    cond (x .more at) (refused 9) (accepted (record { nonterminals = nonterminals; well = nonterminals; start = start; rules = rules }))
 rulesNarrow x nonterminals start (suc due) at rules =
     afterRule (ruleNarrow (x .number) at nonterminals) λ r next.
     cond (earlier r rules) (refused 8) (rulesNarrow x nonterminals start due next (rules ++ (r ∷ [])))

@@ -4,6 +4,7 @@ use Prim.Native.Nat.{ℕ}
 use mathlib.Core.Path.{_≡_}
 use mathlib.Core.List.{List, [], _∷_}
 use Rattle.vpg.specs.declared.Rule.{Rule}
+use Rattle.vpg.specs.declared.Token.{Token}
 use Rattle.vpg.specs.believed.Grammar.{Grammar}
 use Rattle.listing_model.specs.believed.Listing.{first, next, no-reading, no-further, refused}
 use Rattle.listing_model.specs.Calls.{callOn}
@@ -26,14 +27,15 @@ G = 3 ∷ 7 ∷ 0 ∷ 0 ∷ 2 ∷ 0 ∷ 0 ∷ 1 ∷ 0 ∷ 0 ∷ 2 ∷ 0 ∷ 0 �
 abbrev pub grammarG : Grammar
 grammarG = record {
   nonterminals = 3;
+  well = 3;
   start = 0;
   rules =
       Rule.Empty 0
       ∷ Rule.Step 0 (record { 0 = 0 }) 1 (record { 0 = 0 }) 0
       ∷ Rule.Step 0 (record { 0 = 0 }) 2 (record { 0 = 0 }) 0
-      ∷ Rule.Mark 1 (record { 0 = 0 }) 1
+      ∷ Rule.Next 1 (Token.Mark (record { 0 = 0 })) 1
       ∷ Rule.Empty 1
-      ∷ Rule.Mark 2 (record { 0 = 0 }) 2
+      ∷ Rule.Next 2 (Token.Mark (record { 0 = 0 })) 2
       ∷ Rule.Empty 2
       ∷ [];
 }

@@ -9,6 +9,7 @@ use Rattle.grammar_file.specs.believed.GrammarFile
 use Rattle.history_file.specs.believed.HistoryFile.{HistoryFile, historyOf}
 use Rattle.history_file.specs.believed.HistoryFile
 use Rattle.vpg.specs.declared.Rule.{Rule}
+use Rattle.vpg.specs.declared.Token.{Token}
 use Rattle.examples.specs.Examples.{readingsOf}
 
 -- one stage, with the marks 1 and 257: 1 3 / 0 0 / 1 0 1 0 / 1 0 129 2 0
@@ -34,7 +35,7 @@ pub record WideNames : Type 0 where
   -- so does 7
   pub name-65535 :
       grammarOf (1 ∷ 1 ∷ 1 ∷ 0 ∷ 255 ∷ 255 ∷ 3 ∷ 0 ∷ [])
-      ≡ GrammarFile.accepted (record { nonterminals = 1; start = 0; rules = Rule.Mark 0 (record { 0 = 65535 }) 0 ∷ [] })
+      ≡ GrammarFile.accepted (record { nonterminals = 1; well = 1; start = 0; rules = Rule.Next 0 (Token.Mark (record { 0 = 65535 })) 0 ∷ [] })
   pub name-65536 : grammarOf (1 ∷ 1 ∷ 1 ∷ 0 ∷ 128 ∷ 128 ∷ 4 ∷ 0 ∷ []) ≡ GrammarFile.refused 7
   -- "no name loses a bit": marks 1, 257, 16,385 and 65,281
   pub mark-1 : readingsOf (filesIn marks (1 ∷ 4 ∷ [])) ≡ (1 ∷ 0 ∷ []) ∷ []

@@ -21,7 +21,7 @@ pub enum HistoryCheck {
 pub fn grammar_check(grammar: &[u8]) -> GrammarCheck
     ensures { λ r. ⌜ grammarSaid r ≡ grammarDue (grammarOf (now (grammar .entry))) ⌝ }
 {
-    let mut table = [0u16; 1154];
+    let mut table = [0u16; 1412];
     let answer = grammar_file::read_grammar(grammar, &mut table);
     match answer {
         GrammarAnswer::Accepted(head) => {

@@ -1,4 +1,3 @@
 pub mod Passing
 pub mod Sofar
-pub mod Walking
 pub mod Whole

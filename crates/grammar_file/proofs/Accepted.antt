@@ -87,7 +87,7 @@ module _ (x : Source) (nonterminals start : ℕ) where
   -- of an accepted file: the rules from a place on, those before them being `rules`
   record RulesAre (g : Grammar) (due at : ℕ) (rules : List Rule) : Type 0 where
     rest : List Rule
-    is : g ≡ record { nonterminals = nonterminals; start = start; rules = rules ++ rest }
+    is : g ≡ record { nonterminals = nonterminals; well = nonterminals; start = start; rules = rules ++ rest }
     count : length rest ≡ due
     end : ℕ
     stand : NumbersAt (x .number) at (rulesNumbers rest) end
@@ -135,7 +135,7 @@ module _ (x : Source) (nonterminals start : ℕ) where
 
   rules-reads : (rest : List Rule) (at end : ℕ) (rules : List Rule) → NumbersAt (x .number) at (rulesNumbers rest) end → x .more end ≡ false
       → ((r : Rule) → List·Memᴰ r rest → Fits nonterminals r) → Distinct (rules ++ rest)
-      → rulesFrom x nonterminals start (length rest) at rules ≡ accepted (record { nonterminals = nonterminals; start = start; rules = rules ++ rest })
+      → rulesFrom x nonterminals start (length rest) at rules ≡ accepted (record { nonterminals = nonterminals; well = nonterminals; start = start; rules = rules ++ rest })
   unfolding rulesFrom
   rules-reads [] at end rules n l f d = rw (none-left n, l, append-nil)
   rules-reads (r ∷ rest) at end rules n l f d =
@@ -180,6 +180,7 @@ module _ (x : Source) (g : Grammar) where
     good = record {
       nonterminals-least = omega (arith, c .least, stages-are);
       nonterminals-most = omega (arith, c .most-of, stages-are);
+      well-all = ap (λ f. f .well) (b .is) ∙ sym stages-are;
       start-below = omega (arith, below, stages-are, start-is);
       rules-least = omega (arith, k .least, due-is);
       rules-most = omega (arith, k .most-of, due-is);
@@ -222,7 +223,8 @@ module _ (x : Source) (g : Grammar) where
     counted-reads start at end e i last =
         let s = one-left i in
         rw (e, count-reads (x .number) at 128 4 (length (g .rules)) (s .0) (s .1) (w .rules-least) (w .rules-most))
-        (rules-reads x (g .nonterminals) (g .start) (g .rules) (s .0) end [] (s .2) last (w .fits) (w .distinct))
+        (rules-reads x (g .nonterminals) (g .start) (g .rules) (s .0) end [] (s .2) last (w .fits) (w .distinct)
+        ∙ ap (λ (k : ℕ). accepted (record { nonterminals = g .nonterminals; well = k; start = g .start; rules = g .rules })) (sym (w .well-all)))
 
     said-reads : Said → grammarFrom x ≡ accepted g
     unfolding grammarFrom

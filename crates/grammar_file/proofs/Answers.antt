@@ -19,21 +19,21 @@ use Rattle.grammar_file.proofs.Ready.{wellformed-ready}
 
 -- the grammar is that of its table and its head
 grammar-table : (g : Grammar) → length (g .rules) ≤ 128 → grammarIn (tableOf (g .rules)) (headOf g) ≡ g
-grammar-table g few = ap (λ rules. record { nonterminals = g .nonterminals; start = g .start; rules = rules }) (rules-table (g .rules) few)
+grammar-table g few = ap (λ rules. record { nonterminals = g .nonterminals; well = g .well; start = g .start; rules = rules }) (rules-table (g .rules) few)
 
 length-fill : (rs : Rules) (t : List ℕ) (k : ℕ) → length (fill t k rs) ≡ length t
 unfolding fill
 length-fill [] t k = refl
 length-fill (r ∷ rs) t k = length-fill rs (putSix t k (sixOf r)) (k + 1) ∙ length-put t k (sixOf r)
 
-length-table : (rs : Rules) → length (tableOf rs) ≡ 1154
+length-table : (rs : Rules) → length (tableOf rs) ≡ 1412
 unfolding tableOf
-length-table rs = length-fill rs (replicate 1154 0) 0 ∙ length-replicate {A = ℕ} 1154 0
+length-table rs = length-fill rs (replicate 1412 0) 0 ∙ length-replicate {A = ℕ} 1412 0
 
 -- what an accepted file says, by the head and the table
 pub record GrammarIs (s table : List ℕ) (head : Head) : Type 0 where
   pub is : grammarOf s ≡ accepted (grammarIn table head)
-  pub size : length table ≡ 1154
+  pub size : length table ≡ 1412
   pub ready : Ready table head
 
 module _ (s : List ℕ) {r : GrammarAnswer} {table : List ℕ} (says : _≡_ {A = GrammarAnswer × List ℕ} (r, table) (grammarRead (grammarOf s))) where

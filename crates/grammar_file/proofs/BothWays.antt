@@ -11,6 +11,7 @@ use Rattle.numbers.specs.Written.{AllBelow, written}
 use Rattle.numbers.proofs.Written.{below-append, holds-is}
 use Rattle.rules.specs.RuleNumbers.{ruleNumbers, Fits}
 use Rattle.vpg.specs.declared.Rule.{Rule}
+use Rattle.vpg.specs.declared.Token.{Token}
 use Rattle.vpg.specs.believed.Grammar.{Grammar}
 use Rattle.grammar_file.specs.believed.GrammarFile.{accepted, grammarOf}
 use Rattle.grammar_file.specs.Wellformed.{Wellformed, rulesNumbers, numbersOf, numbersWithoutStart}
@@ -19,7 +20,9 @@ use Rattle.grammar_file.proofs.Accepted.{Said, grammar-is}
 -- every number of a well-formed grammar has three bytes at most
 rule-small : (n : ℕ) (r : Rule) → n ≤ 32 → Fits n r → AllBelow 2097152 (ruleNumbers r)
 rule-small n (Rule.Empty l) h f = omega arith
-rule-small n (Rule.Mark l c l1) h f = omega arith
+rule-small n (Rule.Next l (Token.Mark c) l1) h f = omega arith
+rule-small n (Rule.Next l (Token.Open a) l1) h f = omega arith
+rule-small n (Rule.Next l (Token.Close b) l1) h f = omega arith
 rule-small n (Rule.Step l a l1 b l2) h f = omega arith
 
 rules-small : (n : ℕ) (rs : List Rule) → n ≤ 32 → ((r : Rule) → List·Memᴰ r rs → Fits n r) → AllBelow 2097152 (rulesNumbers rs)

@@ -11,4 +11,4 @@ use Rattle.tables.specs.Ready.{headOf}
 
 abbrev pub grammarRead : GrammarFile → GrammarAnswer × List ℕ
 grammarRead (accepted g) = (Accepted (headOf g), tableOf (g .rules))
-grammarRead (refused e) = (Refused e, replicate 1154 0)
+grammarRead (refused e) = (Refused e, replicate 1412 0)

@@ -2,6 +2,7 @@
 -- 3, 4, 6, 7 and 8).
 -- Law: grammar-both-ways (grammar_file/proofs/BothWays.antt)
 use Prim.Native.Nat.{ℕ, _<_, _≤_}
+use mathlib.Core.Path.{_≡_}
 use mathlib.Core.List.{List, [], _∷_, _++_, List·Memᴰ}
 use lib.ListN.{length}
 use Rattle.rules.specs.RuleNumbers.{ruleNumbers, Fits}
@@ -13,6 +14,7 @@ use Rattle.laws.specs.Distinct.{Distinct}
 pub record Wellformed (g : Grammar) : Type 0 where
   pub nonterminals-least : 1 ≤ g .nonterminals
   pub nonterminals-most : g .nonterminals ≤ 32
+  pub well-all : g .well ≡ g .nonterminals
   pub start-below : g .start < g .nonterminals
   pub rules-least : 1 ≤ length (g .rules)
   pub rules-most : length (g .rules) ≤ 128

@@ -29,13 +29,13 @@ pub enum GrammarAnswer {
 fn refused(table: &mut Table, e: u8) -> GrammarAnswer
     ensures { λ r. ⌜ (r, now (table .exit)) ≡ grammarRead (GrammarFile.refused e) ⌝ }
 {
-    *table = [0u16; 1154];
+    *table = [0u16; 1412];
     GrammarAnswer::Refused(e)
 }
 
 // The rules that the head announces, from a place to the end, into a table of zeros.
 fn rules_at(s: &[u8], from: usize, head: Head, table: &mut Table) -> GrammarAnswer
-    requires { ⌜ (head .rules ≤ 128) × (now table ≡ replicate 1154 0) ⌝ }
+    requires { ⌜ (head .rules ≤ 128) × (head .well ≡ head .nonterminals) × (now table ≡ replicate 1412 0) ⌝ }
     ensures { λ r. ⌜ (r, now (table .exit)) ≡ grammarRead (rulesFrom (bytes (now (s .entry))) (head .nonterminals) (head .start) (head .rules) from []) ⌝ }
 {
     let count = head.rules;
@@ -84,7 +84,7 @@ fn counted_at(
     start: u16,
     table: &mut Table,
 ) -> GrammarAnswer
-    requires { ⌜ now table ≡ replicate 1154 0 ⌝ }
+    requires { ⌜ now table ≡ replicate 1412 0 ⌝ }
     ensures { λ r. ⌜ (r, now (table .exit)) ≡ grammarRead (countedFrom (bytes (now (s .entry))) at nonterminals start) ⌝ }
 {
     let count = numbers::count_at(s, at, RULES, 4);
@@ -94,6 +94,7 @@ fn counted_at(
     let rules = due as usize;
     let head = Head {
         nonterminals,
+        well: nonterminals,
         start,
         rules,
     };
@@ -102,7 +103,7 @@ fn counted_at(
 
 // A file that doesn't say its start, which is nonterminal 0.
 fn without_start(s: &[u8], table: &mut Table) -> GrammarAnswer
-    requires { ⌜ now table ≡ replicate 1154 0 ⌝ }
+    requires { ⌜ now table ≡ replicate 1412 0 ⌝ }
     ensures { λ r. ⌜ (r, now (table .exit)) ≡ grammarRead (withoutStart (bytes (now (s .entry)))) ⌝ }
 {
     let count = stages_at(s, 0);
@@ -114,7 +115,7 @@ fn without_start(s: &[u8], table: &mut Table) -> GrammarAnswer
 
 // A file that says its start, from the place behind its leading 0.
 fn with_start(s: &[u8], at: usize, table: &mut Table) -> GrammarAnswer
-    requires { ⌜ now table ≡ replicate 1154 0 ⌝ }
+    requires { ⌜ now table ≡ replicate 1412 0 ⌝ }
     ensures { λ r. ⌜ (r, now (table .exit)) ≡ grammarRead (withStart (bytes (now (s .entry))) at) ⌝ }
 {
     let count = stages_at(s, at);
@@ -130,7 +131,7 @@ fn with_start(s: &[u8], at: usize, table: &mut Table) -> GrammarAnswer
 
 // Reads the file into a table of zeros that the caller lends; a refused file leaves zeros.
 pub fn read_grammar(s: &[u8], table: &mut Table) -> GrammarAnswer
-    requires { ⌜ now table ≡ replicate 1154 0 ⌝ }
+    requires { ⌜ now table ≡ replicate 1412 0 ⌝ }
     ensures { λ r. ⌜ (r, now (table .exit)) ≡ grammarRead (grammarOf (now (s .entry))) ⌝ }
 {
     let first = numbers::number_at(s, 0);

@@ -7,17 +7,16 @@ use Rattle.capped.specs.Capped.{cap, value}
 use Rattle.tables.specs.declared.Head.{Head}
 use Rattle.tables.specs.Table.{ruleIn}
 use Rattle.contexts.specs.declared.Context.{Context}
-use Rattle.first_run.specs.Fill.{ruleFits}
+use Rattle.moves.specs.Moves.{ruleFits}
 use Rattle.count_theory.specs.believed.CountAt.{sumBelow}
 use Rattle.count_theory.specs.Counts.{given}
-use Rattle.count_rows.specs.declared.Place.{Place}
 use Rattle.count_rows.specs.Rows.{partsAt}
 use Rattle.kth_run.specs.declared.Sought.{Sought}
 use Rattle.kth_run.specs.declared.Found.{Found}
 
--- how many runs have rule q of a table at a position, capped: none where it doesn't fit
-abbrev pub sizeIn : List ℕ → Sought → Context → Place → List ℕ → List ℕ → ℕ → ℕ
-sizeIn t sought context place rows overs q = given (ruleFits (ruleIn t q) (sought .nonterminal) context) (cap (partsAt rows overs place (ruleIn t q) * value (sought .due)))
+-- how many runs have rule q of a table at a position, capped: none where it doesn't fit; the nonterminals below W are the well-matched ones
+abbrev pub sizeIn : List ℕ → ℕ → Sought → Context → List ℕ → ℕ → ℕ
+sizeIn t W sought context rows q = given (ruleFits W (ruleIn t q) (sought .nonterminal) context) (cap (partsAt rows context (ruleIn t q) * value (sought .due)))
 
 -- number k among those of all rules is number i among those of rule r, where rule q has f q of them
 pub record LocatedIn (rules : ℕ) (f : ℕ → ℕ) (k r i : ℕ) : Type 0 where
@@ -26,6 +25,6 @@ pub record LocatedIn (rules : ℕ) (f : ℕ → ℕ) (k r i : ℕ) : Type 0 wher
   pub inside : i < f r
 
 -- what a search finds, if there are so many
-abbrev pub Finds : List ℕ → Head → Sought → Context → Place → List ℕ → List ℕ → Found → Type 0
-Finds t head sought context place rows overs x =
-    sought .number < sumBelow (head .rules) (sizeIn t sought context place rows overs) → LocatedIn (head .rules) (sizeIn t sought context place rows overs) (sought .number) (x .rule) (x .number)
+abbrev pub Finds : List ℕ → Head → Sought → Context → List ℕ → Found → Type 0
+Finds t head sought context rows x =
+    sought .number < sumBelow (head .rules) (sizeIn t (head .well) sought context rows) → LocatedIn (head .rules) (sizeIn t (head .well) sought context rows) (sought .number) (x .rule) (x .number)

@@ -1,5 +1,5 @@
 -- The rules kept from left to right are those that stand in readings.
-use Prim.Native.Nat.{ℕ, zero, suc, _≤_}
+use Prim.Native.Nat.{ℕ, zero, suc, _<_, _≤_}
 use native.Mathlib.Omega.{arith}
 use mathlib.Core.Path.{_≡_, refl, sym, _∙_, ap}
 use mathlib.Core.Logic.{_↔_, _⊎_, inl, inr, ⊎-elim}
@@ -15,17 +15,17 @@ use Rattle.laws.specs.Any.{any}
 use Rattle.vpg.specs.declared.CloseName.{CloseName}
 use Rattle.vpg.specs.declared.Rule.{Rule}
 use Rattle.vpg.specs.declared.Token.{Token}
-use Rattle.vpg.specs.believed.Grammar.{Rules, Grammar, left}
+use Rattle.vpg.specs.believed.Grammar.{Rules, Grammar, Plain, InForm, General, left}
 use Rattle.vpg.specs.Runs.{Stack, runs, entries}
 use Rattle.sets_theory.specs.KeptTest.{kept}
 use Rattle.laws.proofs.Bools.{and-left, and-right, or-cases, both, same-test}
 use Rattle.sets_theory.proofs.Sets.{kept-entry}
-use Rattle.vpg.proofs.Take.{Move, by-empty, by-mark, by-step, moved, moves, Taken, taken, take, ended, end}
-use Rattle.level_theory.specs.Masks.{Nonterminals, applies, masks, Match, Fits}
+use Rattle.vpg.proofs.Take.{Move, by-empty, by-next, by-step, moved, moves, Taken, taken, take, ended, end}
+use Rattle.level_theory.specs.Masks.{Nonterminals, Outer, floor, onto, applies, masks, Calm, Match, Fits}
 use Rattle.level_theory.specs.Pending.{Closes, rest, pendingOver, pendingAt, closeOf}
 use Rattle.level_theory.specs.Walk.{testAt}
 use Rattle.level_theory.specs.Kept.{keeps, goesTo, returnsTo, going, returning, passed, Reached, Behind, Returns, Front}
-use Rattle.level_theory.proofs.Alive.{lefts-some, applies-goes, goes-applies, ends-empty, run-fits, fits-run}
+use Rattle.level_theory.proofs.Alive.{lefts-some, all-fits, fits-all, high-calm, alone-high, applies-goes, goes-applies, calm-on, ends-empty, run-fits, fits-run}
 use Rattle.level_theory.proofs.Pending.{From, rest-in, pending-from, drop-next, pending-next, masks-outer}
 
 -- ── lists ──
@@ -51,16 +51,24 @@ module _ {A : Type 0} where
 
 -- ── readings and what they reach ──
 
-module _ (g : Grammar) (w : List Token) where
+match-calm : (W L : ℕ) (s : Stack) (ms : Outer) → Match W L s ms → Calm W L s
+match-calm W L [] ms f = tt
+match-calm W L (d ∷ s) [] f = absurd f
+match-calm W L (d ∷ s) (m ∷ ms) f = (f .0, match-calm W (d .1) s ms (f .3))
+
+module _ (W : ℕ) (g : Grammar) (ok : General W (g .rules)) (w : List Token) where
   abbrev G : Rules
   G = g .rules
 
-  pub reached-fits : (p L : ℕ) (s : Stack) → Reached g w p L s → Fits L s (masks G (drop p w))
+  pub reached-fits : (p L : ℕ) (s : Stack) → Reached W g w p L s → Fits W L s (masks W G (drop p w))
   reached-fits zero L s a = a .2
   reached-fits (suc p) L s a = a .fits
 
+  pub reached-calm : (p L : ℕ) (s : Stack) → Reached W g w p L s → Calm W L s
+  reached-calm p L s a = match-calm W L s (masks W G (drop p w) .1) (reached-fits p L s a .1)
+
   -- a run from there is the rest of an entry
-  entry-of : (p L : ℕ) (s : Stack) → Reached g w p L s → (e : List ℕ) → List·Memᴰ e (runs G (L, s) (drop p w)) → (f : List ℕ) × List·Memᴰ f (entries g w) × (drop p f ≡ e)
+  entry-of : (p L : ℕ) (s : Stack) → Reached W g w p L s → (e : List ℕ) → List·Memᴰ e (runs G (L, s) (drop p w)) → (f : List ℕ) × List·Memᴰ f (entries g w) × (drop p f ≡ e)
   entry-of zero L s a e m = (e, rw (a .0, a .1) at m, refl)
   entry-of (suc p) L s a e m =
       let v = moved (a .rule) (a .nonterminal) (a .due) (a .token) (L, s) (a .goes) in
@@ -72,11 +80,11 @@ module _ (g : Grammar) (w : List Token) where
   record Along (p : ℕ) (e : List ℕ) : Type 0 where
     nonterminal : ℕ
     due : Stack
-    reached : Reached g w p nonterminal due
+    reached : Reached W g w p nonterminal due
     run : List·Memᴰ e (runs G (nonterminal, due) (drop p w))
 
   along : (e : List ℕ) → List·Memᴰ e (entries g w) → (p x : ℕ) (f : List ℕ) → drop p e ≡ x ∷ f → Along p (x ∷ f)
-  along e m zero x f q = record { nonterminal = g .start; due = []; reached = (refl, refl, run-fits G w (g .start) [] e m); run = rw q at m }
+  along e m zero x f q = record { nonterminal = g .start; due = []; reached = (refl, refl, run-fits W G ok w (g .start) [] tt e m); run = rw q at m }
   along e m (suc p) x f q =
       let y = drop-prior e p q in
       go (y .0) (along e m p (y .0) (x ∷ f) (y .1))
@@ -104,7 +112,7 @@ module _ (g : Grammar) (w : List Token) where
                       tokens = q ∙ rw n;
                       is = k .is;
                       goes = moves (k .goes);
-                      fits = rw n (run-fits G v (k .nonterminal) (k .due) (k .rest) (k .run));
+                      fits = rw n (run-fits W G ok v (k .nonterminal) (k .due) (calm-on W (ok (k .number) (k .rule) (k .is)) (k .goes) (reached-calm p (a .nonterminal) (a .due) (a .reached))) (k .rest) (k .run));
                     };
                     run = rw (n, tails (k .shape)) (k .run);
                   }
@@ -114,17 +122,17 @@ module _ (g : Grammar) (w : List Token) where
     rule : Rule
     due : Stack
     is : getElem? G r ≡ some rule
-    reached : Reached g w p (left rule) due
-    passes : testAt G (drop p w) rule ≡ true
+    reached : Reached W g w p (left rule) due
+    passes : testAt W G (drop p w) rule ≡ true
 
   -- a rule that can stand begins a run
-  begins : (v : List Token) (r : ℕ) (R : Rule) (s : Stack) → getElem? G r ≡ some R → Fits (left R) s (masks G v) → testAt G v R ≡ true → (e : List ℕ) × List·Memᴰ (r ∷ e) (runs G (left R, s) v)
+  begins : (v : List Token) (r : ℕ) (R : Rule) (s : Stack) → getElem? G r ≡ some R → Fits W (left R) s (masks W G v) → testAt W G v R ≡ true → (e : List ℕ) × List·Memᴰ (r ∷ e) (runs G (left R, s) v)
   unfolding masks testAt
   begins [] r R [] i f q = ([], end G (ends-empty G (left R) r (record { rule = R; is = i; from = refl; passes = q })))
   begins [] r R (d ∷ s) i f q = absurd (f .1)
   begins (t ∷ v) r R s i f q =
-      let k = applies-goes (masks G v) t R s (f .1) q in
-      let e = fits-run G v (k .nonterminal) (k .due) (k .fits) in
+      let k = applies-goes W (masks W G v) t R s (ok r R i) (f .1) q in
+      let e = fits-run W G ok v (k .nonterminal) (k .due) (k .fits) in
       (e .0, take G v i (k .goes) (e .1))
 
   -- and the first rule of a run can stand
@@ -132,18 +140,19 @@ module _ (g : Grammar) (w : List Token) where
     rule : Rule
     is : getElem? G r ≡ some rule
     from : left rule ≡ L
-    passes : testAt G v rule ≡ true
+    passes : testAt W G v rule ≡ true
 
-  first : (v : List Token) (L : ℕ) (s : Stack) (r : ℕ) (e : List ℕ) → List·Memᴰ (r ∷ e) (runs G (L, s) v) → First v L r
+  first : (v : List Token) (L : ℕ) (s : Stack) → Calm W L s → (r : ℕ) (e : List ℕ) → List·Memᴰ (r ∷ e) (runs G (L, s) v) → First v L r
   unfolding testAt
-  first [] L s r e m =
+  first [] L s c r e m =
       let k = ended G L s (r ∷ e) m in
       record { rule = Rule.Empty L; is = rw (heads (k .shape)) (k .is); from = refl; passes = refl }
-  first (t ∷ v) L s r e m = on (taken G L s t v (r ∷ e) m)
+  first (t ∷ v) L s c r e m = on (taken G L s t v (r ∷ e) m)
     where
       on : Taken G L s t v (r ∷ e) → First (t ∷ v) L r
       on k =
-          let a = goes-applies (masks G v) (k .goes) (run-fits G v (k .nonterminal) (k .due) (k .rest) (k .run)) in
+          let h = ok (k .number) (k .rule) (k .is) in
+          let a = goes-applies W (masks W G v) h c (k .goes) (run-fits W G ok v (k .nonterminal) (k .due) (calm-on W h (k .goes) c) (k .rest) (k .run)) in
           record { rule = k .rule; is = rw (heads (k .shape)) (k .is); from = a .from; passes = a .applied }
 
   standing : (p r : ℕ) → (kept g w p r ≡ true) ↔ Standing p r
@@ -153,7 +162,7 @@ module _ (g : Grammar) (w : List Token) where
       out h =
           let k = kept-entry g w p r .0 h in
           let a = along (k .0) (k .1) p r (drop (suc p) (k .0)) (all-drop (k .0) p (k .2)) in
-          let f = first (drop p w) (a .nonterminal) (a .due) r (drop (suc p) (k .0)) (a .run) in
+          let f = first (drop p w) (a .nonterminal) (a .due) (reached-calm p (a .nonterminal) (a .due) (a .reached)) r (drop (suc p) (k .0)) (a .run) in
           record { rule = f .rule; due = a .due; is = f .is; reached = rw (f .from) (a .reached); passes = f .passes }
 
       into : Standing p r → kept g w p r ≡ true
@@ -164,13 +173,13 @@ module _ (g : Grammar) (w : List Token) where
 
   -- ── the kept rules, from the nonterminals that can stand ──
 
-  pub front-kept : (p : ℕ) (here : Nonterminals) (back : ℕ → Nonterminals) → Front g w p here back → (r : ℕ) → kept g w p r ≡ passed (keeps G (drop p w) here) (getElem? G r)
+  pub front-kept : (p : ℕ) (here : Nonterminals) (back : ℕ → Nonterminals) → Front W g w p here back → (r : ℕ) → kept g w p r ≡ passed (keeps W G (drop p w) here) (getElem? G r)
   front-kept p here back h r = same-test _ _ (λ k. out (standing p r .0 k)) (λ k. standing p r .1 (go (getElem? G r) refl k))
     where
-      out : Standing p r → passed (keeps G (drop p w) here) (getElem? G r) ≡ true
+      out : Standing p r → passed (keeps W G (drop p w) here) (getElem? G r) ≡ true
       out k = rw (k .is) (both (h .stands (left (k .rule)) .1 (k .due, k .reached)) (k .passes))
 
-      go : (o : Option Rule) → getElem? G r ≡ o → passed (keeps G (drop p w) here) o ≡ true → Standing p r
+      go : (o : Option Rule) → getElem? G r ≡ o → passed (keeps W G (drop p w) here) o ≡ true → Standing p r
       go none e q = absurd (false≢true q)
       go (some R) e q =
           let a = h .stands (left R) .0 (and-left (here (left R)) _ q) in
@@ -191,36 +200,47 @@ Covered (d ∷ s) [] = ⊥
 Covered (d ∷ s) (c ∷ l) = Unit
 
 -- l: the pending closes behind position p; n: stands for the place of a close where there is none
-module _ (p n : ℕ) (l : Closes) (from : From (suc p) l) where
+module _ (W p n : ℕ) (l : Closes) (from : From (suc p) l) where
   not-here : (s : Stack) (K : ℕ) → Behind s l p K → ⊥
   not-here s K h = let k = behind-in s l p K h in omega (arith, from (k .0) (k .1))
 
   rest-not-here : (s : Stack) (K : ℕ) → Behind s (rest l) p K → ⊥
   rest-not-here s K h = let k = behind-in s (rest l) p K h in omega (arith, from (k .0) (rest-in l (k .1)))
 
+  -- where a token is taken alone that isn't a mark, nothing is due
+  alone-due : (L : ℕ) (s : Stack) → (L < W → ⊥) → Calm W L s → s ≡ []
+  alone-due L s h c = high-calm W L s (alone-high W L h) c
+
+  none-due : (s : Stack) (l : Closes) (j K : ℕ) → s ≡ [] → Behind s l j K → ⊥
+  none-due s l j K e h = rw e at h
+
   -- the nonterminal at the next position is the rule's, or stands behind the close that was met
   to-next : {R : Rule} {L : ℕ} {s : Stack} {t : Token} {L′ : ℕ} {s′ : Stack} → Move R L s t L′ s′ → (K : ℕ) → goesTo R K ≡ true → L′ ≡ K
   to-next by-empty K q = absurd (false≢true q)
-  to-next (by-mark {L₁}) K q = eqb-true L₁ K q
+  to-next (by-next {L₁}) K q = eqb-true L₁ K q
   to-next (by-step {L₁}) K q = eqb-true L₁ K q
 
-  back-next : {R : Rule} {L : ℕ} {s : Stack} {t : Token} {L′ : ℕ} {s′ : Stack} → Move R L s t L′ s′ → (K : ℕ) → Behind s (pendingOver t p l) p K → L′ ≡ K
-  back-next (by-empty {s}) K (inl h) = h .1
-  back-next (by-empty {s}) K (inr h) = absurd (not-here s K h)
-  back-next (by-mark {s}) K h = absurd (not-here s K h)
-  back-next (by-step {s}) K h = absurd (rest-not-here s K h)
+  back-next : {R : Rule} {L : ℕ} {s : Stack} {t : Token} {L′ : ℕ} {s′ : Stack} → InForm W R → Calm W L s → Move R L s t L′ s′ → (K : ℕ) → Behind s (pendingOver t p l) p K → L′ ≡ K
+  back-next ok c (by-empty {s}) K (inl h) = h .1
+  back-next ok c (by-empty {s}) K (inr h) = absurd (not-here s K h)
+  back-next ok c (by-next {t = Token.Mark n} {s = s}) K h = absurd (not-here s K h)
+  back-next ok c (by-next {L} {t = Token.Open a} {s = s}) K h = absurd (none-due s (pendingOver (Token.Open a) p l) p K (alone-due L s (λ x. ok x .0) c) h)
+  back-next ok c (by-next {L} {t = Token.Close b} {s = s}) K h = absurd (none-due s (pendingOver (Token.Close b) p l) p K (alone-due L s (λ x. ok x .0) c) h)
+  back-next ok c (by-step {s}) K h = absurd (rest-not-here s K h)
 
   from-next : {R : Rule} {L : ℕ} {s : Stack} {t : Token} {L′ : ℕ} {s′ : Stack} → Move R L s t L′ s′ → Behind s (pendingOver t p l) p L′ ⊎ (goesTo R L′ ≡ true)
   from-next by-empty = inl (inl (refl, refl))
-  from-next (by-mark {L₁}) = inr (eq-eqb L₁ L₁ refl)
+  from-next (by-next {L₁}) = inr (eq-eqb L₁ L₁ refl)
   from-next (by-step {L₁}) = inr (eq-eqb L₁ L₁ refl)
 
   -- what is due behind a close further on was due already, or is what the rule has behind its close
-  stays-due : {R : Rule} {L : ℕ} {s : Stack} {t : Token} {L′ : ℕ} {s′ : Stack} → Move R L s t L′ s′ → Covered s′ l → (j K : ℕ) → suc p ≤ j → Behind s (pendingOver t p l) j K → Behind s′ l j K
-  stays-due by-empty m j K le (inl h) = absurd (omega arith)
-  stays-due by-empty m j K le (inr h) = h
-  stays-due by-mark m j K le h = h
-  stays-due (by-step {L₂} {b} {s}) m j K le h = go l m h
+  stays-due : {R : Rule} {L : ℕ} {s : Stack} {t : Token} {L′ : ℕ} {s′ : Stack} → InForm W R → Calm W L s → Move R L s t L′ s′ → Covered s′ l → (j K : ℕ) → suc p ≤ j → Behind s (pendingOver t p l) j K → Behind s′ l j K
+  stays-due ok c by-empty m j K le (inl h) = absurd (omega arith)
+  stays-due ok c by-empty m j K le (inr h) = h
+  stays-due ok c (by-next {t = Token.Mark n}) m j K le h = h
+  stays-due ok c (by-next {L} {t = Token.Open a} {s = s}) m j K le h = absurd (none-due s (pendingOver (Token.Open a) p l) j K (alone-due L s (λ x. ok x .0) c) h)
+  stays-due ok c (by-next {L} {t = Token.Close b} {s = s}) m j K le h = absurd (none-due s (pendingOver (Token.Close b) p l) j K (alone-due L s (λ x. ok x .0) c) h)
+  stays-due ok c (by-step {L₂} {b} {s}) m j K le h = go l m h
     where
       go : (l : Closes) → Covered ((b, L₂) ∷ s) l → Behind s (rest l) j K → Behind ((b, L₂) ∷ s) l j K
       go [] m h = absurd m
@@ -228,17 +248,19 @@ module _ (p n : ℕ) (l : Closes) (from : From (suc p) l) where
 
   falls-due : {R : Rule} {L : ℕ} {s : Stack} {t : Token} {L′ : ℕ} {s′ : Stack} → Move R L s t L′ s′ → Covered s′ l → (K : ℕ) → returnsTo R K ≡ true → Behind s′ l (closeOf l n) K
   falls-due by-empty m K q = absurd (false≢true q)
-  falls-due by-mark m K q = absurd (false≢true q)
+  falls-due by-next m K q = absurd (false≢true q)
   falls-due (by-step {L₂} {b} {s}) m K q = go l m
     where
       go : (l : Closes) → Covered ((b, L₂) ∷ s) l → Behind ((b, L₂) ∷ s) l (closeOf l n) K
       go [] m = absurd m
       go (c ∷ l) m = inl (refl, eqb-true L₂ K q)
 
-  was-due : {R : Rule} {L : ℕ} {s : Stack} {t : Token} {L′ : ℕ} {s′ : Stack} → Move R L s t L′ s′ → (j K : ℕ) → Behind s′ l j K → Behind s (pendingOver t p l) j K ⊎ ((j ≡ closeOf l n) × (returnsTo R K ≡ true))
-  was-due by-empty j K h = inl (inr h)
-  was-due by-mark j K h = inl h
-  was-due (by-step {L₂} {b} {s}) j K h = go l h
+  was-due : {R : Rule} {L : ℕ} {s : Stack} {t : Token} {L′ : ℕ} {s′ : Stack} → InForm W R → Calm W L s → Move R L s t L′ s′ → (j K : ℕ) → Behind s′ l j K → Behind s (pendingOver t p l) j K ⊎ ((j ≡ closeOf l n) × (returnsTo R K ≡ true))
+  was-due ok c by-empty j K h = inl (inr h)
+  was-due ok c (by-next {t = Token.Mark n}) j K h = inl h
+  was-due ok c (by-next {L} {t = Token.Open a} {s = s}) j K h = absurd (none-due s l j K (alone-due L s (λ x. ok x .0) c) h)
+  was-due ok c (by-next {L} {t = Token.Close b} {s = s}) j K h = absurd (none-due s l j K (alone-due L s (λ x. ok x .0) c) h)
+  was-due ok c (by-step {L₂} {b} {s}) j K h = go l h
     where
       go : (l : Closes) → Behind ((b, L₂) ∷ s) l j K → Behind s (rest l) j K ⊎ ((j ≡ closeOf l n) × (eqb L₂ K ≡ true))
       go [] h = absurd h
@@ -247,28 +269,31 @@ module _ (p n : ℕ) (l : Closes) (from : From (suc p) l) where
 
 -- ── from the start, and one position on ──
 
-module _ (g : Grammar) (w : List Token) where
+module _ (W : ℕ) (g : Grammar) (ok : General W (g .rules)) (w : List Token) where
   abbrev Rs : Rules
   Rs = g .rules
 
-  pub front-start : pendingAt w 0 ≡ [] → (here : Nonterminals) (back : ℕ → Nonterminals) → ((L : ℕ) → here L ≡ (eqb L (g .start) && masks Rs w .0 L)) → ((j K : ℕ) → back j K ≡ false) → Front g w 0 here back
-  front-start closed here back h b = record {
+  pub front-start : (here : Nonterminals) (back : ℕ → Nonterminals) → ((L : ℕ) → here L ≡ (eqb L (g .start) && onto false (floor W (masks W Rs w .1)) (masks W Rs w .0) L)) → ((j K : ℕ) → back j K ≡ false) → Front W g w 0 here back
+  front-start here back h b = record {
     stands = λ L. (
       λ q.
           let k = sym (h L) ∙ q in
-          ([], (eqb-true L (g .start) (and-left _ _ k), refl, (and-right (eqb L (g .start)) _ k, rw (masks-outer Rs w 0, closed) tt))),
-      λ k. h L ∙ both (eq-eqb L (g .start) (k .1 .0)) (k .1 .2 .0),
+          ([], (eqb-true L (g .start) (and-left _ _ k), refl, all-fits W L (masks W Rs w .0) (masks W Rs w .1) (and-right (eqb L (g .start)) _ k))),
+      λ k. h L ∙ both (eq-eqb L (g .start) (k .1 .0)) (fits-all W L (masks W Rs w .0) (masks W Rs w .1) (none-due L (k .0) (k .1 .1) (k .1 .2))),
     );
     returns = λ j K le. (λ q. absurd (false≢true (sym (b j K) ∙ q)), λ k. absurd (rw (k .reached .1) at (k .behind)));
   }
-
-  covered : (p L : ℕ) (s : Stack) → Fits L s (masks Rs (drop p w)) → Covered s (pendingAt w p)
-  covered p L s f = go s (pendingAt w p) (rw (masks-outer Rs w p) at (f .1))
     where
-      go : (s : Stack) (l : Closes) → Match s (map (λ d. (d .0, masks Rs (drop (suc (d .1)) w) .0)) l) → Covered s l
-      go [] l m = tt
-      go (d ∷ s) [] m = m
-      go (d ∷ s) (c ∷ l) m = tt
+      none-due : (L : ℕ) (s : Stack) → s ≡ [] → Fits W L s (masks W Rs w) → Fits W L [] (masks W Rs w)
+      none-due L s e f = rw e at f
+
+  covered : (p L : ℕ) (s : Stack) → Fits W L s (masks W Rs (drop p w)) → Covered s (pendingAt w p)
+  covered p L s f = go L s (pendingAt w p) (rw (masks-outer W Rs w p) at (f .1))
+    where
+      go : (L : ℕ) (s : Stack) (l : Closes) → Match W L s (map (λ d. (d .0, masks W Rs (drop (suc (d .1)) w) .0)) l) → Covered s l
+      go L [] l m = tt
+      go L (d ∷ s) [] m = m
+      go L (d ∷ s) (c ∷ l) m = tt
 
   module _ (p n : ℕ) (t : Token) (tokens : drop p w ≡ t ∷ drop (suc p) w) where
     abbrev l : Closes
@@ -276,17 +301,21 @@ module _ (g : Grammar) (w : List Token) where
 
     -- a rule that can stand at p leads on from what is reached there
     record On (R : Rule) (s : Stack) : Type 0 where
+      fine : InForm W R
+      calm : Calm W (left R) s
       nonterminal : ℕ
       due : Stack
       goes : Move R (left R) s t nonterminal due
       covers : Covered due l
-      reached : Reached g w (suc p) nonterminal due
+      reached : Reached W g w (suc p) nonterminal due
 
-    on : (r : ℕ) (R : Rule) (s : Stack) → getElem? Rs r ≡ some R → Reached g w p (left R) s → testAt Rs (drop p w) R ≡ true → On R s
+    on : (r : ℕ) (R : Rule) (s : Stack) → getElem? Rs r ≡ some R → Reached W g w p (left R) s → testAt W Rs (drop p w) R ≡ true → On R s
     unfolding masks testAt
     on r R s i a q =
-        let k = applies-goes (masks Rs (drop (suc p) w)) t R s ((rw tokens at (reached-fits g w p (left R) s a)) .1) (rw tokens at q) in
+        let k = applies-goes W (masks W Rs (drop (suc p) w)) t R s (ok r R i) ((rw tokens at (reached-fits W g ok w p (left R) s a)) .1) (rw tokens at q) in
         record {
+          fine = ok r R i;
+          calm = reached-calm W g ok w p (left R) s a;
           nonterminal = k .nonterminal;
           due = k .due;
           goes = k .goes;
@@ -310,10 +339,10 @@ module _ (g : Grammar) (w : List Token) where
       rule : Rule
       next : On rule s
 
-    ahead : (L : ℕ) (s : Stack) → Reached g w p L s → Ahead L s
+    ahead : (L : ℕ) (s : Stack) → Reached W g w p L s → Ahead L s
     unfolding masks testAt
     ahead L s a =
-        let h = lefts-some (applies (masks Rs (drop (suc p) w)) t) Rs L ((rw tokens at (reached-fits g w p L s a)) .0) in
+        let h = lefts-some (applies W (masks W Rs (drop (suc p) w)) t) Rs L ((rw tokens at (reached-fits W g ok w p L s a)) .0) in
         record { rule = h .1 .rule; next = on (h .0) (h .1 .rule) s (h .1 .is) (rw (h .1 .from) a) (rw tokens (h .1 .passes)) }
 
     -- what is reached behind p came by a rule that can stand at p
@@ -322,21 +351,23 @@ module _ (g : Grammar) (w : List Token) where
       due : Stack
       number : ℕ
       is : getElem? Rs number ≡ some rule
-      reached : Reached g w p (left rule) due
-      passes : testAt Rs (drop p w) rule ≡ true
+      reached : Reached W g w p (left rule) due
+      passes : testAt W Rs (drop p w) rule ≡ true
+      fine : InForm W rule
+      calm : Calm W (left rule) due
       goes : Move rule (left rule) due t L s
 
-    came : (L : ℕ) (s : Stack) → Reached g w (suc p) L s → Came L s
+    came : (L : ℕ) (s : Stack) → Reached W g w (suc p) L s → Came L s
     unfolding testAt
     came L s a =
         let e : a .token ≡ t = heads (sym (a .tokens) ∙ tokens) in
         let v : Move (a .rule) (a .nonterminal) (a .due) t L s = moved (a .rule) (a .nonterminal) (a .due) t (L, s) (rw e at (a .goes)) in
-        let k = goes-applies (masks Rs (drop (suc p) w)) v (a .fits) in
-        record { rule = a .rule; due = a .due; number = a .number; is = a .is; reached = rw (k .from) (a .reached); passes = rw tokens (k .applied); goes = rw (k .from) v }
+        let k = goes-applies W (masks W Rs (drop (suc p) w)) (ok (a .number) (a .rule) (a .is)) (reached-calm W g ok w p (a .nonterminal) (a .due) (a .reached)) v (a .fits) in
+        record { rule = a .rule; due = a .due; number = a .number; is = a .is; reached = rw (k .from) (a .reached); passes = rw tokens (k .applied); fine = ok (a .number) (a .rule) (a .is); calm = rw (k .from) (reached-calm W g ok w p (a .nonterminal) (a .due) (a .reached)); goes = rw (k .from) v }
 
-    module _ (here : Nonterminals) (back : ℕ → Nonterminals) (front : Front g w p here back) where
+    module _ (here : Nonterminals) (back : ℕ → Nonterminals) (front : Front W g w p here back) where
       abbrev Keeps : Rule → Bool
-      Keeps = keeps Rs (drop p w) here
+      Keeps = keeps W Rs (drop p w) here
 
       -- what a kept rule leads to
       kept-on : (k : Rule → Bool) → any (λ R. Keeps R && k R) Rs ≡ true → (R : Rule) × (s : Stack) × On R s × (k R ≡ true)
@@ -353,56 +384,56 @@ module _ (g : Grammar) (w : List Token) where
       far : From (suc p) l
       far = pending-from (drop (suc p) w) (suc p)
 
-      here-next : (K : ℕ) → (back p K || going Keeps Rs K) ≡ true → (s : Stack) × Reached g w (suc p) K s
+      here-next : (K : ℕ) → (back p K || going Keeps Rs K) ≡ true → (s : Stack) × Reached W g w (suc p) K s
       here-next K q = ⊎-elim by-close by-kept (or-cases (back p K) (going Keeps Rs K) q)
         where
-          by-close : back p K ≡ true → (s : Stack) × Reached g w (suc p) K s
+          by-close : back p K ≡ true → (s : Stack) × Reached W g w (suc p) K s
           by-close b =
               let r = front .returns p K (omega arith) .0 b in
               let a = ahead (r .nonterminal) (r .due) (r .reached) .next in
-              (a .due, rw (back-next p n l far (a .goes) K (rw (pending-next w p tokens) at (r .behind))) at (a .reached))
+              (a .due, rw (back-next W p n l far (a .fine) (a .calm) (a .goes) K (rw (pending-next w p tokens) at (r .behind))) at (a .reached))
 
-          by-kept : going Keeps Rs K ≡ true → (s : Stack) × Reached g w (suc p) K s
+          by-kept : going Keeps Rs K ≡ true → (s : Stack) × Reached W g w (suc p) K s
           by-kept b =
               let h = kept-on (λ R. goesTo R K) b in
-              (h .2 .due, rw (to-next p n l far (h .2 .goes) K (h .3)) at (h .2 .reached))
+              (h .2 .due, rw (to-next W p n l far (h .2 .goes) K (h .3)) at (h .2 .reached))
 
-      next-here : (K : ℕ) (s : Stack) → Reached g w (suc p) K s → (back p K || going Keeps Rs K) ≡ true
+      next-here : (K : ℕ) (s : Stack) → Reached W g w (suc p) K s → (back p K || going Keeps Rs K) ≡ true
       next-here K s a =
           let c = came K s a in
           ⊎-elim
           (λ h. rw (front .returns p K (omega arith) .1 (record { nonterminal = left (c .rule); due = c .due; reached = c .reached; behind = rw (pending-next w p tokens) h })))
           (λ q. rw (came-kept (λ R. goesTo R K) c q) (or-true (back p K)))
-          (from-next p n l far (c .goes))
+          (from-next W p n l far (c .goes))
 
       abbrev Later : ℕ → Nonterminals
       Later j K = back j K || (eqb j (closeOf l n) && returning Keeps Rs K)
 
-      back-later : (j K : ℕ) → suc p ≤ j → Later j K ≡ true → Returns g w (suc p) j K
+      back-later : (j K : ℕ) → suc p ≤ j → Later j K ≡ true → Returns W g w (suc p) j K
       back-later j K le q = ⊎-elim still (λ b. new (eqb-true j (closeOf l n) (and-left _ _ b)) (and-right (eqb j (closeOf l n)) _ b)) (or-cases (back j K) _ q)
         where
-          still : back j K ≡ true → Returns g w (suc p) j K
+          still : back j K ≡ true → Returns W g w (suc p) j K
           still b =
               let r = front .returns j K (omega arith) .0 b in
               let a = ahead (r .nonterminal) (r .due) (r .reached) .next in
-              record { nonterminal = a .nonterminal; due = a .due; reached = a .reached; behind = stays-due p n l far (a .goes) (a .covers) j K le (rw (pending-next w p tokens) at (r .behind)) }
+              record { nonterminal = a .nonterminal; due = a .due; reached = a .reached; behind = stays-due W p n l far (a .fine) (a .calm) (a .goes) (a .covers) j K le (rw (pending-next w p tokens) at (r .behind)) }
 
-          new : j ≡ closeOf l n → returning Keeps Rs K ≡ true → Returns g w (suc p) j K
+          new : j ≡ closeOf l n → returning Keeps Rs K ≡ true → Returns W g w (suc p) j K
           new e b =
               let h = kept-on (λ R. returnsTo R K) b in
-              record { nonterminal = h .2 .nonterminal; due = h .2 .due; reached = h .2 .reached; behind = rw e (falls-due p n l far (h .2 .goes) (h .2 .covers) K (h .3)) }
+              record { nonterminal = h .2 .nonterminal; due = h .2 .due; reached = h .2 .reached; behind = rw e (falls-due W p n l far (h .2 .goes) (h .2 .covers) K (h .3)) }
 
-      later-back : (j K : ℕ) → suc p ≤ j → Returns g w (suc p) j K → Later j K ≡ true
+      later-back : (j K : ℕ) → suc p ≤ j → Returns W g w (suc p) j K → Later j K ≡ true
       later-back j K le r =
           let c = came (r .nonterminal) (r .due) (r .reached) in
           ⊎-elim
           (λ h. rw (front .returns j K (omega arith) .1 (record { nonterminal = left (c .rule); due = c .due; reached = c .reached; behind = rw (pending-next w p tokens) h })))
           (λ q. rw (both (eq-eqb j (closeOf l n) (q .0)) (came-kept (λ R. returnsTo R K) c (q .1))) (or-true (back j K)))
-          (was-due p n l far (c .goes) j K (r .behind))
+          (was-due W p n l far (c .fine) (c .calm) (c .goes) j K (r .behind))
 
       -- at a close only `back p` has what can stand next, at other tokens only the kept rules; only an open has a rule with a close
       pub front-next : (here′ : Nonterminals) (back′ : ℕ → Nonterminals) → ((K : ℕ) → here′ K ≡ (back p K || going Keeps Rs K)) →
-          ((j K : ℕ) → back′ j K ≡ (back j K || (eqb j (closeOf l n) && returning Keeps Rs K))) → Front g w (suc p) here′ back′
+          ((j K : ℕ) → back′ j K ≡ (back j K || (eqb j (closeOf l n) && returning Keeps Rs K))) → Front W g w (suc p) here′ back′
       front-next here′ back′ h b = record {
         stands = λ K. (λ q. here-next K (sym (h K) ∙ q), λ k. h K ∙ next-here K (k .0) (k .1));
         returns = λ j K le. (λ q. back-later j K le (sym (b j K) ∙ q), λ r. b j K ∙ later-back j K le r);

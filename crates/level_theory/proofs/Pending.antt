@@ -1,17 +1,20 @@
 -- Pending closes: where they stand, and which of them are pending further on.
 use Prim.Native.Nat.{ℕ, zero, suc, _+_, _-_, _<_, _≤_}
 use native.Mathlib.Omega.{arith}
-use mathlib.Core.Path.{_≡_, refl, _∙_, ap}
+use mathlib.Core.Path.{_≡_, refl, sym, _∙_, ap}
+use mathlib.Core.Bool.{Bool, true, false, cond}
 use mathlib.Core.Logic.{_⊎_, inl, inr, ⊎-elim}
 use mathlib.Core.List.{List, [], _∷_, map, List·Memᴰ, List·Memᴰ·head, List·Memᴰ·tail, List·Memᴰ·not-nil, List·Memᴰ·cases-cons}
 use mathlib.Core.Option.{some, Option·none-ne-some, Option·some-injective}
-use lib.ListN.{drop, set, getElem?}
+use borrow.Author.Tests.{ltb-true, lt-ltb, le-ltb}
+use lib.Dec.{ltb}
+use lib.ListN.{drop, getD, set, getElem?}
 use lib.Seq.{drop-drop, getD-set-other}
 use Rattle.vpg.specs.declared.OpenName.{OpenName}
 use Rattle.vpg.specs.declared.CloseName.{CloseName}
 use Rattle.vpg.specs.declared.Token.{Token}
 use Rattle.vpg.specs.believed.Grammar.{Rules}
-use Rattle.level_theory.specs.Masks.{tail, outer, masks}
+use Rattle.level_theory.specs.Masks.{Nonterminals, tail, outer, masks, Calm, Match}
 use Rattle.level_theory.specs.Pending.{Closes, rest, pendingOver, pending, pendingAt, dueAt}
 
 abbrev Close : Type 0
@@ -151,12 +154,44 @@ module _ {A : Type 0} (m : ℕ → List Token → A × List (CloseName × A)) (n
   pub outer-levels : (w : List Token) (p : ℕ) → m p (drop p w) .1 ≡ map (λ d. (d .0, m (suc (d .1)) (drop (suc (d .1)) w) .0)) (pendingAt w p)
   outer-levels w p = levels-in w (drop p w) p refl
 
-pub masks-outer : (g : Rules) (w : List Token) (p : ℕ) → masks g (drop p w) .1 ≡ map (λ d. (d .0, masks g (drop (suc (d .1)) w) .0)) (pendingAt w p)
+pub masks-outer : (W : ℕ) (g : Rules) (w : List Token) (p : ℕ) → masks W g (drop p w) .1 ≡ map (λ d. (d .0, masks W g (drop (suc (d .1)) w) .0)) (pendingAt w p)
 unfolding masks
-masks-outer g w p = outer-levels (λ q v. masks g v) (λ q. refl) (λ q t v. refl) w p
+masks-outer W g w p = outer-levels (λ q v. masks W g v) (λ q. refl) (λ q t v. refl) w p
 
 -- a store behind a close that is not among them
-pub due-set : (f : List ℕ) (j v : ℕ) (l : Closes) → ((d : Close) → List·Memᴰ d l → d .1 ≡ j → ⊥) → dueAt (set f j v) l ≡ dueAt f l
-due-set f j v [] h = refl
-due-set f j v (d ∷ l) h =
-    rw (getD-set-other f j (d .1) v 0 (h d (List·Memᴰ·head refl)), due-set f j v l (λ x m. h x (List·Memᴰ·tail m)))
+pub due-set : (W : ℕ) (f : List ℕ) (j v : ℕ) (l : Closes) (L : ℕ) → ((d : Close) → List·Memᴰ d l → d .1 ≡ j → ⊥) → dueAt W (set f j v) l L ≡ dueAt W f l L
+due-set W f j v [] L h = refl
+due-set W f j v (d ∷ l) L h =
+    rw (getD-set-other f j (d .1) v 0 (h d (List·Memᴰ·head refl)), due-set W f j v l (getD f (d .1) 0) (λ x m. h x (List·Memᴰ·tail m)))
+
+-- what an array says is due is calm
+pub calm-due : (W : ℕ) (f : List ℕ) (l : Closes) (L : ℕ) → Calm W L (dueAt W f l L)
+calm-due W f [] L = tt
+calm-due W f (d ∷ l) L = go (calm-due W f l (getD f (d .1) 0)) (ltb L W) refl
+  where
+    go : Calm W (getD f (d .1) 0) (dueAt W f l (getD f (d .1) 0)) → (b : Bool) → ltb L W ≡ b → Calm W L (cond b ((d .0, getD f (d .1) 0) ∷ dueAt W f l (getD f (d .1) 0)) [])
+    go c true e = (ltb-true L W e, c)
+    go c false e = tt
+
+-- from W on nothing is due
+pub due-high : (W : ℕ) (f : List ℕ) (l : Closes) (L : ℕ) → W ≤ L → dueAt W f l L ≡ []
+due-high W f [] L h = refl
+due-high W f (d ∷ l) L h = rw (le-ltb L W h)
+
+pub due-low : (W : ℕ) (f : List ℕ) (d : Close) (l : Closes) (L : ℕ) → L < W → dueAt W f (d ∷ l) L ≡ (d .0, getD f (d .1) 0) ∷ dueAt W f l (getD f (d .1) 0)
+due-low W f d l L h = rw (lt-ltb L W h)
+
+-- nothing due that matches is what the array says
+pub due-none : (W : ℕ) (f : List ℕ) (h : Close → CloseName × Nonterminals) (l : Closes) (K : ℕ) → Match W K [] (map h l) → [] ≡ dueAt W f l K
+due-none W f h [] K m = refl
+due-none W f h (d ∷ l) K m = sym (due-high W f (d ∷ l) K m)
+
+-- in one level the array says the same of the next nonterminal
+pub due-on : (W : ℕ) (f : List ℕ) (h : Close → CloseName × Nonterminals) (l : Closes) (L K : ℕ) → (L < W → K < W) → Match W K (dueAt W f l L) (map h l) → dueAt W f l L ≡ dueAt W f l K
+due-on W f h [] L K i m = refl
+due-on W f h (d ∷ l) L K i m = go (ltb L W) refl m
+  where
+    go : (b : Bool) → ltb L W ≡ b → Match W K (cond b ((d .0, getD f (d .1) 0) ∷ dueAt W f l (getD f (d .1) 0)) []) (map h (d ∷ l)) →
+        cond b ((d .0, getD f (d .1) 0) ∷ dueAt W f l (getD f (d .1) 0)) [] ≡ dueAt W f (d ∷ l) K
+    go true e m = sym (due-low W f d l K (i (ltb-true L W e)))
+    go false e m = due-none W f h (d ∷ l) K m

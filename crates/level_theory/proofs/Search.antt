@@ -8,15 +8,15 @@ use mathlib.Core.Option.{some}
 use lib.ListN.{getElem?}
 use Rattle.vpg.specs.declared.Rule.{Rule}
 use Rattle.vpg.specs.declared.Token.{Token}
-use Rattle.vpg.specs.believed.Grammar.{Rules}
+use Rattle.vpg.specs.believed.Grammar.{Rules, General}
 use Rattle.vpg.specs.believed.Order.{Before}
 use Rattle.vpg.specs.Extremes.{Least, Next, Last}
 use Rattle.vpg.specs.Runs.{Stack, State, move}
 use Rattle.laws.proofs.Lists.{trichotomy}
 use Rattle.vpg.proofs.Take.{Move, moves, Taken, taken, take, Ended, ended, end}
-use Rattle.level_theory.specs.Masks.{applies, finishes, masks}
+use Rattle.level_theory.specs.Masks.{applies, finishes, masks, Calm}
 use Rattle.level_theory.specs.Walk.{Run}
-use Rattle.level_theory.proofs.Alive.{Passes, goes-applies, run-fits, ends-empty}
+use Rattle.level_theory.proofs.Alive.{Passes, goes-applies, calm-on, run-fits, ends-empty}
 
 -- no rule for L passes whose number P holds of
 abbrev pub None : (Rule → Bool) → Rules → ℕ → (ℕ → Type 0) → Type 0
@@ -30,9 +30,10 @@ one-way g {L} {s} {t} {R} {Q} e p q v v′ =
     cc (moves v, moves v′, ap (λ (X : Rule). move X L s t) h)
 
 -- the first rule of a run applies
-pub live : {g : Rules} {L : ℕ} {s : Stack} {t : Token} {w : List Token} {f : List ℕ} (k : Taken g L s t w f) → Passes (applies (masks g w) t) g L (k .number)
-live {g} {w = w} k =
-    let a = goes-applies (masks g w) (k .goes) (run-fits g w (k .nonterminal) (k .due) (k .rest) (k .run)) in
+pub live : (W : ℕ) {g : Rules} {L : ℕ} {s : Stack} {t : Token} {w : List Token} {f : List ℕ} → General W g → Calm W L s → (k : Taken g L s t w f) → Passes (applies W (masks W g w) t) g L (k .number)
+live W {g} {w = w} ok c k =
+    let h = ok (k .number) (k .rule) (k .is) in
+    let a = goes-applies W (masks W g w) h c (k .goes) (run-fits W g ok w (k .nonterminal) (k .due) (calm-on W h (k .goes) c) (k .rest) (k .run)) in
     record { rule = k .rule; is = k .is; from = a .from; passes = a .applied }
 
 -- two lists with one head
@@ -41,9 +42,6 @@ with-head s q (inl p) = inl (cc (s))
 with-head s q (inr b) = inr (rw s (inr (q, b)))
 
 module _ (g : Rules) (L : ℕ) (s : Stack) (t : Token) (w : List Token) where
-  abbrev Live : ℕ → Type 0
-  Live r = Passes (applies (masks g w) t) g L r
-
   -- rule number r leads to L′ with s′ due
   pub record Leads (r L′ : ℕ) (s′ : Stack) : Type 0 where
     pub rule : Rule
@@ -53,18 +51,6 @@ module _ (g : Rules) (L : ℕ) (s : Stack) (t : Token) (w : List Token) where
   -- what follows the same rule is a run from the same place
   pub same-place : {r L′ : ℕ} {s′ : Stack} {f : List ℕ} (v : Leads r L′ s′) (k : Taken g L s t w f) → r ≡ k .number → Run g (L′, s′) w (k .rest)
   same-place v k q = rw (one-way g q (v .is) (k .is) (v .goes) (k .goes)) (k .run)
-
-  -- the first run takes the first rule that applies
-  pub first-step : (r L′ : ℕ) (s′ : Stack) (e : List ℕ) → Leads r L′ s′ → None (applies (masks g w) t) g L (λ q. q < r) → Least (Run g (L′, s′) w) e → Least (Run g (L, s) (t ∷ w)) (r ∷ e)
-  first-step r L′ s′ e v d h = record {
-    holds = take g w (v .is) (v .goes) (h .holds);
-    least = λ f m. let k = taken g L s t w f m in go f k (trichotomy r (k .number));
-  }
-    where
-      go : (f : List ℕ) (k : Taken g L s t w f) → (r ≡ k .number) ⊎ ((r < k .number) ⊎ (k .number < r)) → (r ∷ e ≡ f) ⊎ Before (r ∷ e) f
-      go f k (inl q) = with-head (k .shape) q (h .least (k .rest) (same-place v k q))
-      go f k (inr (inl l)) = inr (rw (k .shape) (inl l))
-      go f k (inr (inr l)) = absurd (d (k .number) l (live k))
 
   -- the next run keeps the rule where what follows has a next run
   pub next-keep : (r L′ : ℕ) (s′ : Stack) (e e′ : List ℕ) → Leads r L′ s′ → Next (Run g (L′, s′) w) e e′ → Next (Run g (L, s) (t ∷ w)) (r ∷ e) (r ∷ e′)
@@ -77,28 +63,41 @@ module _ (g : Rules) (L : ℕ) (s : Stack) (t : Token) (w : List Token) where
       go f k (inl l) = inr (rw (k .shape) (inl l))
       go f k (inr b) = with-head (k .shape) (b .0) (h .least (k .rest) (same-place v k (b .0), b .1))
 
-  -- otherwise it takes the next rule that applies, and the first run after it
-  pub next-turn : (r L′ : ℕ) (s′ : Stack) (e : List ℕ) (q M : ℕ) (z : Stack) (e′ : List ℕ) → Leads r L′ s′ → Last (Run g (L′, s′) w) e →
-      r < q → Leads q M z → None (applies (masks g w) t) g L (λ p. (r < p) × (p < q)) → Least (Run g (M, z) w) e′ → Next (Run g (L, s) (t ∷ w)) (r ∷ e) (q ∷ e′)
-  next-turn r L′ s′ e q M z e′ v last lt u d h = record {
-    holds = (take g w (u .is) (u .goes) (h .holds), inl lt);
-    least = λ f m. let k = taken g L s t w f (m .0) in go f k (trichotomy q (k .number)) (rw (k .shape) at (m .1));
-  }
-    where
-      go : (f : List ℕ) (k : Taken g L s t w f) → (q ≡ k .number) ⊎ ((q < k .number) ⊎ (k .number < q)) →
-          (r < k .number) ⊎ ((r ≡ k .number) × Before e (k .rest)) → (q ∷ e′ ≡ f) ⊎ Before (q ∷ e′) f
-      go f k (inl p) b = with-head (k .shape) p (h .least (k .rest) (same-place u k p))
-      go f k (inr (inl l)) b = inr (rw (k .shape) (inl l))
-      go f k (inr (inr l)) (inl b) = absurd (d (k .number) (b, l) (live k))
-      go f k (inr (inr l)) (inr b) = absurd (last (k .rest) (same-place v k (b .0)) (b .1))
+  module _ (W : ℕ) (ok : General W g) (calm : Calm W L s) where
+    -- the first run takes the first rule that applies
+    pub first-step : (r L′ : ℕ) (s′ : Stack) (e : List ℕ) → Leads r L′ s′ → None (applies W (masks W g w) t) g L (λ q. q < r) → Least (Run g (L′, s′) w) e → Least (Run g (L, s) (t ∷ w)) (r ∷ e)
+    first-step r L′ s′ e v d h = record {
+      holds = take g w (v .is) (v .goes) (h .holds);
+      least = λ f m. let k = taken g L s t w f m in go f k (trichotomy r (k .number));
+    }
+      where
+        go : (f : List ℕ) (k : Taken g L s t w f) → (r ≡ k .number) ⊎ ((r < k .number) ⊎ (k .number < r)) → (r ∷ e ≡ f) ⊎ Before (r ∷ e) f
+        go f k (inl q) = with-head (k .shape) q (h .least (k .rest) (same-place v k q))
+        go f k (inr (inl l)) = inr (rw (k .shape) (inl l))
+        go f k (inr (inr l)) = absurd (d (k .number) l (live W ok calm k))
 
-  -- and where there is no such rule there is no next run
-  pub last-step : (r L′ : ℕ) (s′ : Stack) (e : List ℕ) → Leads r L′ s′ → Last (Run g (L′, s′) w) e → None (applies (masks g w) t) g L (λ p. r < p) → Last (Run g (L, s) (t ∷ w)) (r ∷ e)
-  last-step r L′ s′ e v last d f m b = let k = taken g L s t w f m in go k (rw (k .shape) at b)
-    where
-      go : (k : Taken g L s t w f) → (r < k .number) ⊎ ((r ≡ k .number) × Before e (k .rest)) → ⊥
-      go k (inl l) = d (k .number) l (live k)
-      go k (inr b) = last (k .rest) (same-place v k (b .0)) (b .1)
+    -- otherwise it takes the next rule that applies, and the first run after it
+    pub next-turn : (r L′ : ℕ) (s′ : Stack) (e : List ℕ) (q M : ℕ) (z : Stack) (e′ : List ℕ) → Leads r L′ s′ → Last (Run g (L′, s′) w) e →
+        r < q → Leads q M z → None (applies W (masks W g w) t) g L (λ p. (r < p) × (p < q)) → Least (Run g (M, z) w) e′ → Next (Run g (L, s) (t ∷ w)) (r ∷ e) (q ∷ e′)
+    next-turn r L′ s′ e q M z e′ v last lt u d h = record {
+      holds = (take g w (u .is) (u .goes) (h .holds), inl lt);
+      least = λ f m. let k = taken g L s t w f (m .0) in go f k (trichotomy q (k .number)) (rw (k .shape) at (m .1));
+    }
+      where
+        go : (f : List ℕ) (k : Taken g L s t w f) → (q ≡ k .number) ⊎ ((q < k .number) ⊎ (k .number < q)) →
+            (r < k .number) ⊎ ((r ≡ k .number) × Before e (k .rest)) → (q ∷ e′ ≡ f) ⊎ Before (q ∷ e′) f
+        go f k (inl p) b = with-head (k .shape) p (h .least (k .rest) (same-place u k p))
+        go f k (inr (inl l)) b = inr (rw (k .shape) (inl l))
+        go f k (inr (inr l)) (inl b) = absurd (d (k .number) (b, l) (live W ok calm k))
+        go f k (inr (inr l)) (inr b) = absurd (last (k .rest) (same-place v k (b .0)) (b .1))
+
+    -- and where there is no such rule there is no next run
+    pub last-step : (r L′ : ℕ) (s′ : Stack) (e : List ℕ) → Leads r L′ s′ → Last (Run g (L′, s′) w) e → None (applies W (masks W g w) t) g L (λ p. r < p) → Last (Run g (L, s) (t ∷ w)) (r ∷ e)
+    last-step r L′ s′ e v last d f m b = let k = taken g L s t w f m in go k (rw (k .shape) at b)
+      where
+        go : (k : Taken g L s t w f) → (r < k .number) ⊎ ((r ≡ k .number) × Before e (k .rest)) → ⊥
+        go k (inl l) = d (k .number) l (live W ok calm k)
+        go k (inr b) = last (k .rest) (same-place v k (b .0)) (b .1)
 
 -- where the tokens end
 module _ (g : Rules) (L : ℕ) where

@@ -20,8 +20,8 @@ use Rattle.level_theory.specs.Walk.{testAt}
 -- ── one rule ──
 
 -- is R kept before the tokens v, where the nonterminals F can stand
-abbrev pub keeps : Rules → List Token → Nonterminals → Rule → Bool
-keeps g v F R = F (left R) && testAt g v R
+abbrev pub keeps : ℕ → Rules → List Token → Nonterminals → Rule → Bool
+keeps W g v F R = F (left R) && testAt W g v R
 
 -- does R go on with the nonterminal K
 abbrev pub goesTo : Rule → Nonterminals
@@ -46,7 +46,7 @@ passed k (some R) = k R
 -- ── what readings reach ──
 
 -- one step on from what A reaches before position p
-pub record Step (g : Rules) (w : List Token) (p : ℕ) (A : ℕ → Stack → Type 0) (L : ℕ) (s : Stack) : Type 0 where
+pub record Step (W : ℕ) (g : Rules) (w : List Token) (p : ℕ) (A : ℕ → Stack → Type 0) (L : ℕ) (s : Stack) : Type 0 where
   pub token : Token
   pub nonterminal : ℕ
   pub due : Stack
@@ -56,12 +56,12 @@ pub record Step (g : Rules) (w : List Token) (p : ℕ) (A : ℕ → Stack → Ty
   pub tokens : drop p w ≡ token ∷ drop (suc p) w
   pub is : getElem? g number ≡ some rule
   pub goes : move rule nonterminal due token ≡ some (L, s)
-  pub fits : Fits L s (masks g (drop (suc p) w))
+  pub fits : Fits W L s (masks W g (drop (suc p) w))
 
 -- before position p some reading has L to derive, and then what is due
-abbrev pub Reached : Grammar → List Token → ℕ → ℕ → Stack → Type 0
-Reached g w zero L s = (L ≡ g .start) × (s ≡ []) × Fits L s (masks (g .rules) w)
-Reached g w (suc p) L s = Step (g .rules) w p (Reached g w p) L s
+abbrev pub Reached : ℕ → Grammar → List Token → ℕ → ℕ → Stack → Type 0
+Reached W g w zero L s = (L ≡ g .start) × (s ≡ []) × Fits W L s (masks W (g .rules) w)
+Reached W g w (suc p) L s = Step W (g .rules) w p (Reached W g w p) L s
 
 -- K is due behind the close at position j
 abbrev pub Behind : Stack → Closes → ℕ → ℕ → Type 0
@@ -70,13 +70,13 @@ Behind (d ∷ s) [] j K = ⊥
 Behind (d ∷ s) (c ∷ l) j K = ((c .1 ≡ j) × (d .1 ≡ K)) ⊎ Behind s l j K
 
 -- some reading has K behind the close at position j
-pub record Returns (g : Grammar) (w : List Token) (p j K : ℕ) : Type 0 where
+pub record Returns (W : ℕ) (g : Grammar) (w : List Token) (p j K : ℕ) : Type 0 where
   pub nonterminal : ℕ
   pub due : Stack
-  pub reached : Reached g w p nonterminal due
+  pub reached : Reached W g w p nonterminal due
   pub behind : Behind due (pendingAt w p) j K
 
 -- `here` are the nonterminals that can stand at position p, and `back j` those that can stand behind the close at position j
-pub record Front (g : Grammar) (w : List Token) (p : ℕ) (here : Nonterminals) (back : ℕ → Nonterminals) : Type 0 where
-  pub stands : (L : ℕ) → (here L ≡ true) ↔ ((s : Stack) × Reached g w p L s)
-  pub returns : (j K : ℕ) → p ≤ j → (back j K ≡ true) ↔ Returns g w p j K
+pub record Front (W : ℕ) (g : Grammar) (w : List Token) (p : ℕ) (here : Nonterminals) (back : ℕ → Nonterminals) : Type 0 where
+  pub stands : (L : ℕ) → (here L ≡ true) ↔ ((s : Stack) × Reached W g w p L s)
+  pub returns : (j K : ℕ) → p ≤ j → (back j K ≡ true) ↔ Returns W g w p j K

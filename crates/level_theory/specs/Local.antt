@@ -12,17 +12,17 @@ use Rattle.vpg.specs.Runs.{State, move}
 use Rattle.level_theory.specs.Pending.{pendingAt, dueAt}
 
 -- the state at position q: at has the nonterminal of each position, f the one behind each close
-abbrev pub stateAt : List Token → List ℕ → List ℕ → ℕ → State
-stateAt w at f q = (getD at q 0, dueAt f (pendingAt w q))
+abbrev pub stateAt : ℕ → List Token → List ℕ → List ℕ → ℕ → State
+stateAt W w at f q = (getD at q 0, dueAt W f (pendingAt w q) (getD at q 0))
 
 -- rule number e[q] leads over the token at q to the state at the next position
-pub record LeadsAt (g : Rules) (w : List Token) (at f e : List ℕ) (q : ℕ) : Type 0 where
+pub record LeadsAt (W : ℕ) (g : Rules) (w : List Token) (at f e : List ℕ) (q : ℕ) : Type 0 where
   pub token : Token
   pub here : drop q w ≡ token ∷ drop (suc q) w
   pub rule : Rule
   pub is : getElem? g (getD e q 0) ≡ some rule
-  pub goes : move rule (stateAt w at f q .0) (stateAt w at f q .1) token ≡ some (stateAt w at f (suc q))
+  pub goes : move rule (stateAt W w at f q .0) (stateAt W w at f q .1) token ≡ some (stateAt W w at f (suc q))
 
 -- so at every position before p
-abbrev pub LeadsTo : Rules → List Token → List ℕ → List ℕ → List ℕ → ℕ → Type 0
-LeadsTo g w at f e p = (q : ℕ) → q < p → LeadsAt g w at f e q
+abbrev pub LeadsTo : ℕ → Rules → List Token → List ℕ → List ℕ → List ℕ → ℕ → Type 0
+LeadsTo W g w at f e p = (q : ℕ) → q < p → LeadsAt W g w at f e q

@@ -1,8 +1,9 @@
 -- The closes that end open levels, with their positions, and the stack that an array of nonterminals by position describes.
 -- Law: masks-outer (level_theory/proofs/Pending.antt)
 use Prim.Native.Nat.{ℕ, suc}
-use mathlib.Core.Path.{_≡_}
-use mathlib.Core.List.{List, [], _∷_, map}
+use mathlib.Core.Bool.{cond}
+use mathlib.Core.List.{List, [], _∷_}
+use lib.Dec.{ltb}
 use lib.ListN.{drop, getD}
 use Rattle.vpg.specs.declared.CloseName.{CloseName}
 use Rattle.vpg.specs.declared.Token.{Token}
@@ -31,15 +32,13 @@ pending (t ∷ w) p = pendingOver t p (pending w (suc p))
 abbrev pub pendingAt : List Token → ℕ → Closes
 pendingAt w p = pending (drop p w) p
 
--- every close has its open among the tokens
-abbrev pub WellMatched : List Token → Type 0
-WellMatched w = pendingAt w 0 ≡ []
-
 -- the position of the first of them, or n
 abbrev pub closeOf : Closes → ℕ → ℕ
 closeOf [] n = n
 closeOf (d ∷ l) n = d .1
 
--- the stack that an array describes: behind the close at position j stands nonterminal f[j]
-abbrev pub dueAt : List ℕ → Closes → Stack
-dueAt f l = map (λ d. (d .0, getD f (d .1) 0)) l
+-- the stack that an array describes below the nonterminal L: behind the close at position j stands nonterminal f[j]; nothing is due where L is not a
+-- well-matched one
+abbrev pub dueAt : ℕ → List ℕ → Closes → ℕ → Stack
+dueAt W f [] L = []
+dueAt W f (d ∷ l) L = cond (ltb L W) ((d .0, getD f (d .1) 0) ∷ dueAt W f l (getD f (d .1) 0)) []

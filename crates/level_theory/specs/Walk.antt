@@ -16,9 +16,9 @@ abbrev pub Run : Rules → State → List Token → List ℕ → Type 0
 Run g s w e = List·Memᴰ e (runs g s w)
 
 -- can R stand before these tokens
-unfoldable pub testAt : Rules → List Token → Rule → Bool
-testAt g [] R = finishes R
-testAt g (t ∷ v) R = applies (masks g v) t R
+unfoldable pub testAt : ℕ → Rules → List Token → Rule → Bool
+testAt W g [] R = finishes R
+testAt W g (t ∷ v) R = applies W (masks W g v) t R
 
 -- the nonterminal at the next position; d: the one behind the close, where the token is a close
 abbrev pub inner : Rule → ℕ → ℕ

@@ -1,33 +1,41 @@
 -- One step of the passes over the positions: the matching closes, and what stands at a position.
-use Prim.Native.Nat.{ℕ, zero, suc, _-_, _/_, _<_, _≤_}
-use native.Mathlib.Nat.{le-of-suc-le-suc, not-suc-le-zero, eq-or-lt-of-le}
+use Prim.Native.Nat.{ℕ, zero, suc, _+_, _*_, _-_, _/_, _%_, _<_, _≤_}
+use native.Mathlib.Nat.{le-of-suc-le-suc, not-suc-le-zero, eq-or-lt-of-le, mod-lt}
 use native.Mathlib.Omega.{arith}
-use mathlib.Core.Path.{_≡_, refl, sym, _∙_, ap, ap₂, fun-ext}
+use mathlib.Core.Path.{_≡_, refl, sym, _∙_, ap}
 use mathlib.Core.Logic.{⊎-elim}
-use mathlib.Core.Bool.{Bool, true, false, cond, _&&_, and-false}
+use mathlib.Core.Bool.{Bool, true, false, cond, _&&_, and-false, and-comm}
 use mathlib.Core.List.{List, [], _∷_, map, List·Memᴰ, List·Memᴰ·head}
-use lib.Dec.{eqb}
+use borrow.Author.Tests.{lt-leb, lt-ltb, le-ltb}
+use lib.Dec.{eqb, leb}
 use lib.ListN.{length, drop, getD, set, drop-of-length-le, length-map}
 use lib.Seq.{getD-set-same, getD-set-other}
+use Rattle.laws.specs.Any.{any}
+use Rattle.laws.proofs.Any.{any-snoc}
 use Rattle.laws.proofs.Lists.{heads}
 use Rattle.bits.specs.Bit.{bit}
-use Rattle.bits.proofs.Bits.{bit-zero}
+use Rattle.bits.proofs.Bits.{bit-zero, joined-low, joined-high}
 use Rattle.vpg.specs.declared.CloseName.{CloseName}
 use Rattle.vpg.specs.declared.Rule.{Rule}
 use Rattle.vpg.specs.declared.Token.{Token}
-use Rattle.vpg.specs.believed.Grammar.{Rules}
-use Rattle.level_theory.specs.Masks.{Nonterminals, behind, stands, lefts, masks}
+use Rattle.vpg.specs.believed.Grammar.{Rules, left}
+use Rattle.level_theory.specs.Masks.{Nonterminals, floor, onto, behind, alone, stands, masks}
+use Rattle.vpg.specs.Tests.{sameToken}
 use Rattle.level_theory.specs.Pending.{Closes, rest, pending, pendingAt, closeOf}
 use Rattle.level_theory.specs.Walk.{testAt}
 use Rattle.level_theory.proofs.Walk.{level-test}
 use Rattle.level_theory.proofs.Pending.{pending-from, pending-next, pending-close, pending-rest, masks-outer}
 use Rattle.contexts.specs.declared.Context.{Context}
-use Rattle.contexts.specs.Context.{tokenHere, endContext, levelIn}
+use Rattle.contexts.specs.Context.{appliesTo, endContext, levelIn}
 use Rattle.contexts.proofs.Contexts.{level-bit}
+use Rattle.contexts.proofs.Ends.{level-ends}
 use Rattle.tables.specs.declared.Head.{Head}
-use Rattle.tables.specs.Ready.{rulesOf}
+use Rattle.tables.specs.Table.{ruleIn, rulesIn}
+use Rattle.tables.specs.Ready.{Below, rulesOf}
+use Rattle.rule_index.specs.Goals.{goal}
+use Rattle.rule_index.specs.Index.{Indexed, endsIn}
 use Rattle.history_file.specs.believed.HistoryFile.{kind, tokenWith, tokenOf, tokensOf}
-use Rattle.levels.specs.Levels.{nextTop, Matched, Leveled, Stands}
+use Rattle.levels.specs.Levels.{nextTop, Matched, Leveled, Stands, floorOf}
 
 -- ── tokens and their numbers ──
 
@@ -98,51 +106,87 @@ top-next w i (Token.Open a) v top beyond e p q = rw (pending-next w i e) (go (pe
 -- ── what stands at a position ──
 
 -- the same nonterminals behind the token and behind the close: the same rules can stand
-same-stands : {x y : Nonterminals} {after after′ : CloseName → Nonterminals} (t : Token) → ((L : ℕ) → x L ≡ y L) → ((c : CloseName) (L : ℕ) → after c L ≡ after′ c L) →
-    (R : Rule) → stands x after t R ≡ stands y after′ t R
-same-stands t h k R = ap₂ (λ (x : Nonterminals) (after : CloseName → Nonterminals). stands x after t R) (fun-ext h) (fun-ext (λ c. fun-ext (k c)))
+same-stands : {x y : Bool → Nonterminals} {after after′ : Bool → CloseName → Nonterminals} {low low′ : Bool} (t : Token) → low ≡ low′ → ((k : Bool) (L : ℕ) → L < 32 → x k L ≡ y k L) →
+    ((k : Bool) (c : CloseName) (L : ℕ) → L < 32 → after k c L ≡ after′ k c L) → (R : Rule) → Below 32 R → stands low x after t R ≡ stands low′ y after′ t R
+same-stands t e h k (Rule.Empty M) b = rw e
+same-stands {low′} t e h k (Rule.Next M i M₁) b = rw (e, h low′ M₁ (b .1))
+same-stands {low′} t e h k (Rule.Step M a M₁ c M₂) b = rw (e, h true M₁ (b .1), k low′ c M₂ (b .2))
 
-pub stands-end : (w : List Token) (mask : List ℕ) (p : ℕ) → length w ≤ p → Stands w mask p endContext
+pub stands-end : (W : ℕ) (w : List Token) (mask : List ℕ) (p : ℕ) → p ≡ length w → Stands W w mask p (endContext p)
 unfolding testAt tokenWith
-stands-end w mask p h g l R = rw (drop-of-length-le w h) (same-stands (tokenHere endContext) bit-zero (λ c L. rw (bit-zero L) (and-false (eqb (c .0) 0))) R)
+stands-end W w mask p h = record { position = refl; closing = rw (pending-end w (suc p) (omega arith)) h; rules = λ g l R b. ends g R }
+  where
+    over : length w ≤ p
+    over = omega arith
 
-module _ (ts mask : List ℕ) (p : ℕ) (here : p < length ts) where
-  abbrev W : List Token
-  W = tokensOf ts
+    ends : (g : Rules) (R : Rule) → appliesTo W R (endContext p) ≡ testAt W g (drop p w) R
+    ends g (Rule.Empty M) = rw (drop-of-length-le w over)
+    ends g (Rule.Next M i M₁) = rw (drop-of-length-le w over, bit-zero (goal true M₁)) (and-none (sameToken i (Token.Close (record { 0 = 0 }))) (alone i true))
+      where
+        and-none : (a b : Bool) → (a && (b && false)) ≡ false
+        and-none true true = refl
+        and-none true false = refl
+        and-none false b = refl
+    ends g (Rule.Step M a M₁ b M₂) = rw (drop-of-length-le w over)
+
+-- the first nonterminal that derives all that is left, from position p on
+pub floor-pending : (W : ℕ) (ts : List ℕ) (g : Rules) (p : ℕ) → floorOf (closeOf (pendingAt (tokensOf ts) p) (length (tokensOf ts))) (length ts) W ≡ floor W (masks W g (drop p (tokensOf ts)) .1)
+floor-pending W ts g p = rw (masks-outer W g (tokensOf ts) p) (go (pendingAt (tokensOf ts) p) refl)
+  where
+    go : (q : Closes) → pendingAt (tokensOf ts) p ≡ q → floorOf (closeOf q (length (tokensOf ts))) (length ts) W ≡ floor {A = CloseName × Nonterminals} W (map (λ d. (d .0, masks W g (drop (suc (d .1)) (tokensOf ts)) .0)) q)
+    go [] e = rw (tokens-length ts, le-ltb (length ts) (length ts) (omega arith))
+    go (d ∷ q) e = rw (lt-ltb (d .1) (length ts) (omega (arith, tokens-length ts, close-below (tokensOf ts) p d (rw e (List·Memᴰ·head refl)))))
+
+module _ (W : ℕ) (ts mask : List ℕ) (p : ℕ) (here : p < length ts) where
+  abbrev T : List Token
+  T = tokensOf ts
 
   abbrev Closing : ℕ
-  Closing = closeOf (pendingAt W (suc p)) (length W)
+  Closing = closeOf (pendingAt T (suc p)) (length T)
 
-  stands-with : (b : CloseName) (y : ℕ) → ((g : Rules) → Leveled g W mask (suc p) → (c : CloseName) (L : ℕ) → (eqb (c .0) (b .0) && bit y L) ≡ behind (masks g (drop (suc p) W) .1) c L) →
-      Stands W mask p (record { kind = kind (getD ts p 0); name = getD ts p 0 / 4; inside = getD mask (suc p) 0; close = b; after = y })
+  -- the context with the close b, and y as the word behind it
+  abbrev Here : CloseName → ℕ → Context
+  Here b y = record { position = p; closing = Closing; kind = kind (getD ts p 0); name = getD ts p 0 / 4; inside = getD mask (suc p) 0; close = b; after = y }
+
+  kind-below : (t : ℕ) → leb 4 (kind t) ≡ false
+  kind-below t = lt-leb 4 (t % 4) (mod-lt t {m = 4} (omega arith))
+
+  -- where what follows the close is right
+  stands-with : (b : CloseName) (y : ℕ) →
+      ((g : Rules) → Leveled W g T mask (suc p) → (k : Bool) (c : CloseName) (L : ℕ) → L < 32 → (eqb (c .0) (b .0) && bit y (goal k L)) ≡ behind k W (masks W g (drop (suc p) T) .1) c L) →
+      Stands W T mask p (Here b y)
   unfolding testAt tokenOf
-  stands-with b y k g l R = rw (tokens-at ts p here) (same-stands (tokenOf (getD ts p 0)) (l (suc p) (omega arith) (rw tokens-length here)) (k g l) R)
-
-  pub stands-closed : (b : CloseName) → Closing < length ts → b .0 ≡ getD ts Closing 0 / 4 →
-      Stands W mask p (record { kind = kind (getD ts p 0); name = getD ts p 0 / 4; inside = getD mask (suc p) 0; close = b; after = getD mask (suc Closing) 0 })
-  stands-closed b h e = stands-with b (getD mask (suc Closing) 0) (λ g l c L. rw (masks-outer g W (suc p)) (go g l (pendingAt W (suc p)) refl c L))
+  stands-with b y k = record { position = refl; closing = refl; rules = right }
     where
-      go : (g : Rules) → Leveled g W mask (suc p) → (q : Closes) → pendingAt W (suc p) ≡ q → (c : CloseName) (L : ℕ) →
-          (eqb (c .0) (b .0) && bit (getD mask (suc Closing) 0) L) ≡ behind (map (λ d. (d .0, masks g (drop (suc (d .1)) W) .0)) q) c L
-      go g l [] f c L = absurd (let z : Closing ≡ length W = rw f in omega (arith, tokens-length ts))
-      go g l (d ∷ q) f c L =
+      right : (g : Rules) → Leveled W g T mask (suc p) → (R : Rule) → Below 32 R → appliesTo W R (Here b y) ≡ testAt W g (drop p T) R
+      right g l R small =
+          rw (tokens-at ts p here)
+          (same-stands (tokenOf (getD ts p 0)) (rw (kind-below (getD ts p 0))) (λ low L m. l (suc p) (omega arith) (rw tokens-length here) L m low) (k g l) R small)
+
+  pub stands-closed : (b : CloseName) → Closing < length ts → b .0 ≡ getD ts Closing 0 / 4 → Stands W T mask p (Here b (getD mask (suc Closing) 0))
+  stands-closed b h e = stands-with b (getD mask (suc Closing) 0) (λ g l k c L m. rw (masks-outer W g T (suc p)) (go g l (pendingAt T (suc p)) refl k c L m))
+    where
+      go : (g : Rules) → Leveled W g T mask (suc p) → (q : Closes) → pendingAt T (suc p) ≡ q → (k : Bool) (c : CloseName) (L : ℕ) → L < 32 →
+          (eqb (c .0) (b .0) && bit (getD mask (suc Closing) 0) (goal k L)) ≡ behind k W (map (λ d. (d .0, masks W g (drop (suc (d .1)) T) .0)) q) c L
+      go g l [] f k c L m = absurd (let z : Closing ≡ length T = rw f in omega (arith, tokens-length ts))
+      go g l (d ∷ q) f k c L m =
           let z : Closing ≡ d .1 = rw f in
-          let i = pending-close W (suc p) d (rw f (List·Memᴰ·head refl)) in
+          let i = pending-close T (suc p) d (rw f (List·Memᴰ·head refl)) in
           let n : d .0 .0 ≡ getD ts (d .1) 0 / 4 = close-of (getD ts (d .1) 0) (d .0) (heads (sym (tokens-at ts (d .1) (rw z at h)) ∙ i .at)) in
           let n′ : b .0 ≡ d .0 .0 = e ∙ rw z (sym n) in
-          rw (n′, z, l (suc (d .1)) (after f) (close-below W (suc p) d (rw f (List·Memᴰ·head refl))) L)
+          let v : floor W (masks W g (drop (suc (d .1)) T) .1) ≡ floor {A = CloseName × Nonterminals} W (map (λ d. (d .0, masks W g (drop (suc (d .1)) T) .0)) q) =
+          ap (floor {A = CloseName × Nonterminals} W) (masks-outer W g T (suc (d .1)) ∙ ap (map (λ (d : CloseName × ℕ). (d .0, masks W g (drop (suc (d .1)) T) .0))) (sym (pending-rest T (suc p) d q f))) in
+          rw (n′, z, ← v) (ap (λ (x : Bool). eqb (c .0) (d .0 .0) && x) (l (suc (d .1)) (after f) (close-below T (suc p) d (rw f (List·Memᴰ·head refl))) L m k))
         where
-          after : pendingAt W (suc p) ≡ d ∷ q → suc p ≤ suc (d .1)
-          after f = omega (arith, pending-from (drop (suc p) W) (suc p) d (rw f (List·Memᴰ·head refl)))
+          after : pendingAt T (suc p) ≡ d ∷ q → suc p ≤ suc (d .1)
+          after f = omega (arith, pending-from (drop (suc p) T) (suc p) d (rw f (List·Memᴰ·head refl)))
 
-  pub stands-open : (b : CloseName) → length ts ≤ Closing → Stands W mask p (record { kind = kind (getD ts p 0); name = getD ts p 0 / 4; inside = getD mask (suc p) 0; close = b; after = 0 })
-  stands-open b h = stands-with b 0 (λ g l c L. rw (masks-outer g W (suc p)) (go g (pendingAt W (suc p)) refl c L))
+  pub stands-open : (b : CloseName) → length ts ≤ Closing → Stands W T mask p (Here b 0)
+  stands-open b h = stands-with b 0 (λ g l k c L m. rw (masks-outer W g T (suc p)) (go g (pendingAt T (suc p)) refl k c L))
     where
-      go : (g : Rules) (q : Closes) → pendingAt W (suc p) ≡ q → (c : CloseName) (L : ℕ) →
-          (eqb (c .0) (b .0) && bit 0 L) ≡ behind (map (λ d. (d .0, masks g (drop (suc (d .1)) W) .0)) q) c L
-      go g [] f c L = rw (bit-zero L) (and-false (eqb (c .0) (b .0)))
-      go g (d ∷ q) f c L =
-          absurd (let z : Closing ≡ d .1 = rw f in let k = close-below W (suc p) d (rw f (List·Memᴰ·head refl)) in omega (arith, tokens-length ts))
+      go : (g : Rules) (q : Closes) → pendingAt T (suc p) ≡ q → (k : Bool) (c : CloseName) (L : ℕ) → (eqb (c .0) (b .0) && bit 0 (goal k L)) ≡ behind k W (map (λ d. (d .0, masks W g (drop (suc (d .1)) T) .0)) q) c L
+      go g [] f k c L = rw (bit-zero (goal k L)) (and-false (eqb (c .0) (b .0)))
+      go g (d ∷ q) f k c L = absurd (let z : Closing ≡ d .1 = rw f in let k = close-below T (suc p) d (rw f (List·Memᴰ·head refl)) in omega (arith, tokens-length ts))
 
 -- ── one turn of each pass ──
 
@@ -179,27 +223,79 @@ module _ (ts : List ℕ) where
       then : (k : ℕ) → k ≤ length Words → i < k → getD (set m i top) k 0 ≡ closeOf (pendingAt Words (suc k)) (length Words)
       then k l f = rw (getD-set-other m i k top 0 (λ e. omega arith)) (q k f l)
 
-module _ (t : List ℕ) (head : Head) (w : List Token) where
+-- ── words ──
+
+onto-same : (low : Bool) (n : ℕ) (x y : Nonterminals) (L : ℕ) → x L ≡ y L → onto low n x L ≡ onto low n y L
+onto-same true n x y L e = e
+onto-same false n x y L e = ap (λ (b : Bool). b && leb n L) e
+
+-- two sets in one word: the second has the members of the first from n on
+pub word-joined : (set high n : ℕ) → set < 4294967296 → ((L : ℕ) → bit high L ≡ (leb n L && bit set L)) → (L : ℕ) → L < 32 → (low : Bool) → bit (set + high * 4294967296) (goal low L) ≡ onto low n (bit set) L
+word-joined set high n h e L l true = joined-low 32 set high L l
+word-joined set high n h e L l false = joined-high 32 set high L h ∙ e L ∙ and-comm (leb n L) (bit set L)
+
+-- tests that agree on the first n rules of a table
+pub any-like : (t : List ℕ) (f h : Rule → Bool) (n : ℕ) → ((r : ℕ) → r < n → f (ruleIn t r) ≡ h (ruleIn t r)) → any f (rulesIn t n) ≡ any h (rulesIn t n)
+unfolding rulesIn
+any-like t f h zero e = refl
+any-like t f h (suc n) e = any-snoc f (rulesIn t n) (ruleIn t n) ∙ rw (any-like t f h n (λ r l. e r (omega arith)), e n (omega arith)) (sym (any-snoc h (rulesIn t n) (ruleIn t n)))
+
+module _ (t : List ℕ) (head : Head) (x : Indexed t head) (ts : List ℕ) where
   abbrev G : Rules
   G = rulesOf t head
 
-  pub leveled-end : (mask : List ℕ) (i : ℕ) → length w < i → Leveled G w mask i
-  leveled-end mask i h k p q = absurd (omega arith)
+  abbrev U : ℕ
+  U = head .well
 
-  pub leveled-turn : (mask : List ℕ) (i : ℕ) (context : Context) (v : ℕ) → 0 < i → i ≤ length mask → Leveled G w mask i → Stands w mask (i - 1) context → v ≡ levelIn t context (head .rules) →
-      Leveled G w (set mask (i - 1) v) (i - 1)
-  leveled-turn mask zero context v pos h l s e = absurd (omega arith)
-  leveled-turn mask (suc i) context v pos h l s e = let q : suc i - 1 ≡ i = omega arith in rw q (λ k f r L. ⊎-elim (now k L) (then k r L) (eq-or-lt-of-le f))
+  abbrev T₀ : List Token
+  T₀ = tokensOf ts
+
+  -- the word of a set, where k is the first pending close
+  abbrev WordOf : ℕ → ℕ → ℕ → Type 0
+  WordOf v set k = (L : ℕ) → L < 32 → (low : Bool) → bit v (goal low L) ≡ onto low (floorOf k (length ts) U) (bit set) L
+
+  -- the nonterminals of the rules that can stand at a position derive what is ahead
+  pub level-says : (mask : List ℕ) (i : ℕ) (context : Context) → Stands U T₀ mask i context → Leveled U G T₀ mask (suc i) → (L : ℕ) → bit (levelIn U t context (head .rules)) L ≡ masks U G (drop i T₀) .0 L
+  level-says mask i context s l L =
+      level-bit U t context (head .rules) L
+      ∙ any-like t (λ R. eqb (left R) L && appliesTo U R context) (λ R. eqb (left R) L && testAt U G (drop i T₀) R) (head .rules)
+      (λ r m. ap (λ (b : Bool). eqb (left (ruleIn t r)) L && b) (s .rules G l (ruleIn t r) (x .ready .small r m)))
+      ∙ level-test U G (drop i T₀) L
+
+  -- what the word has to say
+  abbrev Says : ℕ → ℕ → Type 0
+  Says v i = (L : ℕ) → L < 32 → (low : Bool) → bit v (goal low L) ≡ onto low (floor U (masks U G (drop i T₀) .1)) (masks U G (drop i T₀) .0) L
+
+  word-says : (set v k i : ℕ) → k ≡ closeOf (pendingAt T₀ i) (length T₀) → WordOf v set k →
+      ((L : ℕ) → bit set L ≡ masks U G (drop i T₀) .0 L) → Says v i
+  word-says set v k i e w s L l low = w L l low ∙ rw (e, floor-pending U ts G i) (onto-same low (floor U (masks U G (drop i T₀) .1)) (bit set) (masks U G (drop i T₀) .0) L (s L))
+
+  word-turn : (mask : List ℕ) (i v : ℕ) → 0 < i → i ≤ length mask → Leveled U G T₀ mask i → Says v (i - 1) → Leveled U G T₀ (set mask (i - 1) v) (i - 1)
+  word-turn mask zero v pos h l e = absurd (omega arith)
+  word-turn mask (suc i) v pos h l e = let q : suc i - 1 ≡ i = omega arith in rw q (λ k f r. ⊎-elim (now k) (then k r) (eq-or-lt-of-le f))
     where
       q : suc i - 1 ≡ i
       q = omega arith
 
-      now : (k L : ℕ) → i ≡ k → bit (getD (set mask i v) k 0) L ≡ masks G (drop k w) .0 L
-      now k L f =
-          rw (← f, getD-set-same mask i v 0 h, e)
-          (level-bit t context (head .rules) L
-          ∙ ap (λ (p : Rule → Bool). lefts p G L) (fun-ext ((rw q at s) G l))
-          ∙ level-test G (drop i w) L)
+      now : (k : ℕ) → i ≡ k → Says (getD (set mask i v) k 0) k
+      now k f = rw (← f, getD-set-same mask i v 0 h) (rw q at e)
 
-      then : (k : ℕ) → k ≤ length w → (L : ℕ) → i < k → bit (getD (set mask i v) k 0) L ≡ masks G (drop k w) .0 L
-      then k r L f = rw (getD-set-other mask i k v 0 (λ e. omega arith)) (l k f r L)
+      then : (k : ℕ) → k ≤ length T₀ → i < k → Says (getD (set mask i v) k 0) k
+      then k r f = rw (getD-set-other mask i k v 0 (λ e. omega arith)) (l k f r)
+
+  -- at the end the nonterminals that have an empty rule
+  pub leveled-end : (mask : List ℕ) (v : ℕ) → length ts < length mask → WordOf v (endsIn t) (length ts) → Leveled U G T₀ (set mask (length ts) v) (length ts)
+  leveled-end mask v h w k f r =
+      let e : k ≡ length ts = omega (arith, tokens-length ts) in
+      rw (e, getD-set-same mask (length ts) v 0 h)
+      (word-says (endsIn t) v (length ts) (length ts) (top-end ts) w
+      (λ L. ap (λ (m : ℕ). bit m L) (sym (level-ends U t head (endContext (length ts)) x (omega arith))) ∙ level-says mask (length ts) (endContext (length ts)) (stands-end U T₀ mask (length ts) (sym (tokens-length ts))) beyond L))
+    where
+      beyond : Leveled U G T₀ mask (suc (length ts))
+      beyond k f r = absurd (omega (arith, tokens-length ts))
+
+  pub leveled-turn : (mask : List ℕ) (i : ℕ) (context : Context) (top v : ℕ) → 0 < i → i ≤ length mask → Leveled U G T₀ mask i → Stands U T₀ mask (i - 1) context →
+      top ≡ closeOf (pendingAt T₀ (i - 1)) (length T₀) → WordOf v (levelIn U t context (head .rules)) top → Leveled U G T₀ (set mask (i - 1) v) (i - 1)
+  leveled-turn mask i context top v pos h l s e w =
+      let q : suc (i - 1) ≡ i = omega arith in
+      word-turn mask i v pos h l (word-says (levelIn U t context (head .rules)) v top (i - 1) e w (level-says mask (i - 1) context s (rw q l)))

@@ -13,7 +13,6 @@ ghost use mathlib.Core.List.{_++_};
 ghost use lib.ListN.{length};
 ghost use Rattle.vpg.specs.Runs.{entries};
 ghost use Rattle.sets_theory.specs.believed.Sets.{choiceCount};
-ghost use Rattle.level_theory.specs.Pending.{WellMatched};
 ghost use Rattle.tables.specs.Ready.{grammarIn};
 ghost use Rattle.rule_index.specs.Index.{Indexed};
 ghost use Rattle.grammar_file.specs.believed.GrammarFile.{grammarOf};
@@ -99,11 +98,12 @@ fn list_readings(
 // The text where both files pass.
 fn list_accepted(table: &Table, head: Head, tokens: &[u32], text: &mut [u8]) -> Cursor
     requires { ⌜ Indexed (now table) head ⌝ }
-    requires { ⌜ Tokens (now tokens) × WellMatched (tokensOf (now tokens)) ⌝ }
+    requires { ⌜ Tokens (now tokens) ⌝ }
     ensures { λ r. ⌜ (r, now (text .exit)) ≡ laid (atStart, now (text .entry)) (tokensLine (length (now (tokens .entry))) ++ readingsListed (choiceCount (grammarIn (now (table .entry)) head) (tokensOf (now (tokens .entry)))) (entries (grammarIn (now (table .entry)) head) (tokensOf (now (tokens .entry))))) ⌝ }
 {
-    let closes = levels::closes_of(tokens);
-    let masks = levels::masks_of(table, head, tokens, &closes);
+    let mut closes = [0u16; 1025];
+    let mut masks = [0u64; 1025];
+    levels::prepare(table, head, tokens, &mut closes, &mut masks);
     let mut reading = [0u8; 1025];
     let found = first_run::first(table, head, tokens, &closes, &masks, &mut reading);
     match found {
@@ -129,7 +129,7 @@ fn list_refused(grammar: &[u8], e: u8, text: &mut [u8]) -> Cursor
 pub fn list(grammar: &[u8], history: &[u8], text: &mut [u8]) -> Cursor
     ensures { λ r. ⌜ (r, now (text .exit)) ≡ laid (atStart, now (text .entry)) (listing (now (grammar .entry)) (now (history .entry))) ⌝ }
 {
-    let mut table = [0u16; 1154];
+    let mut table = [0u16; 1412];
     let mut tokens = [0u32; 1024];
     let opened = service::open_files(grammar, history, 0, 0, &mut table, &mut tokens);
     let Opened::Files(head, n) = opened else {

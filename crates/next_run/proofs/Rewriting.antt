@@ -21,9 +21,9 @@ module _ (t : List ℕ) (head : Head) (w : List Token) (closes : List ℕ) (b : 
   G = rulesOf t head
 
   abbrev S : State
-  S = stateOf w (onward t closes b)
+  S = stateOf (head .well) w (onward t closes b)
 
-  pub rewritten-on : (u : Token) (new : List ℕ) → b .position < length w → drop (b .position) w ≡ u ∷ drop (suc (b .position)) w → Filled G w (onward t closes b) (set old (b .position) (b .rule)) new → Rewritten t head w closes b old new
+  pub rewritten-on : (u : Token) (new : List ℕ) → b .position < length w → drop (b .position) w ≡ u ∷ drop (suc (b .position)) w → Filled (head .well) G w (onward t closes b) (set old (b .position) (b .rule)) new → Rewritten t head w closes b old new
   rewritten-on u new h e k = record {
     rest = k .run;
     follows = following (drop (b .position) w) e (k .least);

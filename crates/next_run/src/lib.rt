@@ -23,7 +23,7 @@ pub enum Found {
 }
 
 // The last position at which a larger rule still leads to a reading, and the smallest such rule there: it comes behind the one in the buffer in
-// its class. At a close that is the class of the nonterminal's empty rules, in which no other comes.
+// its class: all rules of a nonterminal that can stand at one position are of one class.
 pub fn last_position(
     table: &Table,
     head: Head,
@@ -35,8 +35,8 @@ pub fn last_position(
 ) -> Found
     requires { ⌜ Setting (now table) head (now tokens) (now closes) (now masks) ⌝ }
     requires { ⌜ length (now tokens) < length (now reading) ⌝ }
-    requires { ⌜ EachFits (now table) (head .rules) (tokensOf (now tokens)) (now at) (now reading) ⌝ }
-    ensures { λ r. ⌜ LastPosition (now (table .entry)) (head .rules) (tokensOf (now (tokens .entry))) (now (at .entry)) (now (reading .entry)) r ⌝ }
+    requires { ⌜ EachFits (now table) head (tokensOf (now tokens)) (now at) (now reading) ⌝ }
+    ensures { λ r. ⌜ LastPosition (now (table .entry)) head (tokensOf (now (tokens .entry))) (now (at .entry)) (now (reading .entry)) r ⌝ }
 {
     let count = head.rules;
     let mut p = tokens.len() + 1;
@@ -50,7 +50,7 @@ pub fn last_position(
         let old = reading[p] as usize;
         let mut r = rule_index::next_of(table, old);
         while r < count {
-            if first_run::fits(table, r, nonterminal, context) {
+            if moves::fits(table, head, r, nonterminal, context) {
                 break 'search Found::At(p, r);
             }
             r = rule_index::next_of(table, r);
@@ -78,7 +78,7 @@ fn rewrite(
 )
     requires { ⌜ Setting (now table) head (now tokens) (now closes) (now masks) ⌝ }
     requires { ⌜ (branch .position ≤ length (now tokens)) × (branch .rule < head .rules) × (length (branch .behind) ≡ 1025) × (length (now tokens) < length (now reading)) ⌝ }
-    requires { ⌜ (branch .position < length (now tokens) → Derives (rulesOf (now table) head) (tokensOf (now tokens)) (onward (now table) (now closes) branch)) ⌝ }
+    requires { ⌜ (branch .position < length (now tokens) → Derives (head .well) (rulesOf (now table) head) (tokensOf (now tokens)) (onward (now table) (now closes) branch)) ⌝ }
     ensures { λ _. ⌜ Rewritten (now (table .entry)) head (tokensOf (now (tokens .entry))) (now (closes .entry)) branch (now (reading .entry)) (now (reading .exit)) ⌝ }
 {
     let p = branch.position;
@@ -86,10 +86,10 @@ fn rewrite(
     reading[p] = r as u8;
     if p < tokens.len() {
         let rule = tables::six_in(table, r);
-        let j = closes[p];
+        let j = levels::close_at(closes, p);
         let mut behind = branch.behind;
-        let nonterminal = first_run::inner_of(rule, behind[p]);
-        first_run::store_later(&mut behind, j, rule);
+        let nonterminal = moves::inner_of(rule, behind[p]);
+        moves::store_later(&mut behind, j, rule);
         let position = p + 1;
         let from = Configuration {
             position,

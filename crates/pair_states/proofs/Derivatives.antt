@@ -1,33 +1,35 @@
 -- What is computed on words is the derivative of the state that the words are (Definition 4.2 of the paper).
 use Prim.Native.Nat.{ℕ, _<_}
 use mathlib.Core.Path.{_≡_, refl, sym, _∙_, ap}
-use mathlib.Core.Bool.{Bool, true, false, cond, _&&_, false≢true, and-true, and-false}
+use mathlib.Core.Bool.{Bool, true, false, cond, _&&_, _||_, false≢true, and-true, and-false, or-true, or-false}
 use mathlib.Core.List.{List, [], _∷_}
 use borrow.Author.Tests.{eqb-true, eq-eqb}
 use lib.Dec.{eqb}
-use lib.ListN.{getD, set, replicate, length-replicate, getD-replicate}
+use lib.ListN.{length, getD, set, replicate, length-replicate, getD-replicate}
 use lib.Seq.{getD-set-same, getD-set-other}
 use Rattle.laws.specs.Any.{any, anyBelow}
-use Rattle.laws.proofs.Bools.{both, and-left, and-right, same-test}
+use Rattle.laws.proofs.Any.{below-same}
+use Rattle.laws.proofs.Bools.{both, and-left, and-right, or-comm, same-test}
 use Rattle.bits.specs.Bit.{bit, addBit}
 use Rattle.bits.proofs.Bits.{bit-zero, bit-add}
-use Rattle.vpg.specs.declared.MarkName.{MarkName}
 use Rattle.vpg.specs.declared.OpenName.{OpenName}
 use Rattle.vpg.specs.declared.CloseName.{CloseName}
 use Rattle.vpg.specs.declared.Rule.{Rule}
+use Rattle.vpg.specs.declared.Token.{Token}
+use Rattle.vpg.specs.Tests.{isOpen, sameToken}
 use Rattle.vpg.specs.believed.Grammar.{Grammar}
-use Rattle.pair_theory.specs.Pairs.{PairState, single, markTo, overMark, openTo, overOpen, finished, closeTo, overClose}
+use Rattle.pair_theory.specs.Pairs.{PairState, single, nextTo, overNext, openTo, overOpen, finished, closeTo, overClose, overReturn, derivative}
 use Rattle.tables.specs.declared.Head.{Head}
 use Rattle.tables.specs.Ready.{Below}
 use Rattle.tables.specs.Table.{ruleIn, rulesIn}
 use Rattle.rule_index.specs.Index.{Indexed, endsIn}
-use Rattle.pair_words.specs.declared.Pattern.{Pattern}
-use Rattle.pair_words.specs.Words.{wordsAfter}
-use Rattle.pair_words.proofs.Digits.{adds, bit-words}
+use Rattle.pair_words.specs.Words.{Gives, givesAt, givesBehind, wordsBy}
+use Rattle.pair_words.proofs.Below.{Fits, at-fits, behind-fits}
+use Rattle.pair_words.proofs.Digits.{adds, words-size, bit-words}
 use Rattle.pair_states.specs.Encodes.{Encodes}
 use Rattle.pair_states.specs.Finished.{finishedOf}
 use Rattle.pair_states.specs.Wide.{wideGrammar}
-use Rattle.pair_states.proofs.Finished.{below-cong, any-rules, finished-members}
+use Rattle.pair_states.proofs.Finished.{any-rules, finished-members}
 
 -- ── tests in another order ──
 
@@ -60,13 +62,24 @@ any-both true q l = refl
 any-both false q [] = refl
 any-both false q (R ∷ l) = any-both false q l
 
+-- one of two tests
+any-or : (p q : Rule → Bool) (l : List Rule) → any (λ R. p R || q R) l ≡ (any p l || any q l)
+any-or p q [] = refl
+any-or p q (R ∷ l) = ap (λ (b : Bool). (p R || q R) || b) (any-or p q l) ∙ four (p R) (q R) (any p l) (any q l)
+  where
+    four : (a b c d : Bool) → ((a || b) || (c || d)) ≡ ((a || c) || (b || d))
+    four true b c d = refl
+    four false true c d = sym (or-true c)
+    four false false c d = refl
+
 -- ── one rule ──
 
-mark-rule : (c : MarkName) (words : List ℕ) (S : PairState) (L₁ L₃ : ℕ) (R : Rule) → Below 32 R → L₁ < 32 → Encodes words S →
-    adds (Pattern.Mark c) words 0 L₃ L₁ R ≡ markTo c S L₁ L₃ R
-mark-rule c words S L₁ L₃ (Rule.Empty M) h l x = refl
-mark-rule c words S L₁ L₃ (Rule.Mark M c′ M₁) h l x = rw (x .at L₁ M l (h .0)) (last-first (eqb (c′ .0) (c .0)) (eqb M₁ L₃) (S L₁ M))
-mark-rule c words S L₁ L₃ (Rule.Step M a M₁ b M₂) h l x = refl
+-- behind a token that doesn't open a step
+next-rule : (i : Token) → ((a : OpenName) → isOpen a i ≡ false) → (words : List ℕ) (S : PairState) (L₁ L₃ : ℕ) (R : Rule) → Below 32 R → L₁ < 32 → Encodes words S →
+    adds (givesAt i words) L₃ L₁ R ≡ nextTo i S L₁ L₃ R
+next-rule i o words S L₁ L₃ (Rule.Empty M) h l x = refl
+next-rule i o words S L₁ L₃ (Rule.Next M i′ M₁) h l x = rw (x .at L₁ M l (h .0)) (last-first (sameToken i′ i) (eqb M₁ L₃) (S L₁ M))
+next-rule i o words S L₁ L₃ (Rule.Step M a M₁ b M₂) h l x = rw (o a)
 
 -- itself alone as context
 bit-itself : (b : Bool) (M K : ℕ) → bit (cond b (addBit 0 M) 0) K ≡ (b && eqb K M)
@@ -89,19 +102,22 @@ open-step a x M L K =
     let f = eqb-true M K (and-right a _ s) in
     both (and-left a _ s) (both (eq-eqb M L (f ∙ e)) (both (and-left x _ r) (eq-eqb K M (sym f)))))
 
-open-rule : (a : OpenName) (words : List ℕ) (S : PairState) (L₃ L₃′ : ℕ) (R : Rule) → Below 32 R → Encodes words S →
-    adds (Pattern.Open a) words 0 L₃′ L₃ R ≡ (eqb L₃ L₃′ && openTo 32 a S L₃ R)
-open-rule a words S L₃ L₃′ (Rule.Empty M) h x = sym (and-false (eqb L₃ L₃′))
-open-rule a words S L₃ L₃′ (Rule.Mark M c M₁) h x = sym (and-false (eqb L₃ L₃′))
-open-rule a words S L₃ L₃′ (Rule.Step M a′ M₁ b M₂) h x =
-    let some : anyBelow 32 (bit (getD words M 0)) ≡ anyBelow 32 (λ L₁. S L₁ M) = below-cong 32 (bit (getD words M 0)) (λ L₁. S L₁ M) (λ L₁ l. x .at L₁ M l (h .0)) in
-    ap (λ (b : Bool). eqb (a′ .0) (a .0) && (eqb M₁ L₃′ && b)) (bit-itself (anyBelow 32 (bit (getD words M 0))) M₁ L₃)
-    ∙ rw some (open-step (eqb (a′ .0) (a .0)) (anyBelow 32 (λ L₁. S L₁ M)) M₁ L₃′ L₃)
+open-rule : (a : OpenName) (words : List ℕ) (S : PairState) (L₁ L₃ : ℕ) (R : Rule) → Below 32 R → L₁ < 32 → Encodes words S →
+    adds (givesAt (Token.Open a) words) L₃ L₁ R ≡ ((eqb L₁ L₃ && openTo 32 a S L₁ R) || nextTo (Token.Open a) S L₁ L₃ R)
+open-rule a words S L₁ L₃ (Rule.Empty M) h l x = rw (and-false (eqb L₁ L₃))
+open-rule a words S L₁ L₃ (Rule.Next M i M₁) h l x =
+    rw (and-false (eqb L₁ L₃), x .at L₁ M l (h .0)) (last-first (sameToken i (Token.Open a)) (eqb M₁ L₃) (S L₁ M))
+open-rule a words S L₁ L₃ (Rule.Step M a′ M₁ b M₂) h l x =
+    let some : anyBelow 32 (bit (getD words M 0)) ≡ anyBelow 32 (λ K. S K M) = below-same 32 (bit (getD words M 0)) (λ K. S K M) (λ K k. x .at K M k (h .0)) in
+    let inside : adds (givesAt (Token.Open a) words) L₃ L₁ (Rule.Step M a′ M₁ b M₂) ≡ (eqb L₁ L₃ && openTo 32 a S L₁ (Rule.Step M a′ M₁ b M₂)) =
+    ap (λ (b : Bool). eqb (a′ .0) (a .0) && (eqb M₁ L₃ && b)) (bit-itself (anyBelow 32 (bit (getD words M 0))) M₁ L₁)
+    ∙ rw some (open-step (eqb (a′ .0) (a .0)) (anyBelow 32 (λ K. S K M)) M₁ L₃ L₁) in
+    inside ∙ sym (or-false (eqb L₁ L₃ && openTo 32 a S L₁ (Rule.Step M a′ M₁ b M₂)))
 
 close-rule : (g : Grammar) (b : CloseName) (a : OpenName) (saved : List ℕ) (done : ℕ) (S S₁ : PairState) (L₁ L₅ : ℕ) (R : Rule) → Below 32 R → L₁ < 32 →
-    Encodes saved S₁ → ((L : ℕ) → L < 32 → bit done L ≡ finished g S L) → adds (Pattern.Step a b) saved done L₅ L₁ R ≡ closeTo g b S S₁ a L₁ L₅ R
+    Encodes saved S₁ → ((L : ℕ) → L < 32 → bit done L ≡ finished g S L) → adds (givesBehind a b done saved) L₅ L₁ R ≡ closeTo g b S S₁ a L₁ L₅ R
 close-rule g b a saved done S S₁ L₁ L₅ (Rule.Empty M) h l x y = refl
-close-rule g b a saved done S S₁ L₁ L₅ (Rule.Mark M c M₁) h l x y = refl
+close-rule g b a saved done S S₁ L₁ L₅ (Rule.Next M i M₁) h l x y = refl
 close-rule g b a saved done S S₁ L₁ L₅ (Rule.Step M a′ M₁ b′ M₂) h l x y =
     rw (x .at L₁ M l (h .0), y M₁ (h .1)) (reorder (eqb (a′ .0) (a .0)) (eqb (b′ .0) (b .0)) (finished g S M₁) (eqb M₂ L₅) (S₁ L₁ M))
 
@@ -131,33 +147,54 @@ module _ (t : List ℕ) (head : Head) (indexed : Indexed t head) where
   n = head .rules
 
   -- by a law of one rule
-  by-rules : (p : Pattern) (from : List ℕ) (done L K : ℕ) (q : Rule → Bool) → L < 32 → ((R : Rule) → Below 32 R → adds p from done L K R ≡ q R) →
-      bit (getD (wordsAfter p from done t n) L 0) K ≡ any q (rulesIn t n)
-  by-rules p from done L K q l h =
-      bit-words p from done t n (indexed .ready .small) L K l
-      ∙ any-rules (adds p from done L K) t n
-      ∙ below-cong n (λ r. adds p from done L K (ruleIn t r)) (λ r. q (ruleIn t r)) (λ r m. h (ruleIn t r) (indexed .ready .small r m))
-      ∙ sym (any-rules q t n)
+  by-rules : (p : Gives) → Fits p → (base : List ℕ) → length base ≡ 32 → (L K : ℕ) (q : Rule → Bool) → L < 32 → ((R : Rule) → Below 32 R → adds p L K R ≡ q R) →
+      bit (getD (wordsBy p base t n) L 0) K ≡ (bit (getD base L 0) K || any q (rulesIn t n))
+  by-rules p fits base long L K q l h =
+      bit-words p base long t fits n (indexed .ready .small) L K l
+      ∙ ap (λ (b : Bool). bit (getD base L 0) K || b)
+      (any-rules (adds p L K) t n
+      ∙ below-same n (λ r. adds p L K (ruleIn t r)) (λ r. q (ruleIn t r)) (λ r m. h (ruleIn t r) (indexed .ready .small r m))
+      ∙ sym (any-rules q t n))
+
+  -- with no word besides
+  by-rules-alone : (p : Gives) → Fits p → (L K : ℕ) (q : Rule → Bool) → L < 32 → ((R : Rule) → Below 32 R → adds p L K R ≡ q R) →
+      bit (getD (wordsBy p (replicate 32 0) t n) L 0) K ≡ any q (rulesIn t n)
+  by-rules-alone p fits L K q l h =
+      by-rules p fits (replicate 32 0) (length-replicate {A = ℕ} 32 0) L K q l h
+      ∙ ap (λ (b : Bool). b || any q (rulesIn t n)) (ap (λ (w : ℕ). bit w K) (getD-replicate 32 L 0 0 l) ∙ bit-zero K)
 
   -- (1)
-  pub mark-encodes : (c : MarkName) (words : List ℕ) (S : PairState) → Encodes words S → Encodes (wordsAfter (Pattern.Mark c) words 0 t n) (overMark g c S)
-  mark-encodes c words S x = record {
-    at = λ L₁ L₃ l₁ l₃. by-rules (Pattern.Mark c) words 0 L₃ L₁ (markTo c S L₁ L₃) l₃ (λ R h. mark-rule c words S L₁ L₃ R h l₁ x);
+  next-encodes : (i : Token) → ((a : OpenName) → isOpen a i ≡ false) → (words : List ℕ) (S : PairState) → Encodes words S → Encodes (wordsBy (givesAt i words) (replicate 32 0) t n) (overNext g i S)
+  next-encodes i o words S x = record {
+    at = λ L₁ L₃ l₁ l₃. by-rules-alone (givesAt i words) (at-fits i words) L₃ L₁ (nextTo i S L₁ L₃) l₃ (λ R h. next-rule i o words S L₁ L₃ R h l₁ x);
   }
 
   -- (2)
-  pub open-encodes : (a : OpenName) (words : List ℕ) (S : PairState) → Encodes words S → Encodes (wordsAfter (Pattern.Open a) words 0 t n) (overOpen g a S)
+  open-encodes : (a : OpenName) (words : List ℕ) (S : PairState) → Encodes words S → Encodes (wordsBy (givesAt (Token.Open a) words) (replicate 32 0) t n) (overOpen g a S)
   open-encodes a words S x = record {
-    at = λ L₃ L₃′ l l′.
-        by-rules (Pattern.Open a) words 0 L₃′ L₃ (λ R. eqb L₃ L₃′ && openTo 32 a S L₃ R) l′ (λ R h. open-rule a words S L₃ L₃′ R h x)
-        ∙ any-both (eqb L₃ L₃′) (openTo 32 a S L₃) (rulesIn t n);
+    at = λ L₁ L₃ l₁ l₃.
+        by-rules-alone (givesAt (Token.Open a) words) (at-fits (Token.Open a) words) L₃ L₁ (λ R. (eqb L₁ L₃ && openTo 32 a S L₁ R) || nextTo (Token.Open a) S L₁ L₃ R) l₃ (λ R h. open-rule a words S L₁ L₃ R h l₁ x)
+        ∙ any-or (λ R. eqb L₁ L₃ && openTo 32 a S L₁ R) (nextTo (Token.Open a) S L₁ L₃) (rulesIn t n)
+        ∙ ap (λ (b : Bool). b || overNext g (Token.Open a) S L₁ L₃) (any-both (eqb L₁ L₃) (openTo 32 a S L₁) (rulesIn t n));
   }
 
-  -- (3)
+  -- over any token, with no step to go back to
+  pub token-encodes : (i : Token) (words : List ℕ) (S : PairState) → Encodes words S → Encodes (wordsBy (givesAt i words) (replicate 32 0) t n) (derivative g i (S, []) .0)
+  token-encodes (Token.Mark c) words S x = next-encodes (Token.Mark c) (λ a. refl) words S x
+  token-encodes (Token.Open a) words S x = open-encodes a words S x
+  token-encodes (Token.Close b) words S x = next-encodes (Token.Close b) (λ a. refl) words S x
+
+  pub alone-size : (p : Gives) {out : List ℕ} → out ≡ wordsBy p (replicate 32 0) t n → length out ≡ 32
+  alone-size p e = ap length e ∙ words-size p (replicate 32 0) (length-replicate {A = ℕ} 32 0) t n
+
+  -- (3) the step's close, besides a close that is taken alone
   pub close-encodes : (b : CloseName) (a : OpenName) (words saved : List ℕ) (S S₁ : PairState) → Encodes words S → Encodes saved S₁ →
-      Encodes (wordsAfter (Pattern.Step a b) saved (finishedOf words (endsIn t) 32) t n) (overClose g b S S₁ a)
+      Encodes (wordsBy (givesBehind a b (finishedOf words (endsIn t) 32) saved) (wordsBy (givesAt (Token.Close b) words) (replicate 32 0) t n) t n) (overReturn g b S S₁ a)
   close-encodes b a words saved S S₁ x y = record {
     at = λ L₁ L₅ l₁ l₅.
-        by-rules (Pattern.Step a b) saved (finishedOf words (endsIn t) 32) L₅ L₁ (closeTo g b S S₁ a L₁ L₅) l₅
-        (λ R h. close-rule g b a saved (finishedOf words (endsIn t) 32) S S₁ L₁ L₅ R h l₁ y (finished-members t head indexed words S x));
+        let done = finishedOf words (endsIn t) 32 in
+        by-rules (givesBehind a b done saved) (behind-fits a b done saved) _ (alone-size (givesAt (Token.Close b) words) refl) L₅ L₁ (closeTo g b S S₁ a L₁ L₅) l₅
+        (λ R h. close-rule g b a saved done S S₁ L₁ L₅ R h l₁ y (finished-members t head indexed words S x))
+        ∙ ap (λ (c : Bool). c || overClose g b S S₁ a L₁ L₅) (token-encodes (Token.Close b) words S x .at L₁ L₅ l₁ l₅)
+        ∙ or-comm (overNext g (Token.Close b) S L₁ L₅) (overClose g b S S₁ a L₁ L₅);
   }

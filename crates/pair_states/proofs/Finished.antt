@@ -2,7 +2,7 @@
 use Prim.Native.Nat.{ℕ, zero, suc, _+_, _<_}
 use native.Mathlib.Numerals.{add-one}
 use native.Mathlib.Omega.{arith}
-use mathlib.Core.Path.{_≡_, refl, sym, _∙_, ap, ap₂}
+use mathlib.Core.Path.{_≡_, refl, sym, _∙_, ap}
 use mathlib.Core.Bool.{Bool, true, false, cond, _&&_, _||_}
 use mathlib.Core.List.{List}
 use borrow.Author.Tests.{ltb-true, ltb-false, lt-ltb}
@@ -10,7 +10,7 @@ use lib.Bits.{bitOr}
 use lib.Dec.{ltb}
 use lib.ListN.{getD}
 use Rattle.laws.specs.Any.{any, anyBelow}
-use Rattle.laws.proofs.Any.{below-some, some-below, any-snoc}
+use Rattle.laws.proofs.Any.{below-some, some-below, below-same, any-snoc}
 use Rattle.laws.proofs.Bools.{both, and-left, and-right, or-comm, same-test}
 use Rattle.bits.specs.Bit.{bit}
 use Rattle.bits.proofs.Bits.{bit-zero, bit-or}
@@ -26,10 +26,6 @@ use Rattle.pair_states.specs.Finished.{finishedOf, mayEnd}
 use Rattle.pair_states.specs.Wide.{wideGrammar}
 
 -- ── tests ──
-
-pub below-cong : (n : ℕ) (p q : ℕ → Bool) → ((r : ℕ) → r < n → p r ≡ q r) → anyBelow n p ≡ anyBelow n q
-below-cong zero p q h = refl
-below-cong (suc n) p q h = ap₂ _||_ (h n (omega arith)) (below-cong n p q (λ r l. h r (omega arith)))
 
 -- over the rules of a table by their numbers
 pub any-rules : (p : Rule → Bool) (t : List ℕ) (n : ℕ) → any p (rulesIn t n) ≡ anyBelow n (λ r. p (ruleIn t r))
@@ -107,4 +103,4 @@ module _ (t : List ℕ) (head : Head) (indexed : Indexed t head) where
           some-below 32 current K k (both (rule-empties K k (record { number = r .number; small = r .small; is = m .0 })) (x .at L K l k ∙ m .1))
 
   pub finished-some : (words : List ℕ) (S : PairState) → Encodes words S → mayEnd words (endsIn t) ≡ anyBelow 32 (finished g S)
-  finished-some words S x = below-cong 32 (bit (finishedOf words (endsIn t) 32)) (finished g S) (finished-members words S x)
+  finished-some words S x = below-same 32 (bit (finishedOf words (endsIn t) 32)) (finished g S) (finished-members words S x)

@@ -8,11 +8,12 @@ use Rattle.pair_theory.specs.Pairs.{Proper}
 use Rattle.tables.specs.declared.Head.{Head}
 use Rattle.tables.specs.Ready.{Below, Ready}
 use Rattle.tables.specs.Table.{ruleIn}
-use Rattle.tables.proofs.Tables.{rules-at, rules-below}
+use Rattle.tables.proofs.Tables.{ready-general, rules-at, rules-below}
 use Rattle.pair_states.specs.Wide.{wideGrammar}
 
 pub proper : (table : List ℕ) (head : Head) → Ready table head → Proper (wideGrammar table head)
 proper table head ready = record {
+  form = ready-general table head ready;
   start-in = ready .start-small;
   inside-in = λ r L a L₁ b L₂ e.
       let l = rules-below table (head .rules) r e in

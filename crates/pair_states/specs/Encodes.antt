@@ -1,5 +1,5 @@
 -- Which state 32 words are.
--- Law: mark-encodes, open-encodes, close-encodes (pair_states/proofs/Derivatives.antt)
+-- Law: single-encodes, token-encodes, close-encodes (pair_states/proofs/Derivatives.antt)
 use Prim.Native.Nat.{ℕ, _<_}
 use mathlib.Core.Path.{_≡_}
 use mathlib.Core.List.{List}

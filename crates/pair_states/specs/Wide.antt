@@ -7,4 +7,4 @@ use Rattle.tables.specs.declared.Head.{Head}
 use Rattle.tables.specs.Ready.{rulesOf}
 
 abbrev pub wideGrammar : List ℕ → Head → Grammar
-wideGrammar table head = record { nonterminals = 32; start = head .start; rules = rulesOf table head }
+wideGrammar table head = record { nonterminals = 32; well = head .well; start = head .start; rules = rulesOf table head }

@@ -11,8 +11,9 @@ use Rattle.pair_theory.specs.Pairs.{begin, after}
 abbrev example : Grammar
 example = record {
   nonterminals = 4;
+  well = 4;
   start = 0;
-  rules = Rule.Mark 0 (record { 0 = 0 }) 1 ∷ Rule.Step 1 (record { 0 = 0 }) 2 (record { 0 = 0 }) 3 ∷ Rule.Empty 2 ∷ [];
+  rules = Rule.Next 0 (Token.Mark (record { 0 = 0 })) 1 ∷ Rule.Step 1 (record { 0 = 0 }) 2 (record { 0 = 0 }) 3 ∷ Rule.Empty 2 ∷ [];
 }
 
 -- is (L, L′) in the state after the tokens

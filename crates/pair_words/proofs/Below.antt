@@ -1,22 +1,26 @@
 -- The nonterminals that follow a rule are below 32, where all its nonterminals are.
 use Prim.Native.Nat.{ℕ, _<_}
+use mathlib.Core.List.{List}
 use mathlib.Core.Option.{Option, none, some}
+use Rattle.vpg.specs.declared.OpenName.{OpenName}
+use Rattle.vpg.specs.declared.CloseName.{CloseName}
 use Rattle.vpg.specs.declared.Rule.{Rule}
+use Rattle.vpg.specs.declared.Token.{Token}
 use Rattle.vpg.specs.believed.Grammar.{left}
 use Rattle.vpg.specs.Parts.{onward, beyond}
 use Rattle.tables.specs.Ready.{Small, Below}
-use Rattle.pair_words.specs.declared.Pattern.{Pattern}
-use Rattle.pair_words.specs.Words.{stepFollows, nextBy, followsBy}
+use Rattle.pair_words.specs.Words.{Gives, orElse, givesAt, givesBehind}
 
-step-below : (p : Pattern) (L₁ L₂ : ℕ) → L₁ < 32 → L₂ < 32 → stepFollows p L₁ L₂ < 32
-step-below (Pattern.Mark c) L₁ L₂ h k = h
-step-below (Pattern.Open a) L₁ L₂ h k = h
-step-below (Pattern.Step a b) L₁ L₂ h k = k
+-- what the rules give has a word
+abbrev pub Fits : Gives → Type 0
+Fits p = (R : Rule) → Below 32 R → p .follows R < 32
 
-next-below : (p : Pattern) (L : ℕ) (M N : Option ℕ) → L < 32 → Small 32 M → Small 32 N → nextBy p L M N < 32
-next-below p L none N l h k = l
-next-below p L (some L₁) none l h k = h
-next-below p L (some L₁) (some L₂) l h k = step-below p L₁ L₂ h k
+or-else-below : (L : ℕ) (M : Option ℕ) → L < 32 → Small 32 M → orElse L M < 32
+or-else-below L none l h = l
+or-else-below L (some M) l h = h
 
-pub follows-below : (p : Pattern) (R : Rule) → Below 32 R → followsBy p R < 32
-follows-below p R h = next-below p (left R) (onward R) (beyond R) (h .0) (h .1) (h .2)
+pub at-fits : (t : Token) (from : List ℕ) → Fits (givesAt t from)
+at-fits t from R h = or-else-below (left R) (onward R) (h .0) (h .1)
+
+pub behind-fits : (a : OpenName) (b : CloseName) (done : ℕ) (from : List ℕ) → Fits (givesBehind a b done from)
+behind-fits a b done from R h = or-else-below (left R) (beyond R) (h .0) (h .2)

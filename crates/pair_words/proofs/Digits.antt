@@ -1,25 +1,23 @@
--- The digits of the words after a token.
+-- The digits of the words that rules give.
 use Prim.Native.Nat.{ℕ, zero, suc, _^_, _<_}
 use native.Mathlib.Omega.{arith}
 use mathlib.Core.Path.{_≡_, refl, sym, _∙_, ap}
-use mathlib.Core.Bool.{Bool, true, false, cond, not, _&&_, _||_, false≢true, or-false}
+use mathlib.Core.Bool.{Bool, true, false, cond, not, _&&_, _||_, false≢true, or-false, or-assoc}
 use mathlib.Core.List.{List}
 use borrow.Author.Tests.{eqb-true, eq-eqb, ne-eqb}
 use lib.Bits.{bitOr}
 use lib.Dec.{eqb}
-use lib.ListN.{length, getD, length-set, length-replicate, getD-replicate}
+use lib.ListN.{length, getD, length-set}
 use lib.Seq.{getD-set-same, getD-set-other}
 use Rattle.laws.specs.Any.{any, anyBelow}
 use Rattle.laws.proofs.Any.{below-some, some-below, any-snoc}
 use Rattle.bits.specs.Bit.{bit}
 use Rattle.bits.proofs.Bits.{bit-zero, bit-or, no-member}
 use Rattle.vpg.specs.declared.Rule.{Rule}
-use Rattle.vpg.specs.believed.Grammar.{left}
 use Rattle.tables.specs.Ready.{Below}
 use Rattle.tables.specs.Table.{ruleIn, rulesIn}
-use Rattle.pair_words.specs.declared.Pattern.{Pattern}
-use Rattle.pair_words.specs.Words.{matchesBy, followsBy, contextsBy, joined, wordsAfter}
-use Rattle.pair_words.proofs.Below.{follows-below}
+use Rattle.pair_words.specs.Words.{Gives, joined, wordsBy}
+use Rattle.pair_words.proofs.Below.{Fits}
 
 -- ── one set ──
 
@@ -51,30 +49,31 @@ bit-joined words M m L K h = go (eqb M L) refl
         ∙ sym (or-false (bit (getD words L 0) K))
 
 -- the rule is one of those looked for, L follows, and K is one of its contexts
-abbrev pub adds : Pattern → List ℕ → ℕ → ℕ → ℕ → Rule → Bool
-adds p from done L K R = matchesBy p done R && (eqb (followsBy p R) L && bit (contextsBy p (getD from (left R) 0) (followsBy p R)) K)
+abbrev pub adds : Gives → ℕ → ℕ → Rule → Bool
+adds p L K R = p .matches R && (eqb (p .follows R) L && bit (p .contexts R) K)
 
-module _ (p : Pattern) (from : List ℕ) (done : ℕ) (t : List ℕ) where
-  pub words-size : (n : ℕ) → length (wordsAfter p from done t n) ≡ 32
-  unfolding wordsAfter
-  words-size zero = length-replicate {A = ℕ} 32 0
-  words-size (suc n) = go (matchesBy p done (ruleIn t n)) (wordsAfter p from done t n) _ _ (words-size n)
+module _ (p : Gives) (base : List ℕ) (long : length base ≡ 32) (t : List ℕ) where
+  pub words-size : (n : ℕ) → length (wordsBy p base t n) ≡ 32
+  unfolding wordsBy
+  words-size zero = long
+  words-size (suc n) = go (p .matches (ruleIn t n)) (wordsBy p base t n) _ _ (words-size n)
     where
       go : (b : Bool) (out : List ℕ) (M m : ℕ) → length out ≡ 32 → length (cond b (joined out M m) out) ≡ 32
       go true out M m e = length-set out M (bitOr (getD out M 0) m) ∙ e
       go false out M m e = e
 
-  -- K is a context of L exactly where some rule says so
-  pub bit-words : (n : ℕ) → ((r : ℕ) → r < n → Below 32 (ruleIn t r)) → (L K : ℕ) → L < 32 →
-      bit (getD (wordsAfter p from done t n) L 0) K ≡ any (adds p from done L K) (rulesIn t n)
-  unfolding wordsAfter rulesIn
-  bit-words zero h L K l = ap (λ (w : ℕ). bit w K) (getD-replicate 32 L 0 0 l) ∙ bit-zero K
-  bit-words (suc n) h L K l =
+  -- K is a context of L exactly where it was one, or some rule says so
+  pub bit-words : Fits p → (n : ℕ) → ((r : ℕ) → r < n → Below 32 (ruleIn t r)) → (L K : ℕ) → L < 32 →
+      bit (getD (wordsBy p base t n) L 0) K ≡ (bit (getD base L 0) K || any (adds p L K) (rulesIn t n))
+  unfolding wordsBy rulesIn
+  bit-words fits zero h L K l = sym (or-false (bit (getD base L 0) K))
+  bit-words fits (suc n) h L K l =
       let R = ruleIn t n in
-      let out = wordsAfter p from done t n in
-      go (matchesBy p done R) out (followsBy p R) (contextsBy p (getD from (left R) 0) (followsBy p R)) (omega (arith, words-size n, follows-below p R (h n (omega arith))))
-      ∙ ap (λ (b : Bool). b || adds p from done L K R) (bit-words n (λ r m. h r (omega arith)) L K l)
-      ∙ sym (any-snoc (adds p from done L K) (rulesIn t n) R)
+      let out = wordsBy p base t n in
+      go (p .matches R) out (p .follows R) (p .contexts R) (omega (arith, words-size n, fits R (h n (omega arith))))
+      ∙ ap (λ (b : Bool). b || adds p L K R) (bit-words fits n (λ r m. h r (omega arith)) L K l)
+      ∙ or-assoc (bit (getD base L 0) K) (any (adds p L K) (rulesIn t n)) (adds p L K R)
+      ∙ ap (λ (b : Bool). bit (getD base L 0) K || b) (sym (any-snoc (adds p L K) (rulesIn t n) R))
     where
       go : (b : Bool) (out : List ℕ) (M m : ℕ) → M < length out →
           bit (getD (cond b (joined out M m) out) L 0) K ≡ (bit (getD out L 0) K || (b && (eqb M L && bit m K)))

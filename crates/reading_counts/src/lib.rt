@@ -10,7 +10,6 @@ ghost use mathlib.Core.Path.{_≡_};
 ghost use Prim.Native.Nat.{_+_, _<_};
 ghost use lib.ListN.{length};
 ghost use Rattle.vpg.specs.Runs.{entries};
-ghost use Rattle.level_theory.specs.Pending.{WellMatched};
 ghost use Rattle.capped.specs.Capped.{cap, value};
 ghost use Rattle.count_theory.specs.believed.CountAt.{tally};
 ghost use Rattle.count_theory.specs.Allowed.{passes, aloneAt};
@@ -40,22 +39,24 @@ fn counted(count: Count) -> ReadingCount
 
 fn count_on(table: &Table, head: Head, tokens: &[u32], alone: Alone) -> Count
     requires { ⌜ Indexed (now table) head ⌝ }
-    requires { ⌜ Tokens (now tokens) × WellMatched (tokensOf (now tokens)) ⌝ }
+    requires { ⌜ Tokens (now tokens) ⌝ }
     ensures { λ r. ⌜ value r ≡ cap (tally (passes (aloneAt (alone .position) (alone .rule)) 0) (entries (grammarIn (now (table .entry)) head) (tokensOf (now (tokens .entry))))) ⌝ }
 {
-    let closes = levels::closes_of(tokens);
-    let masks = levels::masks_of(table, head, tokens, &closes);
+    let mut closes = [0u16; 1025];
+    let mut masks = [0u64; 1025];
+    levels::prepare(table, head, tokens, &mut closes, &mut masks);
     count_rows::count(table, head, tokens, &closes, &masks, alone)
 }
 
 fn kth_on(table: &Table, head: Head, tokens: &[u32], k: u64, reading: &mut [u8]) -> Outcome
     requires { ⌜ Indexed (now table) head ⌝ }
-    requires { ⌜ Tokens (now tokens) × WellMatched (tokensOf (now tokens)) ⌝ }
+    requires { ⌜ Tokens (now tokens) ⌝ }
     requires { ⌜ length (now tokens) < length (now reading) ⌝ }
     ensures { λ r. ⌜ (outcomeSaid r, now (reading .exit)) ≡ numbered (entries (grammarIn (now (table .entry)) head) (tokensOf (now (tokens .entry)))) k (length (now (tokens .entry)) + 1) (now (reading .entry)) ⌝ }
 {
-    let closes = levels::closes_of(tokens);
-    let masks = levels::masks_of(table, head, tokens, &closes);
+    let mut closes = [0u16; 1025];
+    let mut masks = [0u64; 1025];
+    levels::prepare(table, head, tokens, &mut closes, &mut masks);
     let found = kth_run::kth(table, head, tokens, &closes, &masks, k, reading);
     match found {
         KthAnswer::Written => Outcome::Done,
@@ -67,7 +68,7 @@ fn kth_on(table: &Table, head: Head, tokens: &[u32], k: u64, reading: &mut [u8])
 pub fn reading_count(grammar: &[u8], history: &[u8]) -> ReadingCount
     ensures { λ r. ⌜ readingsSaid r ≡ readingsDue (now (grammar .entry)) (now (history .entry)) ⌝ }
 {
-    let mut table = [0u16; 1154];
+    let mut table = [0u16; 1412];
     let mut tokens = [0u32; 1024];
     let opened = service::open_files(grammar, history, 0, 0, &mut table, &mut tokens);
     let Opened::Files(head, n) = opened else {
@@ -85,7 +86,7 @@ pub fn reading_count_at(
 ) -> ReadingCount
     ensures { λ r. ⌜ readingsSaid r ≡ readingsAtDue (now (grammar .entry)) (now (history .entry)) position rule ⌝ }
 {
-    let mut table = [0u16; 1154];
+    let mut table = [0u16; 1412];
     let mut tokens = [0u32; 1024];
     let opened = service::open_files(grammar, history, 0, 0, &mut table, &mut tokens);
     let Opened::Files(head, n) = opened else {
@@ -102,7 +103,7 @@ pub fn reading_count_at(
 pub fn reading_at(grammar: &[u8], history: &[u8], k: u64, reading: &mut [u8]) -> Outcome
     ensures { λ r. ⌜ (outcomeSaid r, now (reading .exit)) ≡ readingDue (now (grammar .entry)) (now (history .entry)) k (now (reading .entry)) ⌝ }
 {
-    let mut table = [0u16; 1154];
+    let mut table = [0u16; 1412];
     let mut tokens = [0u32; 1024];
     let opened = service::open_files(grammar, history, 1, reading.len(), &mut table, &mut tokens);
     let Opened::Files(head, n) = opened else {

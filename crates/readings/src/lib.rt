@@ -9,7 +9,6 @@ ghost use Prim.Native.Nat.{_<_};
 ghost use lib.ListN.{length};
 ghost use Rattle.listing_model.specs.believed.Listing.{first, next, overEntries};
 ghost use Rattle.listing_model.specs.Calls.{callOn};
-ghost use Rattle.level_theory.specs.Pending.{WellMatched};
 ghost use Rattle.tables.specs.Ready.{grammarIn};
 ghost use Rattle.rule_index.specs.Index.{Indexed};
 ghost use Rattle.history_file.specs.believed.HistoryFile.{tokensOf};
@@ -36,12 +35,13 @@ fn refused(opened: Opened) -> Answer
 
 fn first_on(table: &Table, head: Head, tokens: &[u32], reading: &mut [u8]) -> Answer
     requires { ⌜ Indexed (now table) head ⌝ }
-    requires { ⌜ Tokens (now tokens) × WellMatched (tokensOf (now tokens)) ⌝ }
+    requires { ⌜ Tokens (now tokens) ⌝ }
     requires { ⌜ length (now tokens) < length (now reading) ⌝ }
     ensures { λ r. ⌜ (said r, now (reading .exit)) ≡ callOn (overEntries (grammarIn (now (table .entry)) head) (tokensOf (now (tokens .entry)))) first (now (reading .entry)) ⌝ }
 {
-    let closes = levels::closes_of(tokens);
-    let masks = levels::masks_of(table, head, tokens, &closes);
+    let mut closes = [0u16; 1025];
+    let mut masks = [0u64; 1025];
+    levels::prepare(table, head, tokens, &mut closes, &mut masks);
     let found = first_run::first(table, head, tokens, &closes, &masks, reading);
     match found {
         FirstAnswer::Written => Answer::Written,
@@ -51,12 +51,13 @@ fn first_on(table: &Table, head: Head, tokens: &[u32], reading: &mut [u8]) -> An
 
 fn next_on(table: &Table, head: Head, tokens: &[u32], reading: &mut [u8]) -> Answer
     requires { ⌜ Indexed (now table) head ⌝ }
-    requires { ⌜ Tokens (now tokens) × WellMatched (tokensOf (now tokens)) ⌝ }
+    requires { ⌜ Tokens (now tokens) ⌝ }
     requires { ⌜ length (now tokens) < length (now reading) ⌝ }
     ensures { λ r. ⌜ (said r, now (reading .exit)) ≡ callOn (overEntries (grammarIn (now (table .entry)) head) (tokensOf (now (tokens .entry)))) next (now (reading .entry)) ⌝ }
 {
-    let closes = levels::closes_of(tokens);
-    let masks = levels::masks_of(table, head, tokens, &closes);
+    let mut closes = [0u16; 1025];
+    let mut masks = [0u64; 1025];
+    levels::prepare(table, head, tokens, &mut closes, &mut masks);
     let found = next_run::next(table, head, tokens, &closes, &masks, reading);
     match found {
         NextAnswer::Written => Answer::Written,
@@ -69,7 +70,7 @@ fn next_on(table: &Table, head: Head, tokens: &[u32], reading: &mut [u8]) -> Ans
 pub fn first_reading(grammar: &[u8], history: &[u8], reading: &mut [u8]) -> Answer
     ensures { λ r. ⌜ (said r, now (reading .exit)) ≡ callOn (subject (now (grammar .entry)) (now (history .entry)) (length (now (reading .entry)))) first (now (reading .entry)) ⌝ }
 {
-    let mut table = [0u16; 1154];
+    let mut table = [0u16; 1412];
     let mut tokens = [0u32; 1024];
     let opened = service::open_files(grammar, history, 1, reading.len(), &mut table, &mut tokens);
     let Opened::Files(head, n) = opened else {
@@ -82,7 +83,7 @@ pub fn first_reading(grammar: &[u8], history: &[u8], reading: &mut [u8]) -> Answ
 pub fn next_reading(grammar: &[u8], history: &[u8], reading: &mut [u8]) -> Answer
     ensures { λ r. ⌜ (said r, now (reading .exit)) ≡ callOn (subject (now (grammar .entry)) (now (history .entry)) (length (now (reading .entry)))) next (now (reading .entry)) ⌝ }
 {
-    let mut table = [0u16; 1154];
+    let mut table = [0u16; 1412];
     let mut tokens = [0u32; 1024];
     let opened = service::open_files(grammar, history, 1, reading.len(), &mut table, &mut tokens);
     let Opened::Files(head, n) = opened else {

@@ -11,11 +11,13 @@ use Rattle.vpg.specs.declared.Token.{Token}
 use Rattle.vpg.specs.believed.Grammar.{Grammar}
 use Rattle.level_theory.specs.Local.{LeadsTo}
 use Rattle.level_theory.specs.Walk.{Run}
+use Rattle.levels.specs.Levels.{derivesAll}
 
 -- e is a reading; at has the nonterminal of each position, f the one behind each close
 pub record Reads (g : Grammar) (w : List Token) (e at f : List ℕ) : Type 0 where
+  pub all : derivesAll (g .well) (g .rules) w (g .start) ≡ true
   pub begins : getD at 0 0 ≡ g .start
-  pub leads : LeadsTo (g .rules) w at f e (length w)
+  pub leads : LeadsTo (g .well) (g .rules) w at f e (length w)
   pub ends : getElem? (g .rules) (getD e (length w) 0) ≡ some (Rule.Empty (getD at (length w) 0))
   pub room-at : length at ≡ 1025
   pub room-behind : length f ≡ 1025

@@ -12,7 +12,9 @@ use Rattle.numbers.specs.Written.{AllBelow, shortest, written}
 use Rattle.numbers.proofs.Written.{one-byte, two-bytes, shortest-most, written-append}
 use Rattle.rules.specs.RuleNumbers.{ruleNumbers, Fits}
 use Rattle.vpg.specs.declared.Rule.{Rule}
+use Rattle.vpg.specs.declared.Token.{Token}
 use Rattle.vpg.specs.believed.Grammar.{Grammar}
+use Rattle.vpg.specs.Forms.{formOf, nameOf}
 use Rattle.grammar_file.specs.believed.GrammarFile
 use Rattle.grammar_file.specs.believed.GrammarFile.{GrammarFile, grammarOf}
 use Rattle.grammar_file.specs.Wellformed.{Wellformed, rulesNumbers}
@@ -42,20 +44,25 @@ unfolding written
 written-most [] = omega arith
 written-most (n ∷ ns) = omega (arith, written-next n ns, shortest-most n, written-most ns)
 
+form-small : (i : Token) → formOf i < 128
+form-small (Token.Mark c) = omega arith
+form-small (Token.Open a) = omega arith
+form-small (Token.Close b) = omega arith
+
 -- form and nonterminals have a byte each, names three at most
 rule-longest : (n : ℕ) (r : Rule) → n ≤ 32 → Fits n r → length (written (ruleNumbers r)) ≤ 10
 unfolding written
 rule-longest n (Rule.Empty l) h f =
     omega (arith, written-next 0 (l ∷ []), size-one 0 (omega arith), written-next l [], size-one l (omega arith))
-rule-longest n (Rule.Mark l c l1) h f =
+rule-longest n (Rule.Next l i l1) h f =
     omega (
       arith,
-      written-next 1 (l ∷ c .0 ∷ l1 ∷ []),
-      size-one 1 (omega arith),
-      written-next l (c .0 ∷ l1 ∷ []),
+      written-next (formOf i) (l ∷ nameOf i ∷ l1 ∷ []),
+      size-one (formOf i) (form-small i),
+      written-next l (nameOf i ∷ l1 ∷ []),
       size-one l (omega (arith, f .0)),
-      written-next (c .0) (l1 ∷ []),
-      shortest-most (c .0),
+      written-next (nameOf i) (l1 ∷ []),
+      shortest-most (nameOf i),
       written-next l1 [],
       size-one l1 (omega (arith, f .2)),
     )

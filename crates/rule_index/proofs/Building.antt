@@ -3,7 +3,7 @@ use Prim.Native.Nat.{ℕ, _+_, _/_, _%_, _<_, _≤_}
 use native.Mathlib.Omega.{arith}
 use native.Mathlib.Decide.{decLt}
 use mathlib.Core.Path.{_≡_, refl, sym, _∙_, ap}
-use mathlib.Core.Logic.{_≢_}
+use mathlib.Core.Logic.{_≢_, _⊎_, inl, inr, ⊎-elim}
 use mathlib.Core.Bool.{Bool, true, false, cond, _&&_, or-true, or-false, and-false}
 use mathlib.Core.List.{List}
 use borrow.Author.Tests.{lt-ltb, le-ltb, ltb-true, ltb-false, eqb-true, eqb-false}
@@ -16,8 +16,8 @@ use Rattle.tables.specs.declared.Head.{Head}
 use Rattle.tables.specs.Table.{ruleIn}
 use Rattle.tables.specs.Ready.{Ready}
 use Rattle.rule_index.specs.Classes.{emptyClass, classOf}
-use Rattle.rule_index.specs.Index.{FirstFrom, FirstEmpty, Indexed, firstIn, nextIn, endIn, endsIn}
-use Rattle.rule_index.specs.Building.{SameRules, IndexedFrom, linked, withEnd, EndsBelow, withEnds}
+use Rattle.rule_index.specs.Index.{FirstFrom, FirstEmpty, Goals, Indexed, firstIn, nextIn, endIn, wordIn, endsIn, lowEndsIn}
+use Rattle.rule_index.specs.Building.{SameRules, IndexedFrom, linked, withEnd, EndsBelow, withWord}
 use Rattle.rule_index.proofs.Classes.{empty-class}
 use Rattle.rule_index.proofs.Kept.{rule-kept, ready-kept, set-behind, same-on}
 
@@ -31,7 +31,7 @@ module _ (t u : List ℕ) (same : SameRules t u) (rules : ℕ) (few : rules ≤ 
   }
 
   -- the index where its numbers stay
-  index-kept : (k : ℕ) → ((i : ℕ) → 768 ≤ i → i < 1152 → getD u i 0 ≡ getD t i 0) → IndexedFrom t rules k → IndexedFrom u rules k
+  pub index-kept : (k : ℕ) → ((i : ℕ) → 768 ≤ i → i < 1152 → getD u i 0 ≡ getD t i 0) → IndexedFrom t rules k → IndexedFrom u rules k
   index-kept k stay x = record {
     firsts = λ c l. rw (stay (768 + c) (omega arith) (omega arith)) (first-kept c k _ (x .firsts c l));
     nexts = λ q l m. rw (rule-kept t u (same .rules) q (omega arith), stay (1024 + q) (omega arith) (omega arith)) (first-kept _ (q + 1) _ (x .nexts q l m));
@@ -80,14 +80,14 @@ module _ (t : List ℕ) (class r : ℕ) where
   stays : (i : ℕ) → i ≢ 1024 + r → i ≢ 768 + class → getD (linked t class r) i 0 ≡ getD t i 0
   stays i a b = getD-set-other (set t (1024 + r) (firstIn t class)) (768 + class) i r 0 b ∙ getD-set-other t (1024 + r) i (firstIn t class) 0 a
 
-  module _ (size : length t ≡ 1154) (class-small : class < 256) (r-small : r < 128) where
+  module _ (size : length t ≡ 1412) (class-small : class < 256) (r-small : r < 128) where
     head-new : firstIn (linked t class r) class ≡ r
     head-new = getD-set-same (set t (1024 + r) (firstIn t class)) (768 + class) r 0 (simp length-set (omega arith))
 
     next-new : nextIn (linked t class r) r ≡ firstIn t class
     next-new = getD-set-other (set t (1024 + r) (firstIn t class)) (768 + class) (1024 + r) r 0 (λ e. omega arith) ∙ getD-set-same t (1024 + r) (firstIn t class) 0 (omega arith)
 
-module _ (t : List ℕ) (rules r class : ℕ) (size : length t ≡ 1154) (few : rules ≤ 128) (here : r < rules)
+module _ (t : List ℕ) (rules r class : ℕ) (size : length t ≡ 1412) (few : rules ≤ 128) (here : r < rules)
     (is : classOf (ruleIn t r) ≡ class) (small : class < 256) (x : IndexedFrom t rules (r + 1)) where
   firsts-linked : (c : ℕ) → c < 256 → FirstFrom t rules c r (firstIn (linked t class r) c)
   firsts-linked c l = go (eqb c class) refl
@@ -134,42 +134,76 @@ ends-more t rules n word x L = go (ltb (endIn t n) rules) refl (eqb L n) refl
     go false p true q = let s : L ≡ n = eqb-true L n q in x L ∙ rw (s, p) (and-false (ltb n n) ∙ sym (and-false (ltb n (n + 1))))
     go false p false q = rw (one-more L n (eqb-false L n q)) (x L)
 
--- the word of these nonterminals, behind the rest of the index
-module _ (t : List ℕ) (word : ℕ) where
-  pub ends-same : SameRules t (withEnds t word)
-  ends-same = same-on (set-behind t 1152 (word % 65536) (omega arith)) (set-behind (set t 1152 (word % 65536)) 1153 (word / 65536) (omega arith))
+-- a word behind the rest of the index
+module _ (t : List ℕ) (i word : ℕ) (h : 1152 ≤ i) where
+  pub word-same : SameRules t (withWord t i word)
+  word-same = same-on (set-behind t i (word % 65536) (omega arith)) (set-behind (set t i (word % 65536)) (i + 1) (word / 65536) (omega arith))
 
-  others-stay : (i : ℕ) → i < 1152 → getD (withEnds t word) i 0 ≡ getD t i 0
-  others-stay i h =
-      getD-set-other (set t 1152 (word % 65536)) 1153 i (word / 65536) 0 (λ e. omega arith) ∙ getD-set-other t 1152 i (word % 65536) 0 (λ e. omega arith)
+  others-stay : (k : ℕ) → k ≢ i → k ≢ i + 1 → getD (withWord t i word) k 0 ≡ getD t k 0
+  others-stay k a b =
+      getD-set-other (set t i (word % 65536)) (i + 1) k (word / 65536) 0 b ∙ getD-set-other t i k (word % 65536) 0 a
 
-  module _ (size : length t ≡ 1154) where
-    low-digits : getD (withEnds t word) 1152 0 ≡ word % 65536
-    low-digits = getD-set-other (set t 1152 (word % 65536)) 1153 1152 (word / 65536) 0 (λ e. omega arith) ∙ getD-set-same t 1152 (word % 65536) 0 (omega arith)
+  word-there : i + 1 < length t → wordIn (withWord t i word) i ≡ word
+  word-there room = rw (low-digits, high-digits) (omega arith)
+    where
+      low-digits : getD (withWord t i word) i 0 ≡ word % 65536
+      low-digits = getD-set-other (set t i (word % 65536)) (i + 1) i (word / 65536) 0 (λ e. omega arith) ∙ getD-set-same t i (word % 65536) 0 (omega arith)
 
-    high-digits : getD (withEnds t word) 1153 0 ≡ word / 65536
-    high-digits = getD-set-same (set t 1152 (word % 65536)) 1153 (word / 65536) 0 (simp length-set (omega arith))
+      high-digits : getD (withWord t i word) (i + 1) 0 ≡ word / 65536
+      high-digits = getD-set-same (set t i (word % 65536)) (i + 1) (word / 65536) 0 (simp length-set (omega arith))
 
-    ends-word : endsIn (withEnds t word) ≡ word
-    ends-word = rw (low-digits, high-digits) (omega arith)
+-- all rules and both words: the index is whole
+module _ (t : List ℕ) (all few : ℕ) (size : length t ≡ 1412) where
+  abbrev T₁ : List ℕ
+  T₁ = withWord t 1152 all
 
-    -- all rules and the word: the index is whole
-    pub index-whole : (head : Head) → Ready t head → IndexedFrom t (head .rules) 0 → EndsBelow t (head .rules) 32 word → Indexed (withEnds t word) head
-    index-whole head ready x w = record {
-      ready = ready-kept t (withEnds t word) ends-same head ready;
-      size = ends-same .size ∙ size;
-      firsts = y .firsts;
-      nexts = λ r l. y .nexts r (omega arith) l;
-      ends = λ L l. empties L (y .firsts (emptyClass L) (omega arith));
-      mask = λ L. rw ends-word (w L ∙ below L (ltb L 32) refl);
-    }
-      where
-        y : IndexedFrom (withEnds t word) (head .rules) 0
-        y = index-kept t (withEnds t word) ends-same (head .rules) (ready .few) 0 (λ i l m. others-stay i m) x
+  abbrev T₂ : List ℕ
+  T₂ = withWord T₁ 1154 few
 
-        empties : (L : ℕ) {n : ℕ} → FirstFrom (withEnds t word) (head .rules) (emptyClass L) 0 n → FirstEmpty (withEnds t word) (head .rules) L n
-        empties L f = record { most = f .most; found = λ l. empty-class _ L (f .of-class l); none = λ q l e. f .none q (omega arith) l (ap classOf e) }
+  pub words-same : SameRules t T₂
+  words-same = same-on (word-same t 1152 all (omega arith)) (word-same T₁ 1154 few (omega arith))
 
-        below : (L : ℕ) (b : Bool) → ltb L 32 ≡ b → (b && ltb (endIn t L) (head .rules)) ≡ (b && ltb (endIn (withEnds t word) L) (head .rules))
-        below L true e = let l = ltb-true L 32 e in rw (others-stay (768 + emptyClass L) (omega arith))
-        below L false e = refl
+  rest-stays : (k : ℕ) → (k < 1152) ⊎ (1156 ≤ k) → getD T₂ k 0 ≡ getD t k 0
+  rest-stays k l = others-stay T₁ 1154 few (omega arith) k (apart 1154 (omega arith) (omega arith)) (apart 1155 (omega arith) (omega arith)) ∙ others-stay t 1152 all (omega arith) k (apart 1152 (omega arith) (omega arith)) (apart 1153 (omega arith) (omega arith))
+    where
+      apart : (i : ℕ) → 1152 ≤ i → i < 1156 → k ≢ i
+      apart i a b e = ⊎-elim (λ m. omega arith) (λ m. omega arith) l
+
+  index-stays : (k : ℕ) → k < 1152 → getD T₂ k 0 ≡ getD t k 0
+  index-stays k l = rest-stays k (inl l)
+
+  ends-word : endsIn T₂ ≡ all
+  ends-word =
+      rw (others-stay T₁ 1154 few (omega arith) 1152 (λ e. omega arith) (λ e. omega arith), others-stay T₁ 1154 few (omega arith) 1153 (λ e. omega arith) (λ e. omega arith))
+      (word-there t 1152 all (omega arith) (omega arith))
+
+  low-word : lowEndsIn T₂ ≡ few
+  low-word = word-there T₁ 1154 few (omega arith) (rw (word-same t 1152 all (omega arith) .size, size) (omega arith))
+
+  pub index-whole : (head : Head) → Ready t head → IndexedFrom t (head .rules) 0 → EndsBelow t (head .rules) 32 all → EndsBelow t (head .rules) (head .well) few → Goals t head (head .rules) → Indexed T₂ head
+  index-whole head ready x w v g = record {
+    ready = ready-kept t T₂ words-same head ready;
+    size = words-same .size ∙ size;
+    firsts = y .firsts;
+    nexts = λ r l. y .nexts r (omega arith) l;
+    ends = λ L l. empties L (y .firsts (emptyClass L) (omega arith));
+    mask = λ L. rw ends-word (w L ∙ below L 32 (ltb L 32) refl (omega arith));
+    low = λ L. rw low-word (v L ∙ below L (head .well) (ltb L (head .well)) refl (ready .well-small));
+    goals = record {
+      inside = λ r l. rw (kept r l) (rest-stays (1156 + r) (inr (omega arith)) ∙ g .inside r l);
+      after = λ r l. rw (kept r l) (rest-stays (1284 + r) (inr (omega arith)) ∙ g .after r l);
+    };
+  }
+    where
+      kept : (r : ℕ) → r < head .rules → ruleIn T₂ r ≡ ruleIn t r
+      kept r l = rule-kept t T₂ (words-same .rules) r (omega (arith, l, ready .few))
+
+      y : IndexedFrom T₂ (head .rules) 0
+      y = index-kept t T₂ words-same (head .rules) (ready .few) 0 (λ i l m. index-stays i m) x
+
+      empties : (L : ℕ) {n : ℕ} → FirstFrom T₂ (head .rules) (emptyClass L) 0 n → FirstEmpty T₂ (head .rules) L n
+      empties L f = record { most = f .most; found = λ l. empty-class _ L (f .of-class l); none = λ q l e. f .none q (omega arith) l (ap classOf e) }
+
+      below : (L n : ℕ) (b : Bool) → ltb L n ≡ b → n ≤ 32 → (b && ltb (endIn t L) (head .rules)) ≡ (b && ltb (endIn T₂ L) (head .rules))
+      below L n true e m = let l = ltb-true L n e in rw (index-stays (768 + emptyClass L) (omega arith))
+      below L n false e m = refl

@@ -22,3 +22,16 @@ module _ {A : Type 0} (X : ℕ → A) (t : List ℕ) (c : ℕ) (other : (q : ℕ
   passed {rules} {k} {n} f =
       let e : n ≡ k + (n - k) = omega (arith, f .from) in
       rw e (none-added k (n - k) (λ q l m. f .none q l (omega (arith, f .from))))
+
+-- the same where only the rules of the table are known to add nothing
+module _ {A : Type 0} (X : ℕ → A) (t : List ℕ) (rules c : ℕ) (other : (q : ℕ) → q < rules → classOf (ruleIn t q) ≢ c → X (suc q) ≡ X q) where
+  few-added : (k d : ℕ) → k + d ≤ rules → ((q : ℕ) → k ≤ q → q < k + d → classOf (ruleIn t q) ≢ c) → X (k + d) ≡ X k
+  few-added k zero m h = rw (add-zero k)
+  few-added k (suc d) m h =
+      let e : k + suc d ≡ suc (k + d) = omega arith in
+      rw e (other (k + d) (omega arith) (h (k + d) (omega arith) (omega arith)) ∙ few-added k d (omega arith) (λ q l m. h q l (omega arith)))
+
+  pub passed-below : {k n : ℕ} → FirstFrom t rules c k n → X n ≡ X k
+  passed-below {k} {n} f =
+      let e : n ≡ k + (n - k) = omega (arith, f .from) in
+      rw e (few-added k (n - k) (omega (arith, f .from, f .most)) (λ q l m. f .none q l (omega (arith, f .from))))

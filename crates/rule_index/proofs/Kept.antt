@@ -37,7 +37,7 @@ rules-kept t u e (suc n) h = rw (rules-kept t u e n (omega arith), rule-kept t u
 
 pub grammar-kept : (t u : List ℕ) → take 768 u ≡ take 768 t → (head : Head) → head .rules ≤ 128 → grammarIn u head ≡ grammarIn t head
 grammar-kept t u e head few =
-    ap (λ (rules : Rules). record { nonterminals = head .nonterminals; start = head .start; rules = rules }) (rules-kept t u e (head .rules) few)
+    ap (λ (rules : Rules). record { nonterminals = head .nonterminals; well = head .well; start = head .start; rules = rules }) (rules-kept t u e (head .rules) few)
 
 -- a store behind the rules
 pub set-behind : (t : List ℕ) (i v : ℕ) → 768 ≤ i → SameRules t (set t i v)
@@ -54,6 +54,8 @@ ready-kept t u same head k = record {
   few = k .few;
   small = λ r l. rw (rule-kept t u (same .rules) r (omega (arith, k .few))) (k .small r l);
   start-small = k .start-small;
+  well-small = k .well-small;
+  forms = λ r l. rw (rule-kept t u (same .rules) r (omega (arith, k .few))) (k .forms r l);
   distinct =
       λ q r less l e.
       k .distinct q r less l

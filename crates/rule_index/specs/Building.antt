@@ -25,6 +25,10 @@ pub record IndexedFrom (t : List ℕ) (rules k : ℕ) : Type 0 where
 abbrev pub linked : List ℕ → ℕ → ℕ → List ℕ
 linked t class r = set (set t (1024 + r) (firstIn t class)) (768 + class) r
 
+-- the digits that rule r asks for, written down
+abbrev pub withGoals : List ℕ → ℕ → ℕ → ℕ → List ℕ
+withGoals t r inside after = set (set t (1156 + r) inside) (1284 + r) after
+
 -- the word with nonterminal L, where L has an empty rule
 abbrev pub withEnd : List ℕ → ℕ → ℕ → ℕ → ℕ
 withEnd t rules word L = cond (ltb (endIn t L) rules) (addBit word L) word
@@ -34,5 +38,5 @@ abbrev pub EndsBelow : List ℕ → ℕ → ℕ → ℕ → Type 0
 EndsBelow t rules n word = (L : ℕ) → bit word L ≡ (ltb L n && ltb (endIn t L) rules)
 
 -- a word of 32 digits as two numbers
-abbrev pub withEnds : List ℕ → ℕ → List ℕ
-withEnds t word = set (set t 1152 (word % 65536)) 1153 (word / 65536)
+abbrev pub withWord : List ℕ → ℕ → ℕ → List ℕ
+withWord t i word = set (set t i (word % 65536)) (i + 1) (word / 65536)

@@ -1,3 +1,4 @@
 pub mod Building
 pub mod Classes
+pub mod Goals
 pub mod Index

@@ -1,4 +1,4 @@
-// The index of a table: the rules that can stand at a mark or an open, in rising order, and the empty rules of each nonterminal.
+// The index of a table: the rules that can stand at a token, in rising order, and the empty rules of each nonterminal.
 // It stands behind the table's rules, so that it goes wherever they go.
 use tables::Head;
 use tables::Table;
@@ -9,10 +9,11 @@ ghost use Prim.Native.Nat.{_<_, _≤_};
 ghost use lib.ListN.{length, take};
 ghost use Rattle.vpg.specs.believed.Grammar.{left};
 ghost use Rattle.tables.specs.Table.{ruleIn};
-ghost use Rattle.tables.specs.Ready.{Ready};
-ghost use Rattle.rule_index.specs.Classes.{spread, classAt, classOf};
-ghost use Rattle.rule_index.specs.Index.{firstIn, nextIn, endIn, endsIn, Indexed};
-ghost use Rattle.rule_index.specs.Building.{SameRules, IndexedFrom, EndsBelow, linked, withEnd, withEnds};
+ghost use Rattle.tables.specs.Ready.{Below, Ready};
+ghost use Rattle.rule_index.specs.Classes.{spread, classAt, classBy, classOf};
+ghost use Rattle.rule_index.specs.Goals.{goal, insideGoal, afterGoal};
+ghost use Rattle.rule_index.specs.Index.{firstIn, nextIn, endIn, wordIn, endsIn, lowEndsIn, insideIn, afterIn, Goals, Indexed};
+ghost use Rattle.rule_index.specs.Building.{SameRules, IndexedFrom, EndsBelow, linked, withEnd, withWord, withGoals};
 
 // A number below 64 that goes by all digits of a name: names of 16 bits that agree in their lowest six don't all meet in one class.
 fn spread_of(name: u16) -> usize
@@ -22,15 +23,25 @@ fn spread_of(name: u16) -> usize
     (n + n / 64 + n / 4096) % 64
 }
 
-// The class of a token; that of a close is no rule's.
+// The class of a token.
 pub fn class_at(token: Token) -> usize
     ensures { λ r. ⌜ r ≡ classAt token ⌝ }
 {
     match token {
         Token::Mark(c) => 4 * spread_of(c.0),
         Token::Open(a) => 4 * spread_of(a.0) + 1,
-        Token::Close(_) => 3,
+        Token::Close(b) => 4 * spread_of(b.0) + 3,
     }
+}
+
+// The class of the token of a kind and a name, without the token put together first.
+pub fn class_by(kind: u32, name: u16) -> usize
+    ensures { λ r. ⌜ r ≡ classBy kind name ⌝ }
+{
+    if 2 <= kind {
+        return 4 * spread_of(name) + 3;
+    }
+    4 * spread_of(name) + kind as usize
 }
 
 // The class of a rule. The empty rules of a nonterminal are one, so that a walk from one of them meets no rule of another nonterminal.
@@ -39,7 +50,7 @@ pub fn class_of(rule: Rule) -> usize
 {
     match rule {
         Rule::Empty(nonterminal) => 4 * number(nonterminal) + 2,
-        Rule::Mark(_, c, _) => 4 * spread_of(c.0),
+        Rule::Next(_, i, _) => class_at(i),
         Rule::Step(_, a, _, _, _) => 4 * spread_of(a.0) + 1,
     }
 }
@@ -89,9 +100,34 @@ pub fn ends(table: &Table) -> u32
     low + 65536 * high
 }
 
+// The well-matched ones among them: those that can end before a close.
+pub fn low_ends(table: &Table) -> u32
+    ensures { λ r. ⌜ r ≡ lowEndsIn (now (table .entry)) ⌝ }
+{
+    let low = wide(table[1154]);
+    let high = wide(table[1155]);
+    low + 65536 * high
+}
+
+// The digit that rule r asks for behind its token.
+pub fn inside_of(table: &Table, r: usize) -> usize
+    requires { ⌜ r < 128 ⌝ }
+    ensures { λ x. ⌜ x ≡ insideIn (now (table .entry)) r ⌝ }
+{
+    number(table[1156 + r])
+}
+
+// And behind the close of its step.
+pub fn after_of(table: &Table, r: usize) -> usize
+    requires { ⌜ r < 128 ⌝ }
+    ensures { λ x. ⌜ x ≡ afterIn (now (table .entry)) r ⌝ }
+{
+    number(table[1284 + r])
+}
+
 // Makes the index of no rules: whatever is looked for, there is none.
 fn clear(table: &mut Table, rules: usize)
-    requires { ⌜ (length (now table) ≡ 1154) × (rules ≤ 128) ⌝ }
+    requires { ⌜ (length (now table) ≡ 1412) × (rules ≤ 128) ⌝ }
     ensures { λ _. ⌜ SameRules (now (table .entry)) (now (table .exit)) × IndexedFrom (now (table .exit)) rules rules ⌝ }
 {
     let none = rules as u16;
@@ -122,7 +158,7 @@ fn add_rule(table: &mut Table, r: usize)
 
 // Adds all rules, from the last to the first, so that each chain rises.
 fn add_rules(table: &mut Table, head: Head)
-    requires { ⌜ (length (now table) ≡ 1154) × Ready (now table) head × IndexedFrom (now table) (head .rules) (head .rules) ⌝ }
+    requires { ⌜ (length (now table) ≡ 1412) × Ready (now table) head × IndexedFrom (now table) (head .rules) (head .rules) ⌝ }
     ensures { λ _. ⌜ SameRules (now (table .entry)) (now (table .exit)) × IndexedFrom (now (table .exit)) (head .rules) 0 ⌝ }
 {
     let rules = head.rules;
@@ -130,6 +166,62 @@ fn add_rules(table: &mut Table, head: Head)
     while 0 < due {
         add_rule(table, due - 1);
         due -= 1;
+    }
+}
+
+// The digit of a nonterminal that has to derive the rest of its level, or all that is left.
+fn goal_of(low: bool, nonterminal: u16) -> u16
+    requires { ⌜ nonterminal < 32 ⌝ }
+    ensures { λ r. ⌜ r ≡ goal low nonterminal ⌝ }
+{
+    if low {
+        return nonterminal;
+    }
+    32 + nonterminal
+}
+
+fn inside_goal(rule: Rule, well: u16) -> u16
+    requires { ⌜ Below 32 rule ⌝ }
+    ensures { λ r. ⌜ r ≡ insideGoal well rule ⌝ }
+{
+    match rule {
+        Rule::Empty(_) => 0,
+        Rule::Next(l, _, l1) => goal_of(l < well, l1),
+        Rule::Step(_, _, l1, _, _) => l1,
+    }
+}
+
+fn after_goal(rule: Rule, well: u16) -> u16
+    requires { ⌜ Below 32 rule ⌝ }
+    ensures { λ r. ⌜ r ≡ afterGoal well rule ⌝ }
+{
+    match rule {
+        Rule::Empty(_) => 0,
+        Rule::Next(_, _, _) => 0,
+        Rule::Step(l, _, _, _, l2) => goal_of(l < well, l2),
+    }
+}
+
+// Writes down the digits that rule r asks for.
+fn put_goals(table: &mut Table, r: usize, well: u16)
+    requires { ⌜ (r < 128) × Below 32 (ruleIn (now table) r) ⌝ }
+    ensures { λ _. ⌜ now (table .exit) ≡ withGoals (now (table .entry)) r (insideGoal well (ruleIn (now (table .entry)) r)) (afterGoal well (ruleIn (now (table .entry)) r)) ⌝ }
+{
+    let rule = tables::rule_of(table, r);
+    table[1156 + r] = inside_goal(rule, well);
+    table[1284 + r] = after_goal(rule, well);
+}
+
+// Those of all rules.
+fn add_goals(table: &mut Table, head: Head)
+    requires { ⌜ (length (now table) ≡ 1412) × Ready (now table) head × IndexedFrom (now table) (head .rules) 0 ⌝ }
+    ensures { λ _. ⌜ SameRules (now (table .entry)) (now (table .exit)) × IndexedFrom (now (table .exit)) (head .rules) 0 × Goals (now (table .exit)) head (head .rules) ⌝ }
+{
+    let rules = head.rules;
+    let mut r: usize = 0;
+    while r < rules {
+        put_goals(table, r, head.well);
+        r += 1;
     }
 }
 
@@ -144,33 +236,39 @@ fn with_end(table: &Table, rules: usize, word: u32, nonterminal: usize) -> u32
     word
 }
 
-// The nonterminals that have an empty rule, looked up one by one.
-fn ends_of(table: &Table, rules: usize) -> u32
-    ensures { λ r. ⌜ EndsBelow (now (table .entry)) rules 32 r ⌝ }
+// The first n nonterminals that have an empty rule, looked up one by one.
+fn ends_of(table: &Table, rules: usize, n: usize) -> u32
+    requires { ⌜ n ≤ 32 ⌝ }
+    ensures { λ r. ⌜ EndsBelow (now (table .entry)) rules n r ⌝ }
 {
     let mut word: u32 = 0;
     let mut nonterminal: usize = 0;
-    while nonterminal < 32 {
+    while nonterminal < n {
         word = with_end(table, rules, word, nonterminal);
         nonterminal += 1;
     }
     word
 }
 
-// Writes the nonterminals that have an empty rule.
-fn put_ends(table: &mut Table, word: u32)
-    ensures { λ _. ⌜ now (table .exit) ≡ withEnds (now (table .entry)) word ⌝ }
+// Writes a word of 32 digits.
+fn put_word(table: &mut Table, i: usize, word: u32)
+    requires { ⌜ i < 1155 ⌝ }
+    ensures { λ _. ⌜ now (table .exit) ≡ withWord (now (table .entry)) i word ⌝ }
 {
-    table[1152] = (word % 65536) as u16;
-    table[1153] = (word / 65536) as u16;
+    table[i] = (word % 65536) as u16;
+    table[i + 1] = (word / 65536) as u16;
 }
 
 // Builds the index behind the rules of a table.
 pub fn index_rules(table: &mut Table, head: Head)
-    requires { ⌜ (length (now table) ≡ 1154) × Ready (now table) head ⌝ }
+    requires { ⌜ (length (now table) ≡ 1412) × Ready (now table) head ⌝ }
     ensures { λ _. ⌜ (take 768 (now (table .exit)) ≡ take 768 (now (table .entry))) × Indexed (now (table .exit)) head ⌝ }
 {
     clear(table, head.rules);
     add_rules(table, head);
-    put_ends(table, ends_of(table, head.rules));
+    add_goals(table, head);
+    let all = ends_of(table, head.rules, 32);
+    let low = ends_of(table, head.rules, number(head.well));
+    put_word(table, 1152, all);
+    put_word(table, 1154, low);
 }

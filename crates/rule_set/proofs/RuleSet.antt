@@ -42,15 +42,15 @@ unfolding rulesIn
 any-numbers t zero k = refl
 any-numbers t (suc n) k = any-snoc k (rulesIn t n) (ruleIn t n) ∙ rw (any-numbers t n k) (or-comm _ (k (ruleIn t n)))
 
-module _ (t : List ℕ) (here : ℕ) (context : Context) where
+module _ (W : ℕ) (t : List ℕ) (here : ℕ) (context : Context) where
   abbrev pub Keeps : ℕ → Bool
-  Keeps r = keepsAt here context (ruleIn t r)
+  Keeps r = keepsAt W here context (ruleIn t r)
 
   abbrev Ways-of : ℕ → Ways
-  Ways-of n = waysIn t here context n
+  Ways-of n = waysIn W t here context n
 
   abbrev Words-of : ℕ → List ℕ
-  Words-of n = wordsIn t here context n
+  Words-of n = wordsIn W t here context n
 
   abbrev Class : ℕ
   Class = classAt (tokenHere context)
@@ -58,17 +58,17 @@ module _ (t : List ℕ) (here : ℕ) (context : Context) where
   module _ (h : context .kind < 2) where
     -- at a mark or an open a rule of another class is not in the set
     other-class : (q : ℕ) → classOf (ruleIn t q) ≢ Class → Keeps q ≡ false
-    other-class q d = rw (applies-apart t context h q d) (and-false (bit here (left (ruleIn t q))))
+    other-class q d = rw (applies-apart W t context h q d) (and-false (bit here (left (ruleIn t q))))
 
     -- so up to the next rule of the class the ways and the words stay
-    pub ways-passed : {rules k n : ℕ} → FirstFrom t rules (classAt (tokenHere context)) k n → waysIn t here context n ≡ waysIn t here context k
+    pub ways-passed : {rules k n : ℕ} → FirstFrom t rules (classAt (tokenHere context)) k n → waysIn W t here context n ≡ waysIn W t here context k
     unfolding waysIn
     ways-passed = passed Ways-of t Class same
       where
         same : (q : ℕ) → classOf (ruleIn t q) ≢ Class → Ways-of (suc q) ≡ Ways-of q
         same q d = rw (other-class q d)
 
-    pub words-passed : {rules k n : ℕ} → FirstFrom t rules (classAt (tokenHere context)) k n → wordsIn t here context n ≡ wordsIn t here context k
+    pub words-passed : {rules k n : ℕ} → FirstFrom t rules (classAt (tokenHere context)) k n → wordsIn W t here context n ≡ wordsIn W t here context k
     unfolding wordsIn
     words-passed = passed Words-of t Class same
       where
@@ -76,7 +76,7 @@ module _ (t : List ℕ) (here : ℕ) (context : Context) where
         same q d = rw (other-class q d)
 
   -- which they are
-  pub words-held : (n : ℕ) → n ≤ 128 → (length (wordsIn t here context n) ≡ 4) × Held 32 n Keeps (wordsIn t here context n)
+  pub words-held : (n : ℕ) → n ≤ 128 → (length (wordsIn W t here context n) ≡ 4) × Held 32 n Keeps (wordsIn W t here context n)
   unfolding wordsIn
   words-held zero h = (refl, held-none 32 Keeps 4)
   words-held (suc n) h = go (Keeps n) refl (words-held n (omega arith))
@@ -87,21 +87,21 @@ module _ (t : List ℕ) (here : ℕ) (context : Context) where
       go false q (l, k) = (l, held-without 32 n Keeps (Words-of n) q k)
 
   -- one rule more, where a set of nonterminals grows by what the rules of the set say
-  grows : (f : Ways → ℕ) (k : Rule → Bool) (K n : ℕ) (b : Bool) → keepsAt here context (ruleIn t n) ≡ b → bit (f (waysWith (Ways-of n) (ruleIn t n))) K ≡ (bit (f (Ways-of n)) K || k (ruleIn t n)) →
-      bit (f (Ways-of n)) K ≡ any (λ R. keepsAt here context R && k R) (rulesIn t n) →
-      bit (f (cond b (waysWith (Ways-of n) (ruleIn t n)) (Ways-of n))) K ≡ any (λ R. keepsAt here context R && k R) (rulesIn t (suc n))
+  grows : (f : Ways → ℕ) (k : Rule → Bool) (K n : ℕ) (b : Bool) → keepsAt W here context (ruleIn t n) ≡ b → bit (f (waysWith (Ways-of n) (ruleIn t n))) K ≡ (bit (f (Ways-of n)) K || k (ruleIn t n)) →
+      bit (f (Ways-of n)) K ≡ any (λ R. keepsAt W here context R && k R) (rulesIn t n) →
+      bit (f (cond b (waysWith (Ways-of n) (ruleIn t n)) (Ways-of n))) K ≡ any (λ R. keepsAt W here context R && k R) (rulesIn t (suc n))
   unfolding rulesIn
   grows f k K n true q e h = rw any-snoc (e ∙ rw (h, q))
   grows f k K n false q e h = rw any-snoc (h ∙ rw q (sym (or-false _)))
 
   -- the nonterminals at the next position
-  pub next-going : (K n : ℕ) → bit (waysIn t here context n .next) K ≡ going (keepsAt here context) (rulesIn t n) K
+  pub next-going : (K n : ℕ) → bit (waysIn W t here context n .next) K ≡ going (keepsAt W here context) (rulesIn t n) K
   unfolding waysIn rulesIn
   next-going K zero = bit-zero K
   next-going K (suc n) = grows (λ x. x .next) (λ R. goesTo R K) K n _ refl (some-bit (Ways-of n .next) K (onward (ruleIn t n))) (next-going K n)
 
   -- and those behind the close
-  pub behind-returning : (K n : ℕ) → bit (waysIn t here context n .behind) K ≡ returning (keepsAt here context) (rulesIn t n) K
+  pub behind-returning : (K n : ℕ) → bit (waysIn W t here context n .behind) K ≡ returning (keepsAt W here context) (rulesIn t n) K
   unfolding waysIn rulesIn
   behind-returning K zero = bit-zero K
   behind-returning K (suc n) = grows (λ x. x .behind) (λ R. returnsTo R K) K n _ refl (some-bit (Ways-of n .behind) K (beyond (ruleIn t n))) (behind-returning K n)

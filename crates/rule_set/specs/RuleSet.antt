@@ -16,9 +16,9 @@ use Rattle.contexts.specs.Context.{appliesTo}
 use Rattle.rule_set.specs.declared.Ways.{Ways}
 use Rattle.rule_set.specs.Words.{addIn}
 
--- is the rule in the set, where the nonterminals `here` can stand
-abbrev pub keepsAt : ℕ → Context → Rule → Bool
-keepsAt here context R = bit here (left R) && appliesTo R context
+-- is the rule in the set, where the nonterminals `here` can stand; those below W are the well-matched ones
+abbrev pub keepsAt : ℕ → ℕ → Context → Rule → Bool
+keepsAt W here context R = bit here (left R) && appliesTo W R context
 
 -- the set with a nonterminal, where there is one
 abbrev pub withSome : ℕ → Option ℕ → ℕ
@@ -39,18 +39,18 @@ sumWith sum L = sum + 2 ^ L
 abbrev pub waysWith : Ways → Rule → Ways
 waysWith x R = record { sum = sumWith (x .sum) (left R); next = nextWith (x .next) R; behind = behindWith (x .behind) R }
 
-abbrev pub waysTurn : Ways → ℕ → Context → Rule → Ways
-waysTurn x here context R = cond (keepsAt here context R) (waysWith x R) x
+abbrev pub waysTurn : ℕ → Ways → ℕ → Context → Rule → Ways
+waysTurn W x here context R = cond (keepsAt W here context R) (waysWith x R) x
 
 abbrev pub noWays : Ways
 noWays = record { sum = 0; next = 0; behind = 0 }
 
 -- the ways on of those of the first n rules of a table that are in the set
-unfoldable pub waysIn : List ℕ → ℕ → Context → ℕ → Ways
-waysIn t here context zero = noWays
-waysIn t here context (suc n) = waysTurn (waysIn t here context n) here context (ruleIn t n)
+unfoldable pub waysIn : ℕ → List ℕ → ℕ → Context → ℕ → Ways
+waysIn W t here context zero = noWays
+waysIn W t here context (suc n) = waysTurn W (waysIn W t here context n) here context (ruleIn t n)
 
 -- and the set of them in words
-unfoldable pub wordsIn : List ℕ → ℕ → Context → ℕ → List ℕ
-wordsIn t here context zero = replicate 4 0
-wordsIn t here context (suc n) = cond (keepsAt here context (ruleIn t n)) (addIn 32 (wordsIn t here context n) n) (wordsIn t here context n)
+unfoldable pub wordsIn : ℕ → List ℕ → ℕ → Context → ℕ → List ℕ
+wordsIn W t here context zero = replicate 4 0
+wordsIn W t here context (suc n) = cond (keepsAt W here context (ruleIn t n)) (addIn 32 (wordsIn W t here context n) n) (wordsIn W t here context n)

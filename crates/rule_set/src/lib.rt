@@ -6,14 +6,15 @@ use vpg::Rule;
 ghost use mathlib.Core.Path.{_≡_};
 ghost use Prim.Native.Nat.{_*_, _<_, _≤_};
 ghost use lib.ListN.{length, replicate};
+ghost use Rattle.bits.specs.Bit.{bit};
+ghost use Rattle.vpg.specs.believed.Grammar.{left};
 ghost use Rattle.tables.specs.Table.{ruleIn};
 ghost use Rattle.tables.specs.Ready.{Below};
-ghost use Rattle.rule_index.specs.Classes.{classAt};
-ghost use Rattle.rule_index.specs.Index.{Indexed, firstIn, endsIn};
+ghost use Rattle.rule_index.specs.Index.{Indexed};
 ghost use Rattle.contexts.specs.declared.Context.{Context};
-ghost use Rattle.contexts.specs.Context.{tokenHere};
+ghost use Rattle.contexts.specs.Context.{AtKind};
 ghost use Rattle.rule_set.specs.Words.{addIn};
-ghost use Rattle.rule_set.specs.Ends.{endWays};
+ghost use Rattle.rule_set.specs.Ends.{endWays, Among, Only};
 ghost use Rattle.rule_set.specs.RuleSet.{keepsAt, nextWith, behindWith, sumWith, waysWith, waysTurn, noWays, waysIn, wordsIn};
 
 // What the set at a position says: the sum of 2^L over its rules, L being the nonterminal that a rule is for, the nonterminals at the next
@@ -25,13 +26,33 @@ pub struct Ways {
     pub behind: u32,
 }
 
-// Whether the nonterminal of rule r can stand here, and the rule too. Of the rules of a token's class most can: that is asked last.
-fn keeps(here: u32, table: &Table, r: usize, context: Context) -> bool
+// Whether the nonterminal of rule r can stand here.
+fn left_here(here: u32, table: &Table, r: usize) -> bool
     requires { ⌜ (r < 128) × Below 32 (ruleIn (now table) r) ⌝ }
-    ensures { λ x. ⌜ x ≡ keepsAt here context (ruleIn (now (table .entry)) r) ⌝ }
+    ensures { λ x. ⌜ x ≡ bit here (left (ruleIn (now (table .entry)) r)) ⌝ }
 {
-    if bits::has(here, tables::left_in(table, r) as usize) {
-        contexts::applies(table, r, context)
+    bits::has(here, tables::left_in(table, r) as usize)
+}
+
+// And rule r too, which stands at tokens of this kind. Of the rules of a token's class most can: that is asked last.
+fn keeps(here: u32, table: &Table, head: Head, r: usize, context: Context) -> bool
+    requires { ⌜ Indexed (now table) head × (r < head .rules) × AtKind (ruleIn (now table) r) (context .kind) ⌝ }
+    ensures { λ x. ⌜ x ≡ keepsAt (head .well) here context (ruleIn (now (table .entry)) r) ⌝ }
+{
+    if left_here(here, table, r) {
+        contexts::takes(table, head, r, context)
+    } else {
+        false
+    }
+}
+
+// The same of any rule.
+fn keeps_any(here: u32, table: &Table, head: Head, r: usize, context: Context) -> bool
+    requires { ⌜ Indexed (now table) head × (r < head .rules) ⌝ }
+    ensures { λ x. ⌜ x ≡ keepsAt (head .well) here context (ruleIn (now (table .entry)) r) ⌝ }
+{
+    if left_here(here, table, r) {
+        contexts::applies(table, head, r, context)
     } else {
         false
     }
@@ -44,7 +65,7 @@ fn next_with(set: u32, rule: Rule) -> u32
 {
     match rule {
         Rule::Empty(_) => set,
-        Rule::Mark(_, _, l1) => bits::with(set, l1 as usize),
+        Rule::Next(_, _, l1) => bits::with(set, l1 as usize),
         Rule::Step(_, _, l1, _, _) => bits::with(set, l1 as usize),
     }
 }
@@ -56,7 +77,7 @@ fn behind_with(set: u32, rule: Rule) -> u32
 {
     match rule {
         Rule::Empty(_) => set,
-        Rule::Mark(_, _, _) => set,
+        Rule::Next(_, _, _) => set,
         Rule::Step(_, _, _, _, l2) => bits::with(set, l2 as usize),
     }
 }
@@ -114,27 +135,20 @@ fn clear(words: &mut [u32])
     words[3] = 0;
 }
 
-// The first rule of the token's class; the number of rules where there is none.
-fn first_here(table: &Table, context: Context) -> usize
-    ensures { λ r. ⌜ r ≡ firstIn (now (table .entry)) (classAt (tokenHere context)) ⌝ }
-{
-    rule_index::first_of(table, rule_index::class_at(contexts::token_of(context)))
-}
-
 // The set of rules at a mark or an open where the nonterminals `here` can stand: only the rules of the token's class are looked at.
 fn class_set(table: &Table, head: Head, here: u32, context: Context, words: &mut [u32]) -> Ways
     requires { ⌜ Indexed (now table) head × (context .kind < 2) ⌝ }
     requires { ⌜ length (now words) ≡ 4 ⌝ }
-    ensures { λ x. ⌜ (x ≡ waysIn (now (table .entry)) here context (head .rules)) × (now (words .exit) ≡ wordsIn (now (table .entry)) here context (head .rules)) ⌝ }
+    ensures { λ x. ⌜ (x ≡ waysIn (head .well) (now (table .entry)) here context (head .rules)) × (now (words .exit) ≡ wordsIn (head .well) (now (table .entry)) here context (head .rules)) ⌝ }
 {
     let count = head.rules;
     clear(words);
     let mut ways = no_ways();
-    let mut r = first_here(table, context);
+    let mut r = contexts::first_here(table, context);
     while r < count {
         let k = r;
         r = rule_index::next_of(table, k);
-        if keeps(here, table, k, context) {
+        if keeps(here, table, head, k, context) {
             add(words, k);
             ways = ways_with(ways, table, k);
         }
@@ -142,15 +156,15 @@ fn class_set(table: &Table, head: Head, here: u32, context: Context, words: &mut
     ways
 }
 
-// The set of rules at a close: the empty rules of the nonterminals `here`. A nonterminal has one at most, which the index knows, so the
-// nonterminals are taken one by one, the lowest first; all closes are alike.
-fn ends_words(table: &Table, head: Head, here: u32, words: &mut [u32])
-    requires { ⌜ Indexed (now table) head ⌝ }
+// The set of rules where only empty rules can stand: those of the nonterminals `here` that the word `ends` has. A nonterminal has one at most,
+// which the index knows, so the nonterminals are taken one by one, the lowest first.
+fn ends_words(table: &Table, head: Head, here: u32, ends: u32, words: &mut [u32])
+    requires { ⌜ Indexed (now table) head × Among (now table) ends ⌝ }
     requires { ⌜ length (now words) ≡ 4 ⌝ }
-    ensures { λ _. ⌜ ((p : Context) → 2 ≤ p .kind → now (words .exit) ≡ wordsIn (now (table .entry)) here p (head .rules)) ⌝ }
+    ensures { λ _. ⌜ ((p : Context) → Only (now (table .entry)) head p ends → now (words .exit) ≡ wordsIn (head .well) (now (table .entry)) here p (head .rules)) ⌝ }
 {
     clear(words);
-    let mut due = here & rule_index::ends(table);
+    let mut due = here & ends;
     while due != 0 {
         add(
             words,
@@ -160,38 +174,77 @@ fn ends_words(table: &Table, head: Head, here: u32, words: &mut [u32])
     }
 }
 
-// The ways on at a close: these rules lead nowhere, and no two are for one nonterminal.
-fn ends_ways(table: &Table, here: u32) -> Ways
-    ensures { λ x. ⌜ x ≡ endWays here (endsIn (now (table .entry))) ⌝ }
+// The ways on there: these rules lead nowhere, and no two are for one nonterminal.
+fn ends_ways(here: u32, ends: u32) -> Ways
+    ensures { λ x. ⌜ x ≡ endWays here ends ⌝ }
 {
-    let ends = here & rule_index::ends(table);
+    let both = here & ends;
     Ways {
-        sum: ends as u64,
+        sum: both as u64,
         next: 0,
         behind: 0,
     }
+}
+
+// The set of rules at a close that a rule takes alone: all rules are looked at.
+fn all_set(table: &Table, head: Head, here: u32, context: Context, words: &mut [u32]) -> Ways
+    requires { ⌜ Indexed (now table) head ⌝ }
+    requires { ⌜ length (now words) ≡ 4 ⌝ }
+    ensures { λ x. ⌜ (x ≡ waysIn (head .well) (now (table .entry)) here context (head .rules)) × (now (words .exit) ≡ wordsIn (head .well) (now (table .entry)) here context (head .rules)) ⌝ }
+{
+    let count = head.rules;
+    clear(words);
+    let mut ways = no_ways();
+    let mut r: usize = 0;
+    while r < count {
+        let k = r;
+        r += 1;
+        if keeps_any(here, table, head, k, context) {
+            add(words, k);
+            ways = ways_with(ways, table, k);
+        }
+    }
+    ways
+}
+
+// The set of rules at a close.
+fn close_set(table: &Table, head: Head, here: u32, context: Context, words: &mut [u32]) -> Ways
+    requires { ⌜ Indexed (now table) head × (2 ≤ context .kind) × (context .kind < 4) ⌝ }
+    requires { ⌜ length (now words) ≡ 4 ⌝ }
+    ensures { λ x. ⌜ (x ≡ waysIn (head .well) (now (table .entry)) here context (head .rules)) × (now (words .exit) ≡ wordsIn (head .well) (now (table .entry)) here context (head .rules)) ⌝ }
+{
+    if contexts::first_here(table, context) < head.rules {
+        return all_set(table, head, here, context, words);
+    }
+    let ends = rule_index::low_ends(table);
+    ends_words(table, head, here, ends, words);
+    ends_ways(here, ends)
 }
 
 // The set of rules at a position where the nonterminals `here` can stand: it is written, rule 32k + b as digit b of word k.
 pub fn set_at(table: &Table, head: Head, here: u32, context: Context, words: &mut [u32]) -> Ways
     requires { ⌜ Indexed (now table) head ⌝ }
     requires { ⌜ length (now words) ≡ 4 ⌝ }
-    ensures { λ x. ⌜ (x ≡ waysIn (now (table .entry)) here context (head .rules)) × (now (words .exit) ≡ wordsIn (now (table .entry)) here context (head .rules)) ⌝ }
+    ensures { λ x. ⌜ (x ≡ waysIn (head .well) (now (table .entry)) here context (head .rules)) × (now (words .exit) ≡ wordsIn (head .well) (now (table .entry)) here context (head .rules)) ⌝ }
 {
+    if 4 <= context.kind {
+        let ends = rule_index::ends(table);
+        ends_words(table, head, here, ends, words);
+        return ends_ways(here, ends);
+    }
     if 2 <= context.kind {
-        ends_words(table, head, here, words);
-        return ends_ways(table, here);
+        return close_set(table, head, here, context, words);
     }
     class_set(table, head, here, context, words)
 }
 
-// The ways on, with those of rule r where it is in the set.
-fn ways_turn(ways: Ways, here: u32, table: &Table, r: usize, context: Context) -> Ways
-    requires { ⌜ (r < 128) × Below 32 (ruleIn (now table) r) ⌝ }
+// The ways on, with those of rule r, which stands at tokens of this kind, where it is in the set.
+fn ways_turn(ways: Ways, here: u32, table: &Table, head: Head, r: usize, context: Context) -> Ways
+    requires { ⌜ Indexed (now table) head × (r < head .rules) × AtKind (ruleIn (now table) r) (context .kind) ⌝ }
     requires { ⌜ ways .sum ≤ r * 4294967296 ⌝ }
-    ensures { λ x. ⌜ x ≡ waysTurn ways here context (ruleIn (now (table .entry)) r) ⌝ }
+    ensures { λ x. ⌜ x ≡ waysTurn (head .well) ways here context (ruleIn (now (table .entry)) r) ⌝ }
 {
-    if keeps(here, table, r, context) {
+    if keeps(here, table, head, r, context) {
         ways_with(ways, table, r)
     } else {
         ways
@@ -201,25 +254,57 @@ fn ways_turn(ways: Ways, here: u32, table: &Table, r: usize, context: Context) -
 // The ways on at a mark or an open.
 fn class_ways(table: &Table, head: Head, here: u32, context: Context) -> Ways
     requires { ⌜ Indexed (now table) head × (context .kind < 2) ⌝ }
-    ensures { λ x. ⌜ x ≡ waysIn (now (table .entry)) here context (head .rules) ⌝ }
+    ensures { λ x. ⌜ x ≡ waysIn (head .well) (now (table .entry)) here context (head .rules) ⌝ }
 {
     let count = head.rules;
     let mut ways = no_ways();
-    let mut r = first_here(table, context);
+    let mut r = contexts::first_here(table, context);
     while r < count {
-        ways = ways_turn(ways, here, table, r, context);
+        ways = ways_turn(ways, here, table, head, r, context);
         r = rule_index::next_of(table, r);
     }
     ways
 }
 
+// The ways on at a close that a rule takes alone.
+fn all_ways(table: &Table, head: Head, here: u32, context: Context) -> Ways
+    requires { ⌜ Indexed (now table) head ⌝ }
+    ensures { λ x. ⌜ x ≡ waysIn (head .well) (now (table .entry)) here context (head .rules) ⌝ }
+{
+    let count = head.rules;
+    let mut ways = no_ways();
+    let mut r: usize = 0;
+    while r < count {
+        let k = r;
+        r += 1;
+        if keeps_any(here, table, head, k, context) {
+            ways = ways_with(ways, table, k);
+        }
+    }
+    ways
+}
+
+// The ways on at a close.
+fn close_ways(table: &Table, head: Head, here: u32, context: Context) -> Ways
+    requires { ⌜ Indexed (now table) head × (2 ≤ context .kind) × (context .kind < 4) ⌝ }
+    ensures { λ x. ⌜ x ≡ waysIn (head .well) (now (table .entry)) here context (head .rules) ⌝ }
+{
+    if contexts::first_here(table, context) < head.rules {
+        return all_ways(table, head, here, context);
+    }
+    ends_ways(here, rule_index::low_ends(table))
+}
+
 // The ways on alone, where nobody asks for the set.
 pub fn ways_at(table: &Table, head: Head, here: u32, context: Context) -> Ways
     requires { ⌜ Indexed (now table) head ⌝ }
-    ensures { λ x. ⌜ x ≡ waysIn (now (table .entry)) here context (head .rules) ⌝ }
+    ensures { λ x. ⌜ x ≡ waysIn (head .well) (now (table .entry)) here context (head .rules) ⌝ }
 {
+    if 4 <= context.kind {
+        return ends_ways(here, rule_index::ends(table));
+    }
     if 2 <= context.kind {
-        return ends_ways(table, here);
+        return close_ways(table, head, here, context);
     }
     class_ways(table, head, here, context)
 }

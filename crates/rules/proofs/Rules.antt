@@ -16,6 +16,7 @@ use Rattle.numbers.specs.Written.{NumbersAt, none, one}
 use Rattle.numbers.proofs.Fields.{field-read, field-reads}
 use Rattle.numbers.proofs.Standing.{none-left, one-left}
 use Rattle.vpg.specs.declared.Rule.{Rule}
+use Rattle.vpg.specs.declared.Token.{Token}
 use Rattle.rules.specs.declared.PairRead.{PairRead}
 use Rattle.rules.specs.declared.PairRead.the-variants.{Pair, Refused as PairRefused}
 use Rattle.rules.specs.declared.RuleRead.{RuleRead}
@@ -79,11 +80,11 @@ module _ (number : ℕ → NumberRead) (nonterminals : ℕ) where
       let f = after-read (pairAt number p names 7 nonterminals) _ h in
       go (f .0) (f .1) (f .2) (pair-read p names 7 (f .0) (f .1) (f .2) (f .3)) (eqb form 1) refl (f .4)
     where
-      mark : (name to q : ℕ) → PairIs p names name to q → form ≡ 1 → Read (Rule.Mark from (record { 0 = name }) to) q ≡ Read r next → RuleIs at r next
+      mark : (name to q : ℕ) → PairIs p names name to q → form ≡ 1 → Read (Rule.Next from (Token.Mark (record { 0 = name })) to) q ≡ Read r next → RuleIs at r next
       mark name to q j is s =
-          let e : Rule.Mark from (record { 0 = name }) to ≡ r = cc in
+          let e : Rule.Next from (Token.Mark (record { 0 = name })) to ≡ r = cc in
           let e′ : q ≡ next = cc in
-          rw (← e′, ← e) (stand (rw is at i) (stand j none), (i .two-below, j .one-below, j .two-below))
+          rw (← e′, ← e) (stand (rw is at i) (stand j none), (i .two-below, j .one-below, j .two-below, tt))
 
       step : (name to q close last u : ℕ) → PairIs p names name to q → PairIs q names close last u → form ≡ 2
           → Read (Rule.Step from (record { 0 = name }) to (record { 0 = close }) last) u ≡ Read r next → RuleIs at r next
@@ -93,7 +94,7 @@ module _ (number : ℕ → NumberRead) (nonterminals : ℕ) where
           rw (← e′, ← e) (stand (rw is at i) (stand j (stand k none)), (i .two-below, j .one-below, j .two-below, k .one-below, k .two-below))
 
       go : (name to q : ℕ) → PairIs p names name to q → (t : Bool) → eqb form 1 ≡ t
-          → cond t (Read (Rule.Mark from (record { 0 = name }) to) q) (stepAt number q nonterminals from name to) ≡ Read r next → RuleIs at r next
+          → cond t (Read (Rule.Next from (Token.Mark (record { 0 = name })) to) q) (stepAt number q nonterminals from name to) ≡ Read r next → RuleIs at r next
       go name to q j true t s = mark name to q j (eqb-true form 1 t) s
       go name to q j false t s =
           let f = after-read (pairAt number q names 7 nonterminals) _ s in
@@ -119,7 +120,9 @@ module _ (number : ℕ → NumberRead) (nonterminals : ℕ) where
   rule-reads at (Rule.Empty l) next (n, h) =
       let f = split forms n (lit< tt) h in
       rw (pair-reads at forms 5 0 l (f .0) (f .1), none-left (f .2))
-  rule-reads at (Rule.Mark l c l1) next (n, h) =
+  rule-reads at (Rule.Next l (Token.Open a) l1) next (n, h) = absurd (h .3)
+  rule-reads at (Rule.Next l (Token.Close b) l1) next (n, h) = absurd (h .3)
+  rule-reads at (Rule.Next l (Token.Mark c) l1) next (n, h) =
       let f = split forms n (lit< tt) (h .0) in
       let s = split names (f .2) (h .1) (h .2) in
       rw (pair-reads at forms 5 1 l (f .0) (f .1), pair-reads (f .0) names 7 (c .0) l1 (s .0) (s .1), none-left (s .2))

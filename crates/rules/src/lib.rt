@@ -4,6 +4,7 @@ use vpg::CloseName;
 use vpg::MarkName;
 use vpg::OpenName;
 use vpg::Rule;
+use vpg::Token;
 ghost use mathlib.Core.Path.{_≡_};
 ghost use Prim.Native.Nat.{_≤_};
 ghost use Rattle.numbers.specs.believed.Number.{numberAt};
@@ -86,7 +87,7 @@ fn body_at(s: &[u8], at: usize, nonterminals: u16, form: u16, from: u16) -> Rule
         return RuleRead::Refused(pair_refusal(read));
     };
     if form == 1 {
-        RuleRead::Read(Rule::Mark(from, MarkName(name), to), next)
+        RuleRead::Read(Rule::Next(from, Token::Mark(MarkName(name)), to), next)
     } else {
         step_at(s, next, nonterminals, from, name, to)
     }

@@ -20,7 +20,6 @@ use Rattle.files.specs.believed.Files.{Files, accepted, refused, filesOf}
 use Rattle.service.specs.declared.Opened.{Opened}
 use Rattle.service.specs.believed.Opened.{filesIn, opened}
 use Rattle.service.specs.Opening.{Numbers, HistoryOpened, Open, OpenedIs}
-use Rattle.service.proofs.Matched.{well-matched}
 
 -- the room for a few elements at each position of a history
 pub room-small : (each n : ℕ) → each ≤ 255 → n + 1 ≤ 1025 → each * (n + 1) < 2 ^ 64
@@ -75,7 +74,6 @@ module _ (each size : ℕ) (grammar history read : List ℕ) (head : Head) (k : 
         long = x .long;
         room = x .room;
         tokens = x .tokens;
-        balanced = well-matched (take n numbers) (x .wellformed);
         wellformed = x .wellformed;
       }))
 

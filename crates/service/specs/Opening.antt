@@ -4,7 +4,6 @@ use Prim.Native.Nat.{ℕ, _+_, _*_, _≤_}
 use mathlib.Core.Path.{_≡_}
 use mathlib.Core.List.{List}
 use lib.ListN.{length, take}
-use Rattle.level_theory.specs.Pending.{WellMatched}
 use Rattle.tables.specs.declared.Head.{Head}
 use Rattle.tables.specs.Ready.{grammarIn}
 use Rattle.rule_index.specs.Index.{Indexed}
@@ -45,7 +44,6 @@ pub record Open (each size : ℕ) (files : Files) (head : Head) (n : ℕ) (table
   pub long : n ≤ length numbers
   pub room : each * (n + 1) ≤ size
   pub tokens : Tokens (take n numbers)
-  pub balanced : WellMatched (tokensOf (take n numbers))
   pub wellformed : Wellformed (take n numbers)
 
 -- what the opening answers: these, or the number that is due

@@ -65,7 +65,7 @@ pub fn open_files(
     table: &mut Table,
     tokens: &mut TokenNumbers,
 ) -> Opened
-    requires { ⌜ (now table ≡ replicate 1154 0) × (now tokens ≡ replicate 1024 0) × (each ≤ 255) ⌝ }
+    requires { ⌜ (now table ≡ replicate 1412 0) × (now tokens ≡ replicate 1024 0) × (each ≤ 255) ⌝ }
     ensures { λ r. ⌜ OpenedIs each size (filesIn (now (grammar .entry)) (now (history .entry))) r (now (table .exit)) (now (tokens .exit)) ⌝ }
 {
     let read = grammar_file::read_grammar(grammar, table);

@@ -17,11 +17,11 @@ ghost use Rattle.levels.specs.Levels.{Setting};
 ghost use Rattle.sets_core.specs.Start.{startSet};
 
 // The nonterminals that can stand at position 0: the start, if it derives the tokens.
-fn start_set(mask: u32, start: u16) -> u32
+fn start_set(derives: bool, start: u16) -> u32
     requires { ⌜ start < 32 ⌝ }
-    ensures { λ r. ⌜ r ≡ startSet mask start ⌝ }
+    ensures { λ r. ⌜ r ≡ startSet derives start ⌝ }
 {
-    if bits::has(mask, start as usize) {
+    if derives {
         bits::with(0, start as usize)
     } else {
         0
@@ -66,14 +66,15 @@ pub fn sets(
 {
     let n = tokens.len();
     let mut behind = [0u32; 1025];
-    let mut here = start_set(masks[0], head.start);
+    let derives = levels::derives_all(masks, head);
+    let mut here = start_set(derives, head.start);
     let mut count: u32 = 0;
     let mut p: usize = 0;
     while p <= n {
         let context = levels::context_at(tokens, closes, masks, p);
         let ways = rule_set::set_at(table, head, here, context, &mut words[4 * p..4 * p + 4]);
-        count = counted(count, ways.sum, here & masks[p]);
-        here = onward(&mut behind, p, closes[p], ways);
+        count = counted(count, ways.sum, here & bits::low_half(masks[p]));
+        here = onward(&mut behind, p, levels::close_at(closes, p), ways);
         p += 1;
     }
     count
@@ -85,7 +86,8 @@ pub fn choices(table: &Table, head: Head, tokens: &[u32], closes: &Closes, masks
     ensures { λ r. ⌜ r ≡ choiceCount (grammarIn (now (table .entry)) head) (tokensOf (now (tokens .entry))) ⌝ }
 {
     let mut behind = [0u32; 1025];
-    let mut here = start_set(masks[0], head.start);
+    let derives = levels::derives_all(masks, head);
+    let mut here = start_set(derives, head.start);
     let mut total: u32 = 0;
     let mut p: usize = 0;
     while p <= tokens.len() {
@@ -95,8 +97,8 @@ pub fn choices(table: &Table, head: Head, tokens: &[u32], closes: &Closes, masks
             here,
             levels::context_at(tokens, closes, masks, p),
         );
-        total = counted(total, ways.sum, here & masks[p]);
-        here = onward(&mut behind, p, closes[p], ways);
+        total = counted(total, ways.sum, here & bits::low_half(masks[p]));
+        here = onward(&mut behind, p, levels::close_at(closes, p), ways);
         p += 1;
     }
     total

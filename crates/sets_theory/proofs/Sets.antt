@@ -10,7 +10,7 @@ use mathlib.Core.Option.{some, Option·none-ne-some, Option·some-injective}
 use borrow.Author.Tests.{eqb-true, eq-eqb}
 use lib.ListN.{length, take, getD, getElem?}
 use Rattle.vpg.specs.declared.Token.{Token}
-use Rattle.vpg.specs.believed.Grammar.{Rules, Grammar, Tree, code, Derives, by-empty, by-mark, by-step, Reading}
+use Rattle.vpg.specs.believed.Grammar.{Rules, Grammar, Tree, code, Derives, by-empty, by-next, by-step, Reading}
 use Rattle.vpg.specs.Runs.{entries}
 use Rattle.sets_theory.specs.KeptTest.{standsAt, standsIn, kept}
 use Rattle.sets_theory.specs.believed.Sets.{Kept, marked, stopMark, listed, stopMarks}
@@ -54,8 +54,8 @@ kept-is g w p r = (
 code-below : (g : Rules) {L : ℕ} {w : List Token} {t : Tree} → Derives g L w t → (p r : ℕ) → getElem? (code t) p ≡ some r → r < length g
 code-below g (by-empty {r = r′} q) zero r h = rw (Option·some-injective r′ r h) at (at-below g r′ q)
 code-below g (by-empty q) (suc p) r h = absurd (Option·none-ne-some r h)
-code-below g (by-mark {r = r′} q d) zero r h = rw (Option·some-injective r′ r h) at (at-below g r′ q)
-code-below g (by-mark q d) (suc p) r h = code-below g d p r h
+code-below g (by-next {r = r′} q d) zero r h = rw (Option·some-injective r′ r h) at (at-below g r′ q)
+code-below g (by-next q d) (suc p) r h = code-below g d p r h
 code-below g (by-step {r = r′} q d d′) zero r h = rw (Option·some-injective r′ r h) at (at-below g r′ q)
 code-below g (by-step {t} {u} q d d′) (suc p) r h = ⊎-elim (λ k. code-below g d p r k) (λ k. code-below g d′ (k .0) r (k .2)) (at-cases r (code t) (code u) p h)
 

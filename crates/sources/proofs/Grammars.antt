@@ -17,6 +17,7 @@ use Rattle.rules.specs.declared.RuleRead.the-variants.{Read, Refused as RuleRef
 use Rattle.rules.specs.believed.Rule.{names, forms, first, second, pairAt, after, stepAt, bodyAt, ruleAt}
 use Rattle.tables.specs.Table.{earlier}
 use Rattle.vpg.specs.declared.Rule.{Rule}
+use Rattle.vpg.specs.declared.Token.{Token}
 use Rattle.grammar_file.specs.believed.GrammarFile.{GrammarFile, refused, afterRule, afterCount, rulesFrom, countedFrom, withoutStart, withStart, either, grammarFrom}
 use Rattle.sources.proofs.Alike.{SameNumber, both, neither, Alike, SameField, both-fields, no-field, field-alike, count-alike}
 
@@ -87,8 +88,8 @@ module _ {x y : Source} {limit : ℕ} {At : ℕ → ℕ → ℕ → Type 0} (ali
         after-alike _ _ (pair-alike (two k) p q names 7 names-few a) (λ name to p1 q1 b. go name to p1 q1 b (eqb form 1))
       where
         go : (name to p1 q1 : ℕ) → At (two k) p1 q1 → (t : Bool)
-            → SameRule (At k) (cond t (Read (Rule.Mark from (record { 0 = name }) to) p1) (stepAt (x .number) p1 nonterminals from name to))
-            (cond t (Read (Rule.Mark from (record { 0 = name }) to) q1) (stepAt (y .number) q1 nonterminals from name to))
+            → SameRule (At k) (cond t (Read (Rule.Next from (Token.Mark (record { 0 = name })) to) p1) (stepAt (x .number) p1 nonterminals from name to))
+            (cond t (Read (Rule.Next from (Token.Mark (record { 0 = name })) to) q1) (stepAt (y .number) q1 nonterminals from name to))
         go name to p1 q1 b true = both-rules (alike .fewer k (two k) p1 q1 (omega arith) b)
         go name to p1 q1 b false = step-alike k p1 q1 from name to b
 

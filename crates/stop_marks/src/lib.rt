@@ -9,7 +9,7 @@ ghost use Rattle.stop_marks.specs.believed.StopMarks.{marksDue};
 pub fn stop_marks(grammar: &[u8], history: &[u8], marks: &mut [u8]) -> Outcome
     ensures { λ r. ⌜ (outcomeSaid r, now (marks .exit)) ≡ marksDue (now (grammar .entry)) (now (history .entry)) (now (marks .entry)) ⌝ }
 {
-    let mut table = [0u16; 1154];
+    let mut table = [0u16; 1412];
     let mut tokens = [0u32; 1024];
     let opened = service::open_files(grammar, history, 1, marks.len(), &mut table, &mut tokens);
     let Opened::Files(head, n) = opened else {

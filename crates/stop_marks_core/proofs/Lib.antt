@@ -1,3 +1,3 @@
+pub mod Accepting
 pub mod Depths
-pub mod Stacks
 pub mod Turns

@@ -3,16 +3,15 @@ use Prim.Native.Nat.{ℕ, suc, _+_, _<_, _≤_}
 use native.Mathlib.Numerals.{add-one}
 use native.Mathlib.Omega.{arith}
 use mathlib.Core.Path.{_≡_, refl, sym, _∙_, ap, ap₂}
-use mathlib.Core.Bool.{Bool, true, false, cond, not}
 use mathlib.Core.List.{List, [], _∷_, _++_}
 use lib.ListN.{length, take, drop, getD, set, length-set, length-map, List·getD-map}
 use lib.Seq.{drop-cons, drop-drop, drop-length, take-suc-set, drop-set-lt, set-split, append-snoc}
 use Rattle.vpg.specs.declared.Token.{Token}
 use Rattle.pair_theory.specs.Depth.{Shallow, openAfter}
 use Rattle.vpg.specs.believed.Grammar.{Grammar}
-use Rattle.pair_theory.specs.Pairs.{Configuration, begin, single, derivative, accepts, marksFrom}
+use Rattle.pair_theory.specs.Pairs.{Configuration, begin, single, derivative, accepts, marksFrom, Within}
 use Rattle.sets_theory.specs.believed.Sets.{one, stopMark, stopMarks}
-use Rattle.pair_theory.proofs.Pairs.{stop-marks-pairs}
+use Rattle.pair_theory.proofs.Pairs.{begin-within, derivative-within, stop-marks-pairs}
 use Rattle.tables.specs.declared.Head.{Head}
 use Rattle.tables.specs.Ready.{grammarIn}
 use Rattle.rule_index.specs.Index.{Indexed, endsIn}
@@ -20,8 +19,9 @@ use Rattle.history_file.specs.believed.HistoryFile.{tokenOf, tokensOf}
 use Rattle.pair_states.specs.Encodes.{Encodes}
 use Rattle.pair_states.specs.Wide.{wideGrammar}
 use Rattle.pair_states.proofs.Grammars.{proper}
-use Rattle.stop_marks_core.specs.Stack.{Holds, markOf, StepHolds}
-use Rattle.stop_marks_core.proofs.Stacks.{mark-accepts}
+use Rattle.configurations.specs.Stack.{Holds, StepHolds}
+use Rattle.stop_marks_core.specs.MarkOf.{markOf}
+use Rattle.stop_marks_core.proofs.Accepting.{mark-accepts}
 
 pub drop-token : (ts : List ℕ) (i : ℕ) → i < length ts → drop i (tokensOf ts) ≡ tokenOf (getD ts i 0) ∷ drop (i + 1) (tokensOf ts)
 drop-token ts i h =
@@ -32,6 +32,7 @@ drop-token ts i h =
 pub record Turn (g : Grammar) (ts out₀ : List ℕ) (i d : ℕ) (rows : List ℕ) (stack : List (List ℕ)) (names out : List ℕ) : Type 0 where
   pub configuration : Configuration
   pub holds : Holds d rows stack names configuration
+  pub within : Within g configuration
   pub shallow : Shallow 128 (drop i (tokensOf ts)) d
   pub marks : take i out ++ marksFrom g configuration (drop i (tokensOf ts)) ≡ marksFrom g (begin g) (tokensOf ts)
   pub rest : drop i out ≡ drop i out₀
@@ -48,11 +49,6 @@ depths {ts} {i} {d} u h = go (drop (i + 1) (tokensOf ts)) (rw (drop-token ts i h
     go [] s = s
     go (x ∷ v) s = (s .0, s .1 .0)
 
--- after a token the other array has the state
-pub other : (first : Bool) (a b : List ℕ) → cond first b a ≡ cond (not first) a b
-other true a b = refl
-other false a b = refl
-
 -- the stop marks go by the rules and the start alone: how many nonterminals there are changes none
 marks-wide : (table : List ℕ) (head : Head) (w : List Token) → stopMarks (wideGrammar table head) w ≡ stopMarks (grammarIn table head) w
 unfolding stopMark stopMarks
@@ -62,15 +58,26 @@ module _ (table : List ℕ) (head : Head) (ts out₀ : List ℕ) where
   abbrev g : Grammar
   g = wideGrammar table head
 
-  pub first-turn : (rows : List ℕ) (stack : List (List ℕ)) (names : List ℕ) → Encodes rows (single (head .start) (head .start)) → Shallow 128 (tokensOf ts) 0 → length stack ≡ 128 →
-      length names ≡ 128 → Turn g ts out₀ 0 0 rows stack names out₀
-  first-turn rows stack names x s p q =
-      record { configuration = begin g; holds = record { state = x; saved = tt }; shallow = s; marks = refl; rest = refl; stack-size = p; names-size = q; size = refl }
+  pub first-turn : Indexed table head → (rows : List ℕ) (stack : List (List ℕ)) (names : List ℕ) → Encodes rows (single (head .start) (head .start)) → Shallow 128 (tokensOf ts) 0 →
+      length stack ≡ 128 → length names ≡ 128 → Turn g ts out₀ 0 0 rows stack names out₀
+  first-turn indexed rows stack names x s p q =
+      let v = proper table head (indexed .ready) in
+      record {
+        configuration = begin g;
+        holds = record { state = x; saved = tt };
+        within = begin-within g (v .form) v;
+        shallow = s;
+        marks = refl;
+        rest = refl;
+        stack-size = p;
+        names-size = q;
+        size = refl;
+      }
 
   module _ (i d : ℕ) (rows : List ℕ) (stack : List (List ℕ)) (names out : List ℕ) (m : ℕ) (room : length ts + 1 ≤ length out₀) (u : Turn g ts out₀ i d rows stack names out)
-      (indexed : Indexed table head) (is : m ≡ markOf d rows (endsIn table)) where
+      (indexed : Indexed table head) (is : m ≡ markOf d rows (endsIn table) head) where
     accepted : m ≡ one (accepts g (u .configuration))
-    accepted = is ∙ mark-accepts table head indexed d rows stack names (u .configuration) (u .holds)
+    accepted = is ∙ mark-accepts table head indexed d rows stack names (u .configuration) (u .holds) (u .within)
 
     written : i < length out → take (i + 1) (set out i m) ≡ take i out ++ (m ∷ [])
     written h = rw add-one (take-suc-set out i m h)
@@ -85,10 +92,12 @@ module _ (table : List ℕ) (head : Head) (ts out₀ : List ℕ) where
         let x = u .configuration in
         let y = derivative g (tokenOf (getD ts i 0)) x in
         let v = drop (i + 1) (tokensOf ts) in
+        let p = proper table head (indexed .ready) in
         let below : i < length out = omega (arith, u .size) in
         record {
           configuration = y;
           holds = s .holds x (u .holds);
+          within = derivative-within g (p .form) p (tokenOf (getD ts i 0)) x (u .within);
           shallow = rw (s .steps-open) ((rw (drop-token ts i h) at (u .shallow)) .1);
           marks =
               ap (λ (l : List ℕ). l ++ marksFrom g y v) (written below)

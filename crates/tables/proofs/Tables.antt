@@ -4,7 +4,7 @@ use mathlib.Core.Path.{_≡_, refl, sym, ap, _∙_}
 use mathlib.Core.Logic.{⊎-elim}
 use mathlib.Core.Bool.{Bool, true, false, cond}
 use mathlib.Core.List.{List, [], _∷_, _++_}
-use mathlib.Core.Option.{some}
+use mathlib.Core.Option.{some, Option·some-injective}
 use native.Mathlib.Omega.{arith}
 use native.Mathlib.Numerals.{add-one}
 use native.Mathlib.Nat.{add-zero, zero-add, eq-or-lt-of-le, le-of-suc-le-suc}
@@ -13,10 +13,13 @@ use lib.Dec.{eqb}
 use lib.ListN.{length, getD, getElem?, set, replicate, length-set, length-append, List·getD-append}
 use lib.Seq.{getD-set-same, getD-set-other, ext-getD}
 use Rattle.vpg.specs.declared.Rule.{Rule}
-use Rattle.vpg.specs.believed.Grammar.{left}
+use Rattle.vpg.specs.declared.Token.{Token}
+use Rattle.vpg.specs.believed.Grammar.{General, left}
 use Rattle.laws.proofs.Lists.{at-left, at-below}
+use Rattle.tables.specs.declared.Head.{Head}
 use Rattle.tables.specs.declared.Six.{Six}
-use Rattle.tables.specs.Table.{sixOf, sixIn, ruleFrom, ruleIn, rulesIn, putSix, fill, tableOf}
+use Rattle.tables.specs.Ready.{Ready}
+use Rattle.tables.specs.Table.{tokenBy, sixOf, sixIn, ruleFrom, ruleIn, rulesIn, putSix, fill, tableOf}
 
 -- what stands before the place of a store, and what stands at it
 low : (l : List ℕ) (i j a : ℕ) → j < i → getD (set l i a) j 0 ≡ getD l j 0
@@ -69,15 +72,17 @@ six-same t k v h =
 -- a rule comes back from its six numbers
 pub from-of : (r : Rule) → ruleFrom (sixOf r) ≡ r
 from-of (Rule.Empty l) = refl
-from-of (Rule.Mark l c l1) = refl
+from-of (Rule.Next l (Token.Mark c) l1) = refl
+from-of (Rule.Next l (Token.Open a) l1) = refl
+from-of (Rule.Next l (Token.Close b) l1) = refl
 from-of (Rule.Step l a l1 b l2) = refl
 
 -- the nonterminal that a rule is for is the second of its numbers
 left-from : (v : Six) → left (ruleFrom v) ≡ v .1
-left-from v = go (eqb (v .0) 0) (eqb (v .0) 1)
+left-from v = go (eqb (v .0) 0) (eqb (v .0) 2)
   where
-    go : (empty mark : Bool) → left (cond empty (Rule.Empty (v .1)) (cond mark (Rule.Mark (v .1) (record { 0 = v .2 }) (v .3)) (Rule.Step (v .1) (record { 0 = v .2 }) (v .3) (record { 0 = v .4 }) (v .5)))) ≡ v .1
-    go true mark = refl
+    go : (empty step : Bool) → left (cond empty (Rule.Empty (v .1)) (cond step (Rule.Step (v .1) (record { 0 = v .2 }) (v .3) (record { 0 = v .4 }) (v .5)) (Rule.Next (v .1) (tokenBy (v .0) (v .2)) (v .3)))) ≡ v .1
+    go true step = refl
     go false true = refl
     go false false = refl
 
@@ -90,18 +95,17 @@ pub rule-empty : (t : List ℕ) (k : ℕ) (v : Six) → v ≡ sixIn t (k * 6) �
 unfolding ruleIn
 rule-empty t k v e z = sym (ap ruleFrom e) ∙ rw (eq-eqb (v .0) 0 z)
 
-pub rule-mark : (t : List ℕ) (k : ℕ) (v : Six) → v ≡ sixIn t (k * 6) → v .0 ≡ 1 → ruleIn t k ≡ Rule.Mark (v .1) (record { 0 = v .2 }) (v .3)
+pub rule-step : (t : List ℕ) (k : ℕ) (v : Six) → v ≡ sixIn t (k * 6) → v .0 ≡ 2 → ruleIn t k ≡ Rule.Step (v .1) (record { 0 = v .2 }) (v .3) (record { 0 = v .4 }) (v .5)
 unfolding ruleIn
-rule-mark t k v e z = sym (ap ruleFrom e) ∙ rw z
+rule-step t k v e z = sym (ap ruleFrom e) ∙ rw z
 
-pub rule-step : (t : List ℕ) (k : ℕ) (v : Six) → v ≡ sixIn t (k * 6) → (v .0 ≡ 0 → ⊥) → (v .0 ≡ 1 → ⊥)
-    → ruleIn t k ≡ Rule.Step (v .1) (record { 0 = v .2 }) (v .3) (record { 0 = v .4 }) (v .5)
+pub rule-next : (t : List ℕ) (k : ℕ) (v : Six) → v ≡ sixIn t (k * 6) → (v .0 ≡ 0 → ⊥) → (v .0 ≡ 2 → ⊥) → ruleIn t k ≡ Rule.Next (v .1) (tokenBy (v .0) (v .2)) (v .3)
 unfolding ruleIn
-rule-step t k v e y z = sym (ap ruleFrom e) ∙ rw (ne-eqb (v .0) 0 y, ne-eqb (v .0) 1 z)
+rule-next t k v e y z = sym (ap ruleFrom e) ∙ rw (ne-eqb (v .0) 0 y, ne-eqb (v .0) 2 z)
 
 pub left-of-six : (r : Rule) → sixOf r .1 ≡ left r
 left-of-six (Rule.Empty l) = refl
-left-of-six (Rule.Mark l c l1) = refl
+left-of-six (Rule.Next l i l1) = refl
 left-of-six (Rule.Step l a l1 b l2) = refl
 
 pub rule-low : (t : List ℕ) (k j : ℕ) (v : Six) → j < k → ruleIn (putSix t k v) j ≡ ruleIn t j
@@ -161,7 +165,7 @@ fill-at (r ∷ rs) t k (suc j) d room h =
 -- the k-th rule of a table is the k-th of the list
 pub table-rule : (rs : List Rule) (k : ℕ) (d : Rule) → length rs ≤ 128 → k < length rs → ruleIn (tableOf rs) k ≡ getD rs k d
 unfolding tableOf
-table-rule rs k d few h = rw (zero-add k) at (fill-at rs (replicate 1154 0) 0 k d (omega arith) h)
+table-rule rs k d few h = rw (zero-add k) at (fill-at rs (replicate 1412 0) 0 k d (omega arith) h)
 
 -- the last of a list with one element more
 at-seam : {A : Type 0} (l : List A) (x : A) (r : ℕ) → r ≡ length l → getElem? (l ++ (x ∷ [])) r ≡ some x
@@ -195,3 +199,9 @@ pub rules-table : (rs : List Rule) → length rs ≤ 128 → rulesIn (tableOf rs
 rules-table rs few =
     ext-getD (Rule.Empty 0) (rulesIn (tableOf rs) (length rs)) rs (length-rules (tableOf rs) (length rs))
     (λ i h. let l : i < length rs = rw length-rules at h in rules-getD (tableOf rs) (length rs) i (Rule.Empty 0) l ∙ table-rule rs i (Rule.Empty 0) few l)
+
+-- the rules of a table that is ready are as Definition 2.2 has them
+pub ready-general : (t : List ℕ) (head : Head) → Ready t head → General (head .well) (rulesIn t (head .rules))
+ready-general t head h r R e =
+    let l = rules-below t (head .rules) r e in
+    rw (Option·some-injective (ruleIn t r) R (sym (rules-at t (head .rules) r l) ∙ e)) at (h .forms r l)

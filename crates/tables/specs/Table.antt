@@ -6,20 +6,26 @@ use mathlib.Core.Bool.{Bool, false, cond, _&&_, _||_}
 use lib.ListN.{getD, set, replicate}
 use lib.Dec.{eqb}
 use Rattle.vpg.specs.declared.Rule.{Rule}
+use Rattle.vpg.specs.declared.Token.{Token}
+use Rattle.vpg.specs.Forms.{formOf, nameOf}
 use Rattle.tables.specs.declared.Six.{Six}
 
 abbrev pub sixOf : Rule → Six
 sixOf (Rule.Empty l) = record { 0 = 0; 1 = l; 2 = 0; 3 = 0; 4 = 0; 5 = 0 }
-sixOf (Rule.Mark l c l1) = record { 0 = 1; 1 = l; 2 = c .0; 3 = l1; 4 = 0; 5 = 0 }
+sixOf (Rule.Next l i l1) = record { 0 = formOf i; 1 = l; 2 = nameOf i; 3 = l1; 4 = 0; 5 = 0 }
 sixOf (Rule.Step l a l1 b l2) = record { 0 = 2; 1 = l; 2 = a .0; 3 = l1; 4 = b .0; 5 = l2 }
+
+-- the token that a rule of the form takes alone
+abbrev pub tokenBy : ℕ → ℕ → Token
+tokenBy form name = cond (eqb form 3) (Token.Open (record { 0 = name })) (cond (eqb form 4) (Token.Close (record { 0 = name })) (Token.Mark (record { 0 = name })))
 
 abbrev pub ruleFrom : Six → Rule
 ruleFrom v =
     cond (eqb (v .0) 0)
     (Rule.Empty (v .1))
-    (cond (eqb (v .0) 1)
-    (Rule.Mark (v .1) (record { 0 = v .2 }) (v .3))
-    (Rule.Step (v .1) (record { 0 = v .2 }) (v .3) (record { 0 = v .4 }) (v .5)))
+    (cond (eqb (v .0) 2)
+    (Rule.Step (v .1) (record { 0 = v .2 }) (v .3) (record { 0 = v .4 }) (v .5))
+    (Rule.Next (v .1) (tokenBy (v .0) (v .2)) (v .3)))
 
 abbrev pub sixIn : List ℕ → ℕ → Six
 sixIn t b = record {
@@ -52,7 +58,7 @@ fill t k (r ∷ rs) = fill (putSix t k (sixOf r)) (k + 1) rs
 
 -- the table of at most 128 rules
 unfoldable pub tableOf : List Rule → List ℕ
-tableOf rs = fill (replicate 1154 0) 0 rs
+tableOf rs = fill (replicate 1412 0) 0 rs
 
 abbrev pub sameSix : Six → Six → Bool
 sameSix a b =

@@ -3,19 +3,23 @@ use vpg::CloseName;
 use vpg::MarkName;
 use vpg::OpenName;
 use vpg::Rule;
+use vpg::Token;
 ghost use mathlib.Core.Path.{_≡_};
 ghost use mathlib.Core.Bool.{_&&_};
 ghost use Prim.Native.Nat.{_*_, _≤_, _<_};
 ghost use Rattle.vpg.specs.believed.Grammar.{left};
-ghost use Rattle.tables.specs.Table.{sixOf, ruleFrom, sixIn, ruleIn, rulesIn, putSix, sameRule, earlier};
+ghost use Rattle.vpg.specs.Forms.{formOf, nameOf};
+ghost use Rattle.tables.specs.Table.{tokenBy, sixOf, ruleFrom, sixIn, ruleIn, rulesIn, putSix, sameRule, earlier};
 ghost use Rattle.tables.specs.Keys.{keyIn, hasKey, withKey, Keyed};
 
 // The rules of a grammar, at most 128, six numbers to each; behind them, from number 768 on, room for the index that crates/rule_index keeps.
-pub type Table = [u16; 1154];
+pub type Table = [u16; 1412];
 
-// What a grammar file says before its rules: how many nonterminals there are, the start, and how many rules.
+// What a grammar file says before its rules: how many nonterminals there are, how many of them, the first ones, are well matched, the start, and
+// how many rules.
 pub struct Head {
     pub nonterminals: u16,
+    pub well: u16,
     pub start: u16,
     pub rules: usize,
 }
@@ -23,14 +27,48 @@ pub struct Head {
 // A rule as six numbers: the form, the fields in file order, and zeros.
 pub struct Six(pub u16, pub u16, pub u16, pub u16, pub u16, pub u16);
 
+// The form of a rule that takes the token alone: 1 for a mark; 3 for an open and 4 for a close, which no file has yet.
+fn form_of(token: Token) -> u16
+    ensures { λ r. ⌜ r ≡ formOf token ⌝ }
+{
+    match token {
+        Token::Mark(_) => 1,
+        Token::Open(_) => 3,
+        Token::Close(_) => 4,
+    }
+}
+
+pub fn name_of(token: Token) -> u16
+    ensures { λ r. ⌜ r ≡ nameOf token ⌝ }
+{
+    match token {
+        Token::Mark(c) => c.0,
+        Token::Open(a) => a.0,
+        Token::Close(b) => b.0,
+    }
+}
+
 pub fn six_of(rule: Rule) -> Six
     ensures { λ r. ⌜ r ≡ sixOf rule ⌝ }
 {
     match rule {
         Rule::Empty(l) => Six(0, l, 0, 0, 0, 0),
-        Rule::Mark(l, c, l1) => Six(1, l, c.0, l1, 0, 0),
+        Rule::Next(l, i, l1) => Six(form_of(i), l, name_of(i), l1, 0, 0),
         Rule::Step(l, a, l1, b, l2) => Six(2, l, a.0, l1, b.0, l2),
     }
+}
+
+// The token that a rule of the form takes alone.
+fn token_by(form: u16, name: u16) -> Token
+    ensures { λ r. ⌜ r ≡ tokenBy form name ⌝ }
+{
+    if form == 3 {
+        return Token::Open(OpenName(name));
+    }
+    if form == 4 {
+        return Token::Close(CloseName(name));
+    }
+    Token::Mark(MarkName(name))
 }
 
 fn rule_from(v: Six) -> Rule
@@ -39,10 +77,10 @@ fn rule_from(v: Six) -> Rule
     if v.0 == 0 {
         return Rule::Empty(v.1);
     }
-    if v.0 == 1 {
-        return Rule::Mark(v.1, MarkName(v.2), v.3);
+    if v.0 == 2 {
+        return Rule::Step(v.1, OpenName(v.2), v.3, CloseName(v.4), v.5);
     }
-    Rule::Step(v.1, OpenName(v.2), v.3, CloseName(v.4), v.5)
+    Rule::Next(v.1, token_by(v.0, v.2), v.3)
 }
 
 // The six numbers of rule k, for loops over the rules: most rules are passed over by a number or two.

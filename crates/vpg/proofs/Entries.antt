@@ -6,7 +6,7 @@ use mathlib.Core.Logic.{_↔_}
 use mathlib.Core.List.{List, List·Memᴰ}
 use lib.ListN.{length, length-append}
 use Rattle.vpg.specs.declared.Token.{Token}
-use Rattle.vpg.specs.believed.Grammar.{Rules, Grammar, Tree, code, Derives, by-empty, by-mark, by-step, Reading}
+use Rattle.vpg.specs.believed.Grammar.{Rules, Grammar, Tree, code, Derives, by-empty, by-next, by-step, Reading}
 use Rattle.vpg.specs.believed.Order.{Ascending}
 use Rattle.vpg.specs.Runs.{entries}
 use Rattle.vpg.proofs.Ascends.{entries-ascending}
@@ -17,7 +17,7 @@ use Rattle.vpg.proofs.Sound.{entries-readings}
 -- "a history of n tokens gives n + 1"
 pub code-length : {g : Rules} {L : ℕ} {w : List Token} {t : Tree} → Derives g L w t → length (code t) ≡ suc (length w)
 code-length (by-empty p) = refl
-code-length (by-mark p d) = ap suc (code-length d)
+code-length (by-next p d) = ap suc (code-length d)
 code-length (by-step p d d′) = simp (length-append, code-length d, code-length d′) (omega arith)
 
 pub reading-length : (g : Grammar) (w : List Token) (e : List ℕ) → Reading g w e → length e ≡ suc (length w)

@@ -1,6 +1,7 @@
 pub mod Ascends
 pub mod Entries
 pub mod Inject
+pub mod Matched
 pub mod Order
 pub mod Positions
 pub mod Sound

@@ -7,7 +7,7 @@ use mathlib.Core.Option.{some}
 use lib.ListN.{getElem?}
 use Rattle.vpg.specs.declared.Rule.{Rule}
 use Rattle.vpg.specs.declared.Token.{Token}
-use Rattle.vpg.specs.believed.Grammar.{Rules, Grammar, Tree, leaf, mark, step, code, Derives, by-empty, by-mark, by-step, Reading}
+use Rattle.vpg.specs.believed.Grammar.{Rules, Grammar, Tree, leaf, next, step, code, Derives, by-empty, by-next, by-step, Reading}
 use Rattle.vpg.specs.Runs.{Stack, runs, entries}
 use Rattle.vpg.proofs.Take.{Move, taken, take, ended, end}
 use Rattle.vpg.proofs.Take
@@ -33,8 +33,8 @@ onto : (g : Rules) {r : ℕ} {R : Rule} {L : ℕ} {s : Stack} {t : Token} {L′ 
     getElem? g r ≡ some R → Move R L s t L′ s′ → First g L′ (Rest g s′) w e → First g L (Rest g s) (t ∷ w) (r ∷ e)
 onto g {r} {w = w} {e} p (Take.by-empty {b}) f =
     record { tree = leaf r; front = []; back = Token.Close b ∷ w; codes = e; derives = by-empty p; tokens = refl; shape = refl; left = (w, refl, f) }
-onto g {r} p (Take.by-mark {c}) f =
-    record { tree = mark r (f .tree); front = Token.Mark c ∷ f .front; back = f .back; codes = f .codes; derives = by-mark p (f .derives); tokens = rw (f .tokens); shape = rw (f .shape); left = f .left }
+onto g {r} p (Take.by-next {t = i}) f =
+    record { tree = next r (f .tree); front = i ∷ f .front; back = f .back; codes = f .codes; derives = by-next p (f .derives); tokens = rw (f .tokens); shape = rw (f .shape); left = f .left }
 onto g {r} p (Take.by-step {a} {b}) f =
     let h = f .left .2 in
     record {
@@ -70,7 +70,7 @@ closes g (d ∷ s) w e p o = rw (o .1) (take g (o .0) p Take.by-empty (o .2))
 complete : (g : Rules) {L : ℕ} {v : List Token} {t : Tree} → Derives g L v t → (s : Stack) (w : List Token) (e : List ℕ) → Onward g s w e → List·Memᴰ (code t ++ e) (runs g (L, s) (v ++ w))
 unfolding Onward
 complete g (by-empty p) s w e o = closes g s w e p o
-complete g (by-mark {w = v} p d) s w e o = take g (v ++ w) p Take.by-mark (complete g d s w e o)
+complete g (by-next {w = v} p d) s w e o = take g (v ++ w) p Take.by-next (complete g d s w e o)
 complete g (by-step {b} {L₂} {v} {w = v′} {t} {u} p d d′) s w e o =
     simp append-assoc
     (take g (v ++ (Token.Close b ∷ (v′ ++ w))) p Take.by-step (complete g d ((b, L₂) ∷ s) (Token.Close b ∷ (v′ ++ w)) (code u ++ e) (v′ ++ w, refl, complete g d′ s w e o)))

@@ -7,7 +7,7 @@ use mathlib.Core.Option.{some}
 use lib.ListN.{getElem?}
 use Rattle.vpg.specs.declared.Rule.{Rule}
 use Rattle.vpg.specs.declared.Token.{Token}
-use Rattle.vpg.specs.believed.Grammar.{Rules, Grammar, Tree, code, Derives, by-empty, by-mark, by-step, Reading, left}
+use Rattle.vpg.specs.believed.Grammar.{Rules, Grammar, Tree, code, Derives, by-empty, by-next, by-step, Reading, left}
 use Rattle.vpg.specs.Steps.{Symbol, terminal, nonterminal, right, OneStep, replace, Steps, no-step, and-then}
 
 -- a tree for each nonterminal of a string
@@ -28,7 +28,7 @@ module _ {g : Rules} where
 
   tree-steps : {L : ℕ} {v : List Token} {t : Tree} → Derives g L v t → (s : List Symbol) (w : List Token) → Steps g s (map terminal w) → Steps g (nonterminal L ∷ s) (map terminal (v ++ w))
   tree-steps (by-empty {r} p) s w h = and-then (replace r [] s p) h
-  tree-steps (by-mark {r} {c} p d) s w h = and-then (replace r [] s p) (steps-cons (terminal (Token.Mark c)) (tree-steps d s w h))
+  tree-steps (by-next {r} {i} p d) s w h = and-then (replace r [] s p) (steps-cons (terminal i) (tree-steps d s w h))
   tree-steps (by-step {r} {a} {b} {L₂} {w = v′} p d d′) s w h =
       simp append-assoc
       (and-then (replace r [] s p) (steps-cons (terminal (Token.Open a)) (tree-steps d (terminal (Token.Close b) ∷ nonterminal L₂ ∷ s) (Token.Close b ∷ (v′ ++ w)) (steps-cons (terminal (Token.Close b)) (tree-steps d′ s w h)))))
@@ -42,7 +42,7 @@ module _ {g : Rules} where
   -- the right side's trees make the left side's tree
   forest-rule : (r : ℕ) (R : Rule) {s : List Symbol} {w : List Token} → getElem? g r ≡ some R → Forest g (right R ++ s) w → Forest g (nonterminal (left R) ∷ s) w
   forest-rule r (Rule.Empty L) p f = tree (by-empty p) f
-  forest-rule r (Rule.Mark L c L₁) p (token (tree d f)) = tree (by-mark p d) f
+  forest-rule r (Rule.Next L i L₁) p (token (tree d f)) = tree (by-next p d) f
   forest-rule r (Rule.Step L a L₁ b L₂) p (token (tree d (token (tree d′ f)))) = rw append-assoc at (tree (by-step p d d′) f)
 
   forest-context : (r : ℕ) {R : Rule} (x y : List Symbol) {w : List Token} → getElem? g r ≡ some R → Forest g (x ++ (right R ++ y)) w → Forest g (x ++ (nonterminal (left R) ∷ y)) w

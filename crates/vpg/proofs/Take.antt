@@ -9,15 +9,14 @@ use mathlib.Core.Option.{Option, none, some, Option·none-ne-some, Option·some-
 use borrow.Author.Tests.{eqb-true, eq-eqb}
 use lib.Dec.{eqb}
 use lib.ListN.{getElem?}
-use Rattle.vpg.specs.declared.MarkName.{MarkName}
 use Rattle.vpg.specs.declared.OpenName.{OpenName}
 use Rattle.vpg.specs.declared.CloseName.{CloseName}
 use Rattle.vpg.specs.declared.Rule.{Rule}
 use Rattle.vpg.specs.declared.Token.{Token}
 use Rattle.vpg.specs.believed.Grammar.{Rules}
 use Rattle.vpg.specs.Runs.{Stack, State, only, move, ends, collect, once, follow, runs}
-use Rattle.vpg.specs.Tests.{isMark, isOpen, isClose}
-use Rattle.vpg.proofs.Tests.{mark-is, open-is, close-is, empty-is}
+use Rattle.vpg.specs.Tests.{isOpen, isClose, sameToken}
+use Rattle.vpg.proofs.Tests.{open-is, close-is, same-is, same-refl, empty-is}
 
 -- ── collect ──
 
@@ -53,7 +52,7 @@ unhit k n (R′ ∷ g) (suc r) R e p m = Memᴰ·append-right (map (λ e. n ∷ 
 -- `move`, as a relation
 pub data Move : Rule → ℕ → Stack → Token → ℕ → Stack → Type 0 where
   by-empty : {L M : ℕ} {b : CloseName} {s : Stack} → Move (Rule.Empty L) L ((b, M) ∷ s) (Token.Close b) M s
-  by-mark : {L L₁ : ℕ} {c : MarkName} {s : Stack} → Move (Rule.Mark L c L₁) L s (Token.Mark c) L₁ s
+  by-next : {L L₁ : ℕ} {t : Token} {s : Stack} → Move (Rule.Next L t L₁) L s t L₁ s
   by-step : {L L₁ L₂ : ℕ} {a : OpenName} {b : CloseName} {s : Stack} → Move (Rule.Step L a L₁ b L₂) L s (Token.Open a) L₁ ((b, L₂) ∷ s)
 
 -- the tests that a move passed
@@ -68,7 +67,7 @@ only-some b M L x y p = go b (eqb M L) refl p
 pub moved : (R : Rule) (L : ℕ) (s : Stack) (t : Token) (y : State) → move R L s t ≡ some y → Move R L s t (y .0) (y .1)
 moved (Rule.Empty M) L [] t y p = absurd (Option·none-ne-some y p)
 moved (Rule.Empty M) L (d ∷ s) t y p = let h = only-some (isClose (d .0) t) M L _ y p in rw (← (h .2), ← (h .1), ← close-is (d .0) t (h .0)) by-empty
-moved (Rule.Mark M c M₁) L s t y p = let h = only-some (isMark c t) M L _ y p in rw (← (h .2), ← (h .1), ← mark-is c t (h .0)) by-mark
+moved (Rule.Next M i M₁) L s t y p = let h = only-some (sameToken i t) M L _ y p in rw (← (h .2), ← (h .1), ← same-is i t (h .0)) by-next
 moved (Rule.Step M a M₁ b M₂) L s t y p = let h = only-some (isOpen a t) M L _ y p in rw (← (h .2), ← (h .1), ← open-is a t (h .0)) by-step
 
 only-true : (a b : Bool) (x : State) → a ≡ true → b ≡ true → only (a && b) x ≡ some x
@@ -76,7 +75,7 @@ only-true a b x p q = rw (p, q)
 
 pub moves : {R : Rule} {L : ℕ} {s : Stack} {t : Token} {L′ : ℕ} {s′ : Stack} → Move R L s t L′ s′ → move R L s t ≡ some (L′, s′)
 moves (by-empty {L} {b}) = only-true _ _ _ (eq-eqb (b .0) (b .0) refl) (eq-eqb L L refl)
-moves (by-mark {L} {c}) = only-true _ _ _ (eq-eqb (c .0) (c .0) refl) (eq-eqb L L refl)
+moves (by-next {L} {t}) = only-true _ _ _ (same-refl t) (eq-eqb L L refl)
 moves (by-step {L} {a}) = only-true _ _ _ (eq-eqb (a .0) (a .0) refl) (eq-eqb L L refl)
 
 -- ── runs ──

@@ -1,5 +1,6 @@
 pub mod believed
 pub mod Extremes
+pub mod Forms
 pub mod Parts
 pub mod Positions
 pub mod Runs

@@ -9,13 +9,13 @@ use Rattle.vpg.specs.declared.Rule.{Rule}
 -- the nonterminal behind the rule's first token; an empty rule has none
 abbrev pub onward : Rule → Option ℕ
 onward (Rule.Empty L) = none
-onward (Rule.Mark L c L₁) = some L₁
+onward (Rule.Next L i L₁) = some L₁
 onward (Rule.Step L a L₁ b L₂) = some L₁
 
 -- the nonterminal behind the close of a step
 abbrev pub beyond : Rule → Option ℕ
 beyond (Rule.Empty L) = none
-beyond (Rule.Mark L c L₁) = none
+beyond (Rule.Next L i L₁) = none
 beyond (Rule.Step L a L₁ b L₂) = some L₂
 
 -- is it this nonterminal

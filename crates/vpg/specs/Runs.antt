@@ -1,5 +1,6 @@
 -- All readings of a token list in ascending order, by a search from left to right.
 -- Law: entries-readings (vpg/proofs/Sound.antt)
+-- Law: entries-matched (vpg/proofs/Matched.antt)
 -- Law: entries-ascending (vpg/proofs/Ascends.antt)
 -- Law: entries-only (vpg/proofs/Entries.antt)
 use Prim.Native.Nat.{ℕ, suc}
@@ -11,7 +12,7 @@ use Rattle.vpg.specs.declared.CloseName.{CloseName}
 use Rattle.vpg.specs.declared.Rule.{Rule}
 use Rattle.vpg.specs.declared.Token.{Token}
 use Rattle.vpg.specs.believed.Grammar.{Rules, Grammar}
-use Rattle.vpg.specs.Tests.{isMark, isOpen, isClose, ifEmpty}
+use Rattle.vpg.specs.Tests.{isOpen, isClose, sameToken, ifEmpty}
 
 -- what is due once the current nonterminal is done: for each open step, innermost first, its close and the nonterminal after it
 abbrev pub Stack : Type 0
@@ -28,7 +29,7 @@ only false s = none
 abbrev pub move : Rule → ℕ → Stack → Token → Option State
 move (Rule.Empty M) L [] t = none
 move (Rule.Empty M) L (d ∷ s) t = only (isClose (d .0) t && eqb M L) (d .1, s)
-move (Rule.Mark M c M₁) L s t = only (isMark c t && eqb M L) (M₁, s)
+move (Rule.Next M i M₁) L s t = only (sameToken i t && eqb M L) (M₁, s)
 move (Rule.Step M a M₁ b M₂) L s t = only (isOpen a t && eqb M L) (M₁, (b, M₂) ∷ s)
 
 -- may the tokens end by rule R at nonterminal L with s due

@@ -13,10 +13,10 @@ pub data Symbol : Type 0 where
   terminal : Token → Symbol
   nonterminal : ℕ → Symbol
 
--- the right side of a rule of Definition 2.1
+-- the right side of a rule of Definition 2.2
 abbrev pub right : Rule → List Symbol
 right (Rule.Empty L) = []
-right (Rule.Mark L c L₁) = terminal (Token.Mark c) ∷ nonterminal L₁ ∷ []
+right (Rule.Next L i L₁) = terminal i ∷ nonterminal L₁ ∷ []
 right (Rule.Step L a L₁ b L₂) = terminal (Token.Open a) ∷ nonterminal L₁ ∷ terminal (Token.Close b) ∷ nonterminal L₂ ∷ []
 
 -- "a single derivation step": somewhere in the string the left side of a rule is replaced by its right side

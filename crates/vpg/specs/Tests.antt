@@ -1,6 +1,6 @@
 -- Tests of tokens and rules, by which the definitions that follow tell them apart: is it this mark, this open, this close; is the rule of this
 -- form, and do its fields pass.
--- Law: mark-is, open-is, close-is, if-mark, if-step (vpg/proofs/Tests.antt)
+-- Law: mark-is, open-is, close-is, same-is, if-next, if-step (vpg/proofs/Tests.antt)
 use Prim.Native.Nat.{ℕ}
 use mathlib.Core.Bool.{Bool, true, false}
 use lib.Dec.{eqb}
@@ -27,6 +27,12 @@ isClose b (Token.Mark c) = false
 isClose b (Token.Open a) = false
 isClose b (Token.Close b′) = eqb (b .0) (b′ .0)
 
+-- is it this token
+abbrev pub sameToken : Token → Token → Bool
+sameToken (Token.Mark c) t = isMark c t
+sameToken (Token.Open a) t = isOpen a t
+sameToken (Token.Close b) t = isClose b t
+
 abbrev pub anyClose : Token → Bool
 anyClose (Token.Mark c) = false
 anyClose (Token.Open a) = false
@@ -36,15 +42,15 @@ anyClose (Token.Close b) = true
 
 abbrev pub ifEmpty : (ℕ → Bool) → Rule → Bool
 ifEmpty test (Rule.Empty L) = test L
-ifEmpty test (Rule.Mark L c L₁) = false
+ifEmpty test (Rule.Next L i L₁) = false
 ifEmpty test (Rule.Step L a L₁ b L₂) = false
 
-abbrev pub ifMark : (ℕ → MarkName → ℕ → Bool) → Rule → Bool
-ifMark test (Rule.Empty L) = false
-ifMark test (Rule.Mark L c L₁) = test L c L₁
-ifMark test (Rule.Step L a L₁ b L₂) = false
+abbrev pub ifNext : (ℕ → Token → ℕ → Bool) → Rule → Bool
+ifNext test (Rule.Empty L) = false
+ifNext test (Rule.Next L i L₁) = test L i L₁
+ifNext test (Rule.Step L a L₁ b L₂) = false
 
 abbrev pub ifStep : (ℕ → OpenName → ℕ → CloseName → ℕ → Bool) → Rule → Bool
 ifStep test (Rule.Empty L) = false
-ifStep test (Rule.Mark L c L₁) = false
+ifStep test (Rule.Next L i L₁) = false
 ifStep test (Rule.Step L a L₁ b L₂) = test L a L₁ b L₂

@@ -9,18 +9,19 @@ pub struct OpenName(pub u16);
 
 pub struct CloseName(pub u16);
 
-// A rule for the nonterminal that comes first: document 01's forms 0, 1 and 2.
-pub enum Rule {
-    Empty(u16),
-    Mark(u16, MarkName, u16),
-    Step(u16, OpenName, u16, CloseName, u16),
-}
-
 // A terminal: document 01's mark, open and close are the plain, call and return symbols of the field.
 pub enum Token {
     Mark(MarkName),
     Open(OpenName),
     Close(CloseName),
+}
+
+// A rule for the nonterminal that comes first: the forms (1), (2) and (3) of the paper's Definition 2.2. Form (2) takes one token alone: a mark
+// is document 01's form 1; an open or a close, which no file can hold yet, is a pending one.
+pub enum Rule {
+    Empty(u16),
+    Next(u16, Token, u16),
+    Step(u16, OpenName, u16, CloseName, u16),
 }
 
 // Names are compared within their own alphabet only.

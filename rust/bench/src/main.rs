@@ -6,9 +6,9 @@
 //! Prints a table, and writes bench.csv and bench.svg into DIR: target/bench of the repository unless given, docs/ with
 //! `--docs`. A time is processor time, the best of several short rounds; the sides take turns. BENCH is this program
 //! built with another archive (GAFFMEDLAR_LIB_DIR), or, where that archive lacks a function, as it was when the archive was made:
-//! its library takes turns with the others, but for files with names above 63, which an older one refuses, and for counts of readings
-//! and reading k, which an older one lacks. It is asked for services by their places, so it answers for what then stood in the place of
-//! one; a place that it doesn't have it isn't asked for. Some places are there only for what an older one calls at them.
+//! its library takes turns with the others. It is asked for services by their places, so it answers for what then stood in the place of
+//! one; a place that it doesn't have it isn't asked for. One from before request 2.7 doesn't tell its places: it isn't asked for files with
+//! names above 63, nor for counts of readings and reading k. Some places are there only for what an older one calls at them.
 
 mod clock;
 mod counted;
@@ -38,7 +38,7 @@ Prints a table of times, and writes bench.csv and bench.svg into target/bench. I
   --docs           writes into docs/, whose files are under version control
   --out DIR        writes into DIR
   --before BENCH   times another library too: that of BENCH, this program built with another archive or an older
-                   one, on all files but those with wide names, for all services but counts of readings and reading k
+                   one; from before request 2.7 neither on wide names nor for counts of readings and reading k
   --places         tells the places of the services that this bench has: what --before asks first
   --answer         makes the rounds that another bench asks for on standard input: what --before calls";
 

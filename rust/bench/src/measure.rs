@@ -183,9 +183,8 @@ pub fn run(rounds: Rounds, other: &mut Option<Other>) -> Result<Vec<Row>, String
     let all = workloads();
     for (place, workload) in all.iter().enumerate() {
         for (number, &(service, name)) in SERVICES.iter().enumerate() {
-            let asked = workload.for_older()
-                && service.for_older()
-                && other.as_ref().is_some_and(|other| other.has(number));
+            let old = workload.for_older() && service.for_older();
+            let asked = other.as_ref().is_some_and(|other| other.has(number, old));
             if !service.timed_on(workload) || again(number) && !asked {
                 continue;
             }

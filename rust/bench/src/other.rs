@@ -41,11 +41,12 @@ impl Other {
         })
     }
 
-    /// Whether it can be asked for the service of this place.
-    pub fn has(&self, place: usize) -> bool {
+    /// Whether it can be asked for the service of this place. One that tells its places counts readings and reads wide names; any other
+    /// is asked for what every older library has.
+    pub fn has(&self, place: usize, old: bool) -> bool {
         match &self.places {
             Some(places) => places.contains(&place),
-            None => place < UNTOLD,
+            None => old && place < UNTOLD,
         }
     }
 

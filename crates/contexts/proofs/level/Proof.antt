@@ -1,78 +1,89 @@
 -- `contexts::level` meets its contract.
 use borrow.Author.Needs.{needs}
-use Prim.Native.Nat.{_-_, _<_, _≤_}
-use mathlib.Core.Path.{_≡_, sym, _∙_, ap}
+use Prim.Native.Nat.{ℕ, _-_, _<_, _≤_}
+use mathlib.Core.Bool.{_||_}
+use mathlib.Core.Path.{_≡_, refl, sym, _∙_}
 use native.Mathlib.Omega.{arith}
+use Rattle.bits.specs.Bit.{bit}
 use Rattle.tables.specs.Table.{ruleIn}
 use Rattle.rule_index.specs.Classes.{classAt, classOf}
-use Rattle.rule_index.proofs.Classes.{class-small}
-use Rattle.rule_index.proofs.Chains.{passed}
+use Rattle.rule_index.proofs.Chains.{passed-below}
 use Rattle.rule_index.proofs.Walk.{starts, goes-on}
-use Rattle.contexts.specs.Context.{tokenHere, levelIn}
-use Rattle.contexts.proofs.Contexts.{level-apart}
-use Rattle.contexts.proofs.Ends.{level-ends}
+use Rattle.contexts.specs.Context.{tokenHere, baseOf, levelIn}
+use Rattle.contexts.proofs.Ends.{Sofar, sofar-apart, sofar-whole, sofar-start, sofar-with}
+use Rattle.contexts.proofs.Forms.{class-kind}
 use Rattle.contexts.proofs.level.Statement.{statement}
 use Rattle.contexts.proofs.level.Tie as tie
 
 abbrev Inv-loop : tie.InvT-loop
-Inv-loop table context count class set₀ r₀ set r = (r ≤ count) × (set ≡ levelIn table context r) × (r < count → classOf (ruleIn table r) ≡ classAt (tokenHere context))
+Inv-loop table head context count set₀ r₀ set r =
+    (r ≤ count)
+    × ((L : ℕ) → bit set L ≡ (bit (baseOf table context) L || bit (levelIn (head .well) table context r) L))
+    × (r < count → classOf (ruleIn table r) ≡ classAt (tokenHere context))
 
 abbrev μ-loop : tie.MeasureT-loop
-μ-loop table context count class set₀ r₀ set r = count - r
+μ-loop table head context count set₀ r₀ set r = count - r
 
-ends-requires : tie.Need-ends-requires Inv-loop μ-loop
-ends-requires c κs = search needs
+base-of-requires : tie.Need-base-of-requires Inv-loop μ-loop
+base-of-requires c κs = search needs
 
-returns : tie.Need-returns Inv-loop μ-loop
-returns c =
-    let s = c .before .before .before in
-    c .ends .ensures ∙ sym (level-ends (s .args .table .now) (s .args .head) (s .args .context) (s .pre) (c .before .if1 .taken))
-
-token-of-requires : tie.Need-token-of-requires Inv-loop μ-loop
-token-of-requires c κs = search needs
-
-class-at-requires : tie.Need-class-at-requires Inv-loop μ-loop
-class-at-requires c κs = search needs
-
-first-of-requires : tie.Need-first-of-requires Inv-loop μ-loop
-first-of-requires c κs =
-    omega (arith, class-small (c .before .token-of .result), c .class-at .ensures)
+first-here-requires : tie.Need-first-here-requires Inv-loop μ-loop
+first-here-requires c κs = search needs
 
 loop-holds : tie.Need-loop-holds Inv-loop μ-loop
-unfolding levelIn
 loop-holds c =
-    let s = c .before .before .before .before .before in
+    let s = c .before .before in
     let t = s .args .table .now in
+    let g = s .args .head in
     let p = s .args .context in
-    let f = starts (s .pre) (tokenHere p) (c .before .class-at .result) (c .first-of .result) (c .before .class-at .ensures ∙ ap classAt (c .before .before .token-of .ensures)) (c .first-of .ensures) in
-    (f .most, sym (passed (levelIn t p) t (classAt (tokenHere p)) (level-apart t p (c .before .before .before .if1 .left)) f), f .of-class)
+    let f = starts (s .pre .0) (tokenHere p) _ (c .first-here .result) refl (c .first-here .ensures) in (
+      f .most,
+      λ L.
+          sofar-start t g p (s .pre .0) (s .pre .1) (c .before .base-of .result) L (c .before .base-of .ensures)
+          ∙ sym (passed-below (Sofar t g p (s .pre .0) (s .pre .1) L) t (g .rules) (classAt (tokenHere p)) (sofar-apart t g p (s .pre .0) (s .pre .1) L) f),
+      f .of-class,
+    )
 
 with-left-requires : tie.Need-with-left-requires Inv-loop μ-loop
 with-left-requires c κs =
-    let s = c .before .before .before .before .before .before .before in
-    (omega (arith, s .pre .ready .few), s .pre .ready .small _ (c .loop-test .taken))
+    let l = c .before in
+    let s = l .before .before .before in
+    let h = c .loop-test .taken in
+    (s .pre .0, h, class-kind (ruleIn (s .args .table .now) (l .loop .r)) (s .args .context .kind) (s .args .context .name) (s .pre .1) (l .loop .inv .2 h))
 
 next-of-requires : tie.Need-next-of-requires Inv-loop μ-loop
-next-of-requires c κs = omega (arith, c .before .before .before .before .before .before .before .before .pre .ready .few)
+next-of-requires c κs = omega (arith, c .before .before .before .before .before .pre .0 .ready .few)
 
 loop-less : tie.Need-loop-less Inv-loop μ-loop
 loop-less c =
     let l = c .before .before .before in
-    let s = l .before .before .before .before .before .before in
-    omega (arith, goes-on (s .pre) (l .loop .r) (classAt (tokenHere (s .args .context))) (c .next-of .result) (c .before .before .loop-test .taken) (l .loop .inv .2 (c .before .before .loop-test .taken)) (c .next-of .ensures) .from)
+    let s = l .before .before .before in
+    let h = c .before .before .loop-test .taken in
+    omega (arith, goes-on (s .pre .0) (l .loop .r) (classAt (tokenHere (s .args .context))) (c .next-of .result) h (l .loop .inv .2 h) (c .next-of .ensures) .from)
 
 loop-again : tie.Need-loop-again Inv-loop μ-loop
-unfolding levelIn
 loop-again c =
     let l = c .before .before .before in
-    let s = l .before .before .before .before .before .before in
+    let s = l .before .before .before in
     let t = s .args .table .now in
+    let g = s .args .head in
     let p = s .args .context in
-    let f = goes-on (s .pre) (l .loop .r) (classAt (tokenHere p)) (c .next-of .result) (c .before .before .loop-test .taken) (l .loop .inv .2 (c .before .before .loop-test .taken)) (c .next-of .ensures) in
-    (f .most, rw (c .before .with-left .ensures, l .loop .inv .1) (sym (passed (levelIn t p) t (classAt (tokenHere p)) (level-apart t p (l .before .before .before .before .if1 .left)) f)), f .of-class)
+    let h = c .before .before .loop-test .taken in
+    let f = goes-on (s .pre .0) (l .loop .r) (classAt (tokenHere p)) (c .next-of .result) h (l .loop .inv .2 h) (c .next-of .ensures) in (
+      f .most,
+      λ L.
+          rw (c .before .with-left .ensures)
+          (sofar-with t g p (s .pre .0) (s .pre .1) (l .loop .set) (l .loop .r) L (l .loop .inv .1 L)
+          ∙ sym (passed-below (Sofar t g p (s .pre .0) (s .pre .1) L) t (g .rules) (classAt (tokenHere p)) (sofar-apart t g p (s .pre .0) (s .pre .1) L) f)),
+      f .of-class,
+    )
 
-returns-2 : tie.Need-returns-2 Inv-loop μ-loop
-returns-2 c = let e : c .before .loop .r ≡ c .before .before .before .before .before .before .before .args .head .rules = omega arith in rw (c .before .loop .inv .1, e)
+returns : tie.Need-returns Inv-loop μ-loop
+returns c =
+    let l = c .before in
+    let s = l .before .before .before in
+    let e : l .loop .r ≡ s .args .head .rules = omega arith in
+    sofar-whole (s .args .table .now) (s .args .head) (s .args .context) (s .pre .0) (s .pre .1) (l .loop .set) (λ L. rw e at (l .loop .inv .1 L))
 
 pub level-spec : {M : Type 1} → statement M
 level-spec =
@@ -80,14 +91,11 @@ level-spec =
     (tie.spec
     Inv-loop
     μ-loop
-    ends-requires
-    returns
-    token-of-requires
-    class-at-requires
-    first-of-requires
+    base-of-requires
+    first-here-requires
     loop-holds
     with-left-requires
     next-of-requires
     loop-less
     loop-again
-    returns-2)
+    returns)

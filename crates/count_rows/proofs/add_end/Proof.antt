@@ -19,20 +19,20 @@ add-at-requires c κs = search needs
 
 returns : tie.Need-returns
 returns c =
-    let s = c .before .before .before .before .before .before .before .before in
-    let e = c .before .before .before .before .before .before .before .end-of .ensures in
-    inl (both (lt-ltb _ _ (rw e at (c .before .before .before .before .before .if1 .taken))) (rw e at (sym (c .before .before .before .before .allowed .ensures) ∙ c .before .before .before .if2 .taken)), c .add-at .ensures)
+    let i = c .before .before in
+    let e = i .before .before .before .before .end-of .ensures in
+    inl (both (lt-ltb _ _ (rw e at (i .before .before .if1 .taken))) (rw e at (sym (i .before .allowed .ensures) ∙ i .if2 .taken)), c .add-at .ensures)
 
 returns-2 : tie.Need-returns-2
 returns-2 c =
     let e = c .before .before .before .before .end-of .ensures in
-    inr (second-fails (lt-ltb _ _ (rw e at (c .before .before .if1 .taken))) (rw e at (sym (c .before .allowed .ensures) ∙ c .if2 .left)), refl, refl)
+    inr (second-fails (lt-ltb _ _ (rw e at (c .before .before .if1 .taken))) (rw e at (sym (c .before .allowed .ensures) ∙ c .if2 .left)), refl)
 
 returns-3 : tie.Need-returns-3
 returns-3 c =
     let e = c .before .before .end-of .ensures in
     let q = le-ltb _ _ (rw e at (c .if1 .left)) in
-    inr (rw q, refl, refl)
+    inr (rw q, refl)
 
 pub add-end-spec : {M : Type 1} → statement M
 add-end-spec =

@@ -10,7 +10,7 @@ rows-of-requires : tie.Need-rows-of-requires
 rows-of-requires c κs = search needs
 
 returns : tie.Need-returns
-returns c = rw (c .before .before .before .anywhere .ensures .0, c .before .before .before .anywhere .ensures .1) at (c .rows-of .ensures)
+returns c = let a = c .before .before .anywhere .ensures in rw (a .0, a .1) at (c .rows-of .ensures)
 
 pub all-rows-spec : {M : Type 1} → statement M
 all-rows-spec = tie.close (tie.spec anywhere-requires rows-of-requires returns)

@@ -2,31 +2,28 @@
 use Prim.Native.Nat.{_-_, _≤_}
 use native.Mathlib.Omega.{arith}
 use native.Mathlib.Numerals.{add-one}
-use borrow.Author.Needs.{needs}
 use borrow.Author.Tests.{le-ltb}
 use Rattle.count_theory.specs.Allowed.{aloneAt}
 use Rattle.count_rows.specs.Rows.{InRow}
 use Rattle.count_rows.proofs.Row.{row-none}
 use Rattle.count_rows.proofs.Ends.{endsBelow, ends-next, ends-filled}
+use borrow.Author.Needs.{needs}
 use Rattle.count_rows.proofs.ends_row.Statement.{statement}
 use Rattle.count_rows.proofs.ends_row.Tie as tie
 
 abbrev Inv-loop : tie.InvT-loop
-Inv-loop table head alone rows₀ overs₀ p l₀ rows overs l = (l ≤ 32) × InRow rows₀ overs₀ p (endsBelow table (head .rules) (aloneAt (alone .position) (alone .rule) p) l) rows overs
+Inv-loop table head n alone rows₀ p l₀ rows l = (l ≤ n) × InRow rows₀ p (endsBelow table (head .rules) (aloneAt (alone .position) (alone .rule) p) l) rows
 
 abbrev μ-loop : tie.MeasureT-loop
-μ-loop table head alone rows₀ overs₀ p l₀ rows overs l = 32 - l
+μ-loop table head n alone rows₀ p l₀ rows l = n - l
 
 loop-holds : tie.Need-loop-holds Inv-loop μ-loop
-loop-holds c =
-    let s = c in
-    let a = s .args in
-    (omega arith, row-none (a .rows .now) (a .overs .now) (a .place .position) _ (s .pre .1 .sized) (s .pre .1 .none) (λ M. rw (le-ltb M 0 (omega arith))))
+loop-holds c = (omega arith, row-none (c .args .rows .now) (c .args .context .position) _ (c .pre .1 .sized) (c .pre .1 .none) (λ M. rw (le-ltb M 0 (omega arith))))
 
 add-end-requires : tie.Need-add-end-requires Inv-loop μ-loop
 add-end-requires c κs =
-    let s = c .before .before .before .before in
-    (c .before .before .loop-test .taken, (omega (arith, s .pre .1 .near, s .pre .1 .far), c .before .before .before .loop .inv .1 .sized))
+    let s = c .before .before .before in
+    (omega (arith, c .before .loop-test .taken, s .pre .0 .1), (omega (arith, s .pre .1 .near, s .pre .1 .far), c .before .before .loop .inv .1 .sized))
 
 add-l : tie.Need-add-l Inv-loop μ-loop
 add-l c = search needs
@@ -36,15 +33,17 @@ loop-less c = search needs
 
 loop-again : tie.Need-loop-again Inv-loop μ-loop
 loop-again c =
-    let s = c .before .before .before .before .before in
-    let l = c .before .before .before .before .loop in
-    (omega arith, rw (add-one (l .l)) (ends-next (s .args .table .now) (s .args .head .rules) (aloneAt (s .args .alone .position) (s .args .alone .rule) (s .args .place .position)) (l .l) (c .before .before .before .loop-test .taken) (l .inv .1) (c .add-end .ensures)))
+    let l = c .before .before .before in
+    let s = l .before in
+    let a = s .args in
+    (omega arith, rw (add-one (l .loop .l)) (ends-next (a .table .now) (a .head .rules) (aloneAt (a .alone .position) (a .alone .rule) (a .context .position)) (l .loop .l) (omega (arith, c .before .before .loop-test .taken, s .pre .0 .1)) (l .loop .inv .1) (c .add-end .ensures)))
 
 returns : tie.Need-returns Inv-loop μ-loop
 returns c =
-    let s = c .before .before in
-    let l = c .before .loop in
-    λ context h. ends-filled (s .args .table .now) (s .args .head) context (s .pre .0) h (aloneAt (s .args .alone .position) (s .args .alone .rule) (s .args .place .position)) _ _ (l .l) (omega (arith, l .inv .0)) (l .inv .1)
+    let l = c .before in
+    let s = l .before in
+    let a = s .args in
+    λ o. ends-filled (a .table .now) (a .head) (a .context) (s .pre .0 .0) o (aloneAt (a .alone .position) (a .alone .rule) (a .context .position)) _ _ (l .loop .l) (omega (arith, l .loop .inv .0)) (l .loop .inv .1)
 
 pub ends-row-spec : {M : Type 1} → statement M
 ends-row-spec =

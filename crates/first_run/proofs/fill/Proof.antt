@@ -5,7 +5,7 @@ use native.Mathlib.Omega.{arith}
 use Rattle.tables.specs.Table.{ruleIn}
 use lib.ListN.{length}
 use Rattle.levels.proofs.Setting.{close-room}
-use Rattle.first_run.proofs.Sofar.{Going, going-start, found-rule, going-next, going-end}
+use Rattle.first_run.proofs.Sofar.{Going, going-start, found-rule, going-next, end-found, ended}
 use Rattle.first_run.proofs.fill.Statement.{statement}
 use Rattle.first_run.proofs.fill.Tie as tie
 
@@ -25,7 +25,7 @@ context-at-requires : tie.Need-context-at-requires Inv-loop μ-loop
 context-at-requires c κs =
     let l = c .before in
     let s = l .before .before .before .before in
-    (s .pre .0 .tokens, (omega arith, s .pre .0 .matched))
+    ((s .pre .0 .tokens, omega arith), λ k h. s .pre .0 .matched k (omega arith))
 
 smallest-requires : tie.Need-smallest-requires Inv-loop μ-loop
 smallest-requires c κs =
@@ -36,23 +36,22 @@ six-in-requires c κs =
     let l = c .before .before .before in
     let s = l .before .before .before .before in
     let a = s .args in
-    omega (arith, s .pre .0 .indexed .ready .few, found-rule (s .pre .0) (a .from) (a .out .now) (s .pre .1 .0 .2) (l .loop .inv) (c .before .context-at .result) (c .before .context-at .ensures) (c .smallest .result) (c .smallest .ensures))
+    omega (arith, s .pre .0 .indexed .ready .few, found-rule (s .pre .0) (a .from) (a .out .now) (s .pre .1 .0 .2) (l .loop .inv) (c .before .context-at .result) (c .before .context-at .ensures (a .head .well)) (c .smallest .result) (c .smallest .ensures))
 
 cast-out : tie.Need-cast-out Inv-loop μ-loop
 cast-out c =
     let l = c .before .before .before .before in
     let s = l .before .before .before .before in
     let a = s .args in
-    omega (arith, s .pre .0 .indexed .ready .few, found-rule (s .pre .0) (a .from) (a .out .now) (s .pre .1 .0 .2) (l .loop .inv) (c .before .before .context-at .result) (c .before .before .context-at .ensures) (c .before .smallest .result) (c .before .smallest .ensures))
+    omega (arith, s .pre .0 .indexed .ready .few, found-rule (s .pre .0) (a .from) (a .out .now) (s .pre .1 .0 .2) (l .loop .inv) (c .before .before .context-at .result) (c .before .before .context-at .ensures (a .head .well)) (c .before .smallest .result) (c .before .smallest .ensures))
 
 slice-write-out : tie.Need-slice-write-out Inv-loop μ-loop
 slice-write-out c = search needs
 
-mul-j : tie.Need-mul-j Inv-loop μ-loop
-mul-j c = search needs
-
-element-copy-out-j : tie.Need-element-copy-out-j Inv-loop μ-loop
-element-copy-out-j c = search needs
+close-at-requires : tie.Need-close-at-requires Inv-loop μ-loop
+close-at-requires c κs =
+    let l = c .before .before .before .before in
+    omega (arith, l .before .before .before .before .pre .0 .tokens .few)
 
 mul-inner-of : tie.Need-mul-inner-of Inv-loop μ-loop
 mul-inner-of c =
@@ -73,7 +72,7 @@ store-later-requires : tie.Need-store-later-requires Inv-loop μ-loop
 store-later-requires c κs =
     let l = c .before .before .before .before .before .before .before in
     let s = l .before .before .before .before in
-    (l .loop .inv .room, close-room (s .pre .0) (l .loop .p) (omega arith))
+    (l .loop .inv .room, rw (c .before .before .close-at .ensures) (close-room (s .pre .0) (l .loop .p) (omega arith)))
 
 add-p : tie.Need-add-p Inv-loop μ-loop
 add-p c =
@@ -92,25 +91,18 @@ loop-again c =
     let k = l .loop .inv in
     let context = c .before .before .before .before .before .before .context-at in
     let r = c .before .before .before .before .before .smallest in
-    rw (c .store-later .ensures, c .before .before .inner-of .ensures, c .before .before .before .before .six-in .ensures)
-    (going-next (s .pre .0) (a .from) (a .out .now) (s .pre .1 .0 .2) k (context .result) (context .ensures) (r .result) (r .ensures) (c .before .before .before .before .before .before .before .loop-test .taken))
+    rw (c .store-later .ensures, c .before .before .inner-of .ensures, c .before .before .before .close-at .ensures, c .before .before .before .before .six-in .ensures)
+    (going-next (s .pre .0) (a .from) (a .out .now) (s .pre .1 .0 .2) k (context .result) (context .ensures (a .head .well)) (r .result) (r .ensures) (c .before .before .before .before .before .before .before .loop-test .taken))
 
-context-at-requires-2 : tie.Need-context-at-requires-2 Inv-loop μ-loop
-context-at-requires-2 c κs =
-    let l = c .before in
-    let s = l .before .before .before .before in
-    (s .pre .0 .tokens, (omega arith, s .pre .0 .matched))
-
-smallest-requires-2 : tie.Need-smallest-requires-2 Inv-loop μ-loop
-smallest-requires-2 c κs =
-    c .before .before .before .before .before .before .pre .0 .indexed
+empty-rule-requires : tie.Need-empty-rule-requires Inv-loop μ-loop
+empty-rule-requires c κs = c .before .before .before .before .before .pre .0 .indexed
 
 cast-out-2 : tie.Need-cast-out-2 Inv-loop μ-loop
 cast-out-2 c =
-    let l = c .before .before .before in
+    let l = c .before .before in
     let s = l .before .before .before .before in
     let a = s .args in
-    omega (arith, s .pre .0 .indexed .ready .few, found-rule (s .pre .0) (a .from) (a .out .now) (s .pre .1 .0 .2) (l .loop .inv) (c .before .context-at2 .result) (c .before .context-at2 .ensures) (c .smallest2 .result) (c .smallest2 .ensures))
+    omega (arith, s .pre .0 .indexed .ready .few, end-found (s .pre .0) (a .from) (a .out .now) (s .pre .1 .0 .2) (l .loop .inv) (omega (arith, l .loop .inv .most, c .before .loop-test .left)) (c .empty-rule .result) (c .empty-rule .ensures))
 
 slice-write-out-2 : tie.Need-slice-write-out-2 Inv-loop μ-loop
 slice-write-out-2 c = search needs
@@ -120,10 +112,10 @@ same-length c = search needs
 
 returns : tie.Need-returns Inv-loop μ-loop
 returns c =
-    let l = c .before .before .before in
+    let l = c .before .before in
     let s = l .before .before .before .before in
     let a = s .args in
-    going-end (s .pre .0) (a .from) (a .out .now) (s .pre .1 .0 .2) (l .loop .inv) (c .before .context-at2 .result) (c .before .context-at2 .ensures) (c .smallest2 .result) (c .smallest2 .ensures) (omega arith)
+    ended (s .pre .0) (a .from) (a .out .now) (s .pre .1 .0 .2) (l .loop .inv) (omega (arith, l .loop .inv .most, c .before .loop-test .left)) (c .empty-rule .result) (c .empty-rule .ensures)
 
 pub fill-spec : {M : Type 1} → statement M
 fill-spec =
@@ -137,8 +129,7 @@ fill-spec =
     six-in-requires
     cast-out
     slice-write-out
-    mul-j
-    element-copy-out-j
+    close-at-requires
     mul-inner-of
     array-read-inner-of
     inner-of-requires
@@ -146,8 +137,7 @@ fill-spec =
     add-p
     loop-less
     loop-again
-    context-at-requires-2
-    smallest-requires-2
+    empty-rule-requires
     cast-out-2
     slice-write-out-2
     same-length

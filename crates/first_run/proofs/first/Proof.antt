@@ -7,19 +7,14 @@ use borrow.Author.Needs.{needs}
 use Rattle.first_run.proofs.first.Statement.{statement}
 use Rattle.first_run.proofs.first.Tie as tie
 
-element-copy-out-has : tie.Need-element-copy-out-has
-element-copy-out-has c = search needs
-
-cast-has : tie.Need-cast-has
-cast-has c = search needs
-
-has-requires : tie.Need-has-requires
-has-requires c κs = c .before .before .before .pre .0 .indexed .ready .start-small
+derives-all-requires : tie.Need-derives-all-requires
+derives-all-requires c κs =
+    c .before .before .pre .0 .indexed .ready .start-small
 
 fill-requires : tie.Need-fill-requires
 fill-requires c κs =
-    let s = c .before .before .before .before .before .before in
-    let h = sym (c .before .before .has .ensures) ∙ c .before .if1 .taken in
+    let s = c .before .before .before .before .before in
+    let h = sym (c .before .before .derives-all .ensures _ (s .args .tokens .now) (s .pre .0 .leveled)) ∙ c .before .if1 .taken in
     (s .pre .0, ((omega arith, refl, s .pre .1), start-derives (s .pre .0) (replicate 1025 0) h))
 
 same-length : tie.Need-same-length
@@ -27,18 +22,20 @@ same-length c = search needs
 
 returns : tie.Need-returns
 returns c =
-    let s = c .before .before .before .before .before .before .before .before .before in
+    let d = c .before .before .before .before .before in
+    let s = d .before .before .before in
     let a = s .args in
-    first-is (s .pre .0) (replicate 1025 0) (a .out .now) _ (c .before .before .fill .ensures)
+    let h = sym (d .derives-all .ensures _ (s .args .tokens .now) (s .pre .0 .leveled)) ∙ c .before .before .before .before .if1 .taken in
+    first-is (s .pre .0) (replicate 1025 0) (a .out .now) _ h (c .before .before .fill .ensures)
 
 returns-2 : tie.Need-returns-2
 returns-2 c =
-    let s = c .before .before .before .before .before in
+    let s = c .before .before .before .before in
     let a = s .args in
-    let h = sym (c .before .has .ensures) ∙ c .if1 .left in
+    let h = sym (c .before .derives-all .ensures _ (s .args .tokens .now) (s .pre .0 .leveled)) ∙ c .if1 .left in
     none-is (s .pre .0) (a .out .now) h
 
 pub first-spec : {M : Type 1} → statement M
 first-spec =
     tie.close
-    (tie.spec element-copy-out-has cast-has has-requires fill-requires same-length returns returns-2)
+    (tie.spec derives-all-requires fill-requires same-length returns returns-2)

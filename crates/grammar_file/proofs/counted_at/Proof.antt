@@ -1,5 +1,5 @@
 -- `grammar_file::counted_at` meets its contract.
-use mathlib.Core.Path.{sym, _∙_}
+use mathlib.Core.Path.{refl, sym, _∙_}
 use Rattle.numbers.proofs.Fields.{count-most}
 use borrow.Author.Needs.{needs}
 use Rattle.grammar_file.proofs.counted_at.Statement.{statement}
@@ -31,7 +31,7 @@ cast-rules c = search needs
 rules-at-requires : tie.Need-rules-at-requires
 rules-at-requires c κs =
     let d = c .before .before .before .before in
-    (count-most _ _ 128 4 _ _ (sym (d .count-at .ensures) ∙ c .before .before .count .given .1), d .before .before .pre)
+    (count-most _ _ 128 4 _ _ (sym (d .count-at .ensures) ∙ c .before .before .count .given .1), refl, d .before .before .pre)
 
 returns-2 : tie.Need-returns-2
 returns-2 c =

@@ -13,6 +13,7 @@ use Rattle.tables.specs.Table.{rulesIn, tableOf, fill, putSix, sixOf}
 use Rattle.tables.specs.Keys.{keyIn, keyOf, withKey, Keyed}
 use Rattle.tables.proofs.Keys.{none-keyed, key-marked}
 use Rattle.tables.proofs.Tables.{length-put, length-rules, rules-put, table-next}
+use Rattle.grammar_file.specs.declared.GrammarAnswer.the-variants.{Accepted}
 use Rattle.grammar_file.specs.believed.GrammarFile.{rulesFrom}
 use Rattle.grammar_file.proofs.Turns.{turn-refused, turn-seen, turn-next}
 use Rattle.grammar_file.proofs.rules_at.Statement.{statement}
@@ -21,7 +22,7 @@ use Rattle.grammar_file.proofs.rules_at.Tie as tie
 abbrev Inv-loop : tie.InvT-loop
 Inv-loop s from head table₀ count keys₀ at₀ k₀ table keys at k =
     (k ≤ head .rules)
-    × (length table ≡ 1154)
+    × (length table ≡ 1412)
     × (table ≡ tableOf (rulesIn table k))
     × (rulesFrom (bytes s) (head .nonterminals) (head .start) (head .rules - k) at (rulesIn table k) ≡ rulesFrom (bytes s) (head .nonterminals) (head .start) (head .rules) from [])
     × Keyed table k keys
@@ -31,7 +32,7 @@ abbrev μ-loop : tie.MeasureT-loop
 
 loop-holds : tie.Need-loop-holds Inv-loop μ-loop
 unfolding tableOf fill rulesIn
-loop-holds c = let z = c .before .pre .1 in (omega arith, ap length z, z, rw sub-zero, none-keyed _ _ (length-replicate {A = ℕ} 64 0))
+loop-holds c = let z = c .before .pre .2 in (omega arith, ap length z, z, rw sub-zero, none-keyed _ _ (length-replicate {A = ℕ} 64 0))
 
 rule-at-requires : tie.Need-rule-at-requires Inv-loop μ-loop
 rule-at-requires c κs = search needs
@@ -139,7 +140,9 @@ returns-4 c =
     let l = c .before .before in
     let none : l .before .before .args .head .rules - l .loop .k ≡ 0 = omega arith in
     let all : l .loop .k ≡ l .before .before .args .head .rules = omega arith in
-    rw (← (l .loop .inv .3), none, le-ltb _ _ (c .if2 .left), length-rules, ← (l .loop .inv .2), all)
+    let h = l .before .before .args .head in
+    ap (λ (w : ℕ). (Accepted (record { nonterminals = h .nonterminals; well = w; start = h .start; rules = h .rules }), l .loop .table)) (l .before .before .pre .1)
+    ∙ rw (← (l .loop .inv .3), none, le-ltb _ _ (c .if2 .left), length-rules, ← (l .loop .inv .2), all)
 
 pub rules-at-spec : {M : Type 1} → statement M
 rules-at-spec =

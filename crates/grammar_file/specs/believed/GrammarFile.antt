@@ -31,7 +31,7 @@ afterRule (RuleRefused e) rest = refused e
 -- "8 after a rule's last field"; 9: "bytes follow the last rule"
 unfoldable pub rulesFrom : Source → ℕ → ℕ → ℕ → ℕ → List Rule → GrammarFile
 rulesFrom x nonterminals start zero at rules =
-    cond (x .more at) (refused 9) (accepted (record { nonterminals = nonterminals; start = start; rules = rules }))
+    cond (x .more at) (refused 9) (accepted (record { nonterminals = nonterminals; well = nonterminals; start = start; rules = rules }))
 rulesFrom x nonterminals start (suc due) at rules =
     afterRule (ruleAt (x .number) at nonterminals) λ r next.
     cond (earlier r rules) (refused 8) (rulesFrom x nonterminals start due next (rules ++ (r ∷ [])))

@@ -45,7 +45,7 @@ slice-aggregate-list-accepted c = sym (c .before .before .before .before .before
 list-accepted-requires : tie.Need-list-accepted-requires
 list-accepted-requires c κs =
     let k = c .before .before .before .before .before .before .open-files .ensures .passes _ _ (c .before .before .before .before .opened .given .1) in
-    (k .indexed, (k .tokens, k .balanced))
+    (k .indexed, k .tokens)
 
 same-length-2 : tie.Need-same-length-2
 same-length-2 c = search needs

@@ -1,7 +1,7 @@
 -- `list_accepted`: the levels are worked out once, and then the first reading is looked for.
+use borrow.Author.Needs.{needs}
 use mathlib.Core.Path.{_∙_, ap}
 use mathlib.Core.Bool.{Bool}
-use borrow.Author.Needs.{needs}
 use lib.ListN.{length}
 use Rattle.vpg.specs.Runs.{entries}
 use Rattle.sets_theory.specs.believed.Sets.{choiceCount}
@@ -19,19 +19,14 @@ use Rattle.listing_text.proofs.list_accepted.Tie as tie
 abbrev found : FirstAnswer → Bool
 found x = isWritten (firstSaid x)
 
-closes-of-requires : tie.Need-closes-of-requires
-closes-of-requires c κs = search needs
-
-masks-of-requires : tie.Need-masks-of-requires
-masks-of-requires c κs = search needs
+prepare-requires : tie.Need-prepare-requires
+prepare-requires c κs = search needs
 
 slice-aggregate-first : tie.Need-slice-aggregate-first
 slice-aggregate-first c = search needs
 
 first-requires : tie.Need-first-requires
-first-requires c κs =
-    let s = c .before .before .before .before .before .before .before .before in
-    (record { indexed = s .pre .0; tokens = s .pre .1 .0; balanced = s .pre .1 .1; matched = c .before .before .before .before .before .closes-of .ensures .1; leveled = c .before .before .before .masks-of .ensures .1 }, enough _ (s .pre .1 .0 .few))
+first-requires c κs = (c .before .before .before .prepare .ensures, enough _ (c .before .before .before .before .before .before .before .before .pre .1 .few))
 
 enum-told : tie.Need-enum-told
 enum-told c = search needs
@@ -49,7 +44,7 @@ list-readings-requires : tie.Need-list-readings-requires
 list-readings-requires c κs =
     let s = c .before .before .before .before .before .before .before .before .before .before .before .before .before .before .before .before in
     let a = s .args in
-    (record { indexed = s .pre .0; tokens = s .pre .1 .0; balanced = s .pre .1 .1; matched = c .before .before .before .before .before .before .before .before .before .before .before .before .before .closes-of .ensures .1; leveled = c .before .before .before .before .before .before .before .before .before .before .before .masks-of .ensures .1 }, first-begun (grammarIn (a .table .now) (a .head)) (a .tokens .now) zeros (enough _ (s .pre .1 .0 .few)) (firstSaid (c .before .before .before .before .before .before .before .first .result)) _ (ap found (c .before .before .before .before .enum-told2 .given .1)) (c .before .before .before .before .before .before .reading2 .given) (c .before .before .before .before .before .before .before .first .ensures))
+    (c .before .before .before .before .before .before .before .before .before .before .before .prepare .ensures, first-begun (grammarIn (a .table .now) (a .head)) (a .tokens .now) zeros (enough _ (s .pre .1 .few)) (firstSaid (c .before .before .before .before .before .before .before .first .result)) _ (ap found (c .before .before .before .before .enum-told2 .given .1)) (c .before .before .before .before .before .before .reading2 .given) (c .before .before .before .before .before .before .before .first .ensures))
 
 same-length : tie.Need-same-length
 same-length c = search needs
@@ -72,14 +67,13 @@ returns-2 c =
     let g = (grammarIn (a .table .now) (a .head)) in
     let w = tokensOf (a .tokens .now) in
     c .before .before .before .list-readings .ensures
-    ∙ ap (laid (atStart, a .text .now)) (some-listed (tokensLine (length (a .tokens .now))) (choiceCount g w) (entries g w) (first-begun (grammarIn (a .table .now) (a .head)) (a .tokens .now) zeros (enough _ (s .pre .1 .0 .few)) (firstSaid (c .before .before .before .before .before .before .before .before .before .before .before .first .result)) _ (ap found (c .before .before .before .before .before .before .before .before .enum-told2 .given .1)) (c .before .before .before .before .before .before .before .before .before .before .reading2 .given) (c .before .before .before .before .before .before .before .before .before .before .before .first .ensures) .some-one))
+    ∙ ap (laid (atStart, a .text .now)) (some-listed (tokensLine (length (a .tokens .now))) (choiceCount g w) (entries g w) (first-begun (grammarIn (a .table .now) (a .head)) (a .tokens .now) zeros (enough _ (s .pre .1 .few)) (firstSaid (c .before .before .before .before .before .before .before .before .before .before .before .first .result)) _ (ap found (c .before .before .before .before .before .before .before .before .enum-told2 .given .1)) (c .before .before .before .before .before .before .before .before .before .before .reading2 .given) (c .before .before .before .before .before .before .before .before .before .before .before .first .ensures) .some-one))
 
 pub list-accepted-spec : {M : Type 1} → statement M
 list-accepted-spec =
     tie.close
     (tie.spec
-    closes-of-requires
-    masks-of-requires
+    prepare-requires
     slice-aggregate-first
     first-requires
     enum-told

@@ -16,19 +16,19 @@ use Rattle.next_run.proofs.last_position.Statement.{statement}
 use Rattle.next_run.proofs.last_position.Tie as tie
 
 abbrev Inv-loop : tie.InvT-loop
-Inv-loop table tokens closes masks at reading count p context nonterminal old r₀ r =
+Inv-loop table head tokens closes masks at reading count p context nonterminal old r₀ r =
     (getD reading p 0 < r)
-    × NoneBetween table (getD reading p 0) nonterminal context r
+    × NoneBetween (head .well) table (getD reading p 0) nonterminal context r
     × (r < count → classOf (ruleIn table r) ≡ classOf (ruleIn table (getD reading p 0)))
 
 abbrev μ-loop : tie.MeasureT-loop
-μ-loop table tokens closes masks at reading count p context nonterminal old r₀ r = count - r
+μ-loop table head tokens closes masks at reading count p context nonterminal old r₀ r = count - r
 
 abbrev Inv-search : tie.InvT-search
-Inv-search table tokens closes masks at reading count p₀ p = (p ≤ length tokens + 1) × NoneFrom table count (tokensOf tokens) at reading p
+Inv-search table head tokens closes masks at reading count p₀ p = (p ≤ length tokens + 1) × NoneFrom table head (tokensOf tokens) at reading p
 
 abbrev μ-search : tie.MeasureT-search
-μ-search table tokens closes masks at reading count p₀ p = p
+μ-search table head tokens closes masks at reading count p₀ p = p
 
 add-p : tie.Need-add-p Inv-loop μ-loop Inv-search μ-search
 add-p c = omega (arith, c .before .before .pre .0 .tokens .few)
@@ -37,7 +37,7 @@ search-holds : tie.Need-search-holds Inv-loop μ-loop Inv-search μ-search
 search-holds c =
     let s = c .before .before in
     let a = s .args in
-    (omega arith, none-end (a .table .now) (a .head .rules) (tokensOf (a .tokens .now)) (a .masks .now) (a .at .now) (a .reading .now) (s .pre .0 .leveled) (length (a .tokens .now) + 1) (omega (arith, tokens-length (a .tokens .now))))
+    (omega arith, none-end (a .table .now) (a .head) (s .pre .0 .indexed .ready) (tokensOf (a .tokens .now)) (a .masks .now) (a .at .now) (a .reading .now) (s .pre .0 .leveled) (length (a .tokens .now) + 1) (omega (arith, tokens-length (a .tokens .now))))
 
 sub-p : tie.Need-sub-p Inv-loop μ-loop Inv-search μ-search
 sub-p c = search needs
@@ -45,7 +45,7 @@ sub-p c = search needs
 context-at-requires : tie.Need-context-at-requires Inv-loop μ-loop Inv-search μ-search
 context-at-requires c κs =
     let s = c .before .before .before .before in
-    (s .pre .0 .tokens, (omega arith, s .pre .0 .matched))
+    ((s .pre .0 .tokens, omega arith), λ k h. s .pre .0 .matched k (omega arith))
 
 mul-nonterminal : tie.Need-mul-nonterminal Inv-loop μ-loop Inv-search μ-search
 mul-nonterminal c =
@@ -79,9 +79,9 @@ loop-holds c =
     let b = getD (a .reading .now) p 0 in
     let x = q .context-at .result in
     let h = s .pre .1 .1 p (omega (arith, tokens-length (a .tokens .now))) in
-    let k = fits-here (a .table .now) (a .head .rules) (tokensOf (a .tokens .now)) (a .masks .now) (a .at .now) (a .reading .now) (s .pre .0 .leveled) p x (q .context-at .ensures) b (h .1) in
+    let k = fits-here (a .table .now) (a .head) (s .pre .0 .indexed .ready) (tokensOf (a .tokens .now)) (a .masks .now) (a .at .now) (a .reading .now) (s .pre .0 .leveled) p x (q .context-at .ensures (a .head .well)) b (h .0) (h .1) in
     let f = goes-on (s .pre .0 .indexed) b _ (c .next-of .result) (h .0) refl (c .next-of .ensures) in
-    (f .from, between-first (a .table .now) b (getD (a .at .now) p 0) x k f (λ i m n. absurd (omega arith)), f .of-class)
+    (f .from, between-first (a .head .well) (a .table .now) b (getD (a .at .now) p 0) x k f (λ i m n. absurd (omega arith)), f .of-class)
 
 search-less : tie.Need-search-less Inv-loop μ-loop Inv-search μ-search
 search-less c = search needs
@@ -95,12 +95,12 @@ search-again c =
     let q = c .before .before .before .before .before in
     let p = l .search .p - 1 in
     let e : suc p ≡ l .search .p = omega arith in
-    (omega arith, none-next (a .table .now) (a .head .rules) (tokensOf (a .tokens .now)) (a .masks .now) (a .at .now) (a .reading .now) (s .pre .0 .leveled) p (q .context-at .result) (q .context-at .ensures) (i .loop .r) (c .loop-test .left) (i .loop .inv .1) (rw e (l .search .inv .1)))
+    (omega arith, none-next (a .table .now) (a .head) (s .pre .0 .indexed .ready) (tokensOf (a .tokens .now)) (a .masks .now) (a .at .now) (a .reading .now) (s .pre .0 .leveled) p (q .context-at .result) (q .context-at .ensures (a .head .well)) (i .loop .r) (c .loop-test .left) (i .loop .inv .1) (rw e (l .search .inv .1)))
 
 fits-requires : tie.Need-fits-requires Inv-loop μ-loop Inv-search μ-search
 fits-requires c κs =
     let s = c .before .before .before .before .before .before .before .before .before .before in
-    (omega (arith, s .pre .0 .indexed .ready .few), s .pre .0 .indexed .ready .small _ (c .loop-test .taken))
+    (s .pre .0 .indexed, c .loop-test .taken)
 
 next-of-requires-2 : tie.Need-next-of-requires-2 Inv-loop μ-loop Inv-search μ-search
 next-of-requires-2 c κs =
@@ -129,10 +129,10 @@ loop-again c =
     let p = q .before .before .search .p - 1 in
     let b = getD (a .reading .now) p 0 in
     let t = s .pre .1 .1 p (omega (arith, tokens-length (a .tokens .now))) in
-    let y = fits-here (a .table .now) (a .head .rules) (tokensOf (a .tokens .now)) (a .masks .now) (a .at .now) (a .reading .now) (s .pre .0 .leveled) p x (q .context-at .ensures) b (t .1) in
+    let y = fits-here (a .table .now) (a .head) (s .pre .0 .indexed .ready) (tokensOf (a .tokens .now)) (a .masks .now) (a .at .now) (a .reading .now) (s .pre .0 .leveled) p x (q .context-at .ensures (a .head .well)) b (t .0) (t .1) in
     let no = sym (c .before .before .fits2 .ensures) ∙ c .before .if2 .left in
-    let h = between-more (a .table .now) _ _ _ (i .loop .r) (i .loop .inv .1) no in
-    (omega (arith, f .from), between-first (a .table .now) b (getD (a .at .now) p 0) x y f (λ j m k. h j m (omega arith)), f .of-class)
+    let h = between-more (a .head .well) (a .table .now) b (getD (a .at .now) p 0) x (i .loop .r) (i .loop .inv .1) no in
+    (omega (arith, f .from), between-first (a .head .well) (a .table .now) b (getD (a .at .now) p 0) x y f (λ j m k. h j m (omega arith)), f .of-class)
 
 returns : tie.Need-returns Inv-loop μ-loop Inv-search μ-search
 returns c =
@@ -149,7 +149,7 @@ returns-2 c =
     let p = l .search .p - 1 in
     let e : suc p ≡ l .search .p = omega arith in
     let yes = sym (c .before .fits2 .ensures) ∙ c .if2 .taken in
-    found-at (a .table .now) (a .head .rules) (tokensOf (a .tokens .now)) (a .masks .now) (a .at .now) (a .reading .now) (s .pre .0 .leveled) p (q .context-at .result) (q .context-at .ensures) (i .loop .r) (omega (arith, tokens-length (a .tokens .now))) (i .loop .inv .0) (c .before .before .loop-test .taken)
+    found-at (a .table .now) (a .head) (s .pre .0 .indexed .ready) (tokensOf (a .tokens .now)) (a .masks .now) (a .at .now) (a .reading .now) (s .pre .0 .leveled) p (q .context-at .result) (q .context-at .ensures (a .head .well)) (i .loop .r) (omega (arith, tokens-length (a .tokens .now))) (i .loop .inv .0) (c .before .before .loop-test .taken)
     yes (i .loop .inv .1) (rw e (l .search .inv .1))
 
 pub last-position-spec : {M : Type 1} → statement M

@@ -21,11 +21,8 @@ slice-write-reading c = search needs
 six-in-requires : tie.Need-six-in-requires
 six-in-requires c κs = search needs
 
-mul-j : tie.Need-mul-j
-mul-j c = search needs
-
-element-copy-out-j : tie.Need-element-copy-out-j
-element-copy-out-j c = search needs
+close-at-requires : tie.Need-close-at-requires
+close-at-requires c κs = search needs
 
 mul-inner-of : tie.Need-mul-inner-of
 mul-inner-of c = search needs
@@ -39,7 +36,7 @@ inner-of-requires c κs = search needs
 store-later-requires : tie.Need-store-later-requires
 store-later-requires c κs =
     let s = c .before .before .before .before .before .before .before .before in
-    (s .pre .1 .0 .2, close-room (s .pre .0) (s .args .branch .position) (omega arith))
+    (s .pre .1 .0 .2, rw (c .before .before .before .close-at .ensures) (close-room (s .pre .0) (s .args .branch .position) (omega arith)))
 
 add-position : tie.Need-add-position
 add-position c = search needs
@@ -50,7 +47,7 @@ fill-requires c κs =
     let s = c .before .before .before .before .before .before .before .before .before .before in
     let p = s .args .branch .position in
     let f = s .pre .1 .1 (c .before .before .before .before .before .before .before .if1 .taken) in
-    (s .pre .0, ((omega arith, ap length (c .before .store-later .ensures) ∙ (simp length-set (s .pre .1 .0 .2)), rw length-set (s .pre .1 .0 .3)), rw (c .before .store-later .ensures, c .before .before .before .inner-of .ensures, c .before .before .before .before .before .before .six-in .ensures, add-one p) f))
+    (s .pre .0, ((omega arith, ap length (c .before .store-later .ensures) ∙ (simp length-set (s .pre .1 .0 .2)), rw length-set (s .pre .1 .0 .3)), rw (c .before .store-later .ensures, c .before .before .before .inner-of .ensures, c .before .before .before .before .before .close-at .ensures, c .before .before .before .before .before .before .six-in .ensures, add-one p) f))
 
 same-length : tie.Need-same-length
 same-length c =
@@ -66,7 +63,7 @@ returns c =
     let within = k .before .before .before .before .before .before .before .if1 .taken in
     let here = tokens-at (a .tokens .now) (a .branch .position) within in
     rewritten-on (a .table .now) (a .head) (tokensOf (a .tokens .now)) (a .closes .now) (a .branch) (a .reading .now) (rw tokens-length (s .pre .1 .0 .3)) (tokenOf _) _ (rw tokens-length within) here
-    (rw (k .before .store-later .ensures, k .before .before .before .inner-of .ensures, k .before .before .before .before .before .before .six-in .ensures, add-one (a .branch .position)) at (c .before .before .fill .ensures))
+    (rw (k .before .store-later .ensures, k .before .before .before .inner-of .ensures, k .before .before .before .before .before .close-at .ensures, k .before .before .before .before .before .before .six-in .ensures, add-one (a .branch .position)) at (c .before .before .fill .ensures))
 
 same-length-2 : tie.Need-same-length-2
 same-length-2 c = search needs
@@ -84,8 +81,7 @@ rewrite-spec =
     cast-reading
     slice-write-reading
     six-in-requires
-    mul-j
-    element-copy-out-j
+    close-at-requires
     mul-inner-of
     array-read-inner-of
     inner-of-requires

@@ -1,30 +1,17 @@
--- `contexts`: by the pattern.
+-- `contexts`: by the form.
 use borrow.Author.Needs.{needs}
+use borrow.Author.Tests.{eq-eqb, ne-eqb}
 use Rattle.pair_words.proofs.contexts.Statement.{statement}
 use Rattle.pair_words.proofs.contexts.Tie as tie
-
-enum-told : tie.Need-enum-told
-enum-told c = search needs
-
-enum-told-2 : tie.Need-enum-told-2
-enum-told-2 c = search needs
 
 itself-requires : tie.Need-itself-requires
 itself-requires c κs = search needs
 
-enum-told-3 : tie.Need-enum-told-3
-enum-told-3 c = search needs
-
 returns : tie.Need-returns
-returns c = search needs
+returns c = rw (eq-eqb _ _ (c .before .if1 .taken)) (c .itself .ensures)
 
 returns-2 : tie.Need-returns-2
-returns-2 c = simp (c .before .enum-told2 .given .1) (c .itself .ensures)
-
-returns-3 : tie.Need-returns-3
-returns-3 c = search needs
+returns-2 c = rw (ne-eqb _ _ (c .if1 .left))
 
 pub contexts-spec : {M : Type 1} → statement M
-contexts-spec =
-    tie.close
-    (tie.spec enum-told enum-told-2 itself-requires enum-told-3 returns returns-2 returns-3)
+contexts-spec = tie.close (tie.spec itself-requires returns returns-2)

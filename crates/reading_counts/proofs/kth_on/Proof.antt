@@ -1,4 +1,5 @@
 -- `kth_on`: 18 where there is no reading of this number.
+use borrow.Author.Needs.{needs}
 use mathlib.Core.Path.{_∙_, ap}
 use Prim.Native.Nat.{_+_}
 use lib.ListN.{length}
@@ -6,15 +7,11 @@ use Rattle.vpg.specs.Runs.{entries}
 use Rattle.tables.specs.Ready.{grammarIn}
 use Rattle.history_file.specs.believed.HistoryFile.{tokensOf}
 use Rattle.reading_counts.proofs.Told.{kthSaid, kth-numbered}
-use borrow.Author.Needs.{needs}
 use Rattle.reading_counts.proofs.kth_on.Statement.{statement}
 use Rattle.reading_counts.proofs.kth_on.Tie as tie
 
-closes-of-requires : tie.Need-closes-of-requires
-closes-of-requires c κs = search needs
-
-masks-of-requires : tie.Need-masks-of-requires
-masks-of-requires c κs = search needs
+prepare-requires : tie.Need-prepare-requires
+prepare-requires c κs = search needs
 
 kth-requires : tie.Need-kth-requires
 kth-requires c κs = search needs
@@ -47,8 +44,7 @@ pub kth-on-spec : {M : Type 1} → statement M
 kth-on-spec =
     tie.close
     (tie.spec
-    closes-of-requires
-    masks-of-requires
+    prepare-requires
     kth-requires
     enum-told
     enum-told-2

@@ -51,7 +51,7 @@ count-on-requires : tie.Need-count-on-requires
 count-on-requires c κs =
     let o = c .before .before .before .before .before .before .open-files .ensures in
     let k = o .passes _ _ (c .before .before .before .before .opened .given .1) in
-    (k .indexed, (k .tokens, k .balanced))
+    (k .indexed, k .tokens)
 
 counted-requires : tie.Need-counted-requires
 counted-requires c κs = search needs

@@ -5,7 +5,7 @@ use Rattle.replay.proofs.stands.Statement.{statement}
 use Rattle.replay.proofs.stands.Tie as tie
 
 fits-requires : tie.Need-fits-requires
-fits-requires c κs = let s = c .before .before in (omega (arith, s .pre .few), s .pre .small _ (c .if1 .taken))
+fits-requires c κs = let s = c .before .before in (s .pre, c .if1 .taken)
 
 returns : tie.Need-returns
 returns c = simp (lt-ltb _ _ (c .before .if1 .taken), c .fits2 .ensures)

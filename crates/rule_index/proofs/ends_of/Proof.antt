@@ -9,10 +9,10 @@ use Rattle.rule_index.proofs.ends_of.Statement.{statement}
 use Rattle.rule_index.proofs.ends_of.Tie as tie
 
 abbrev Inv-loop : tie.InvT-loop
-Inv-loop table rules word₀ nonterminal₀ word nonterminal = (nonterminal ≤ 32) × EndsBelow table rules nonterminal word
+Inv-loop table rules n word₀ nonterminal₀ word nonterminal = (nonterminal ≤ n) × EndsBelow table rules nonterminal word
 
 abbrev μ-loop : tie.MeasureT-loop
-μ-loop table rules word₀ nonterminal₀ word nonterminal = 32 - nonterminal
+μ-loop table rules n word₀ nonterminal₀ word nonterminal = n - nonterminal
 
 loop-holds : tie.Need-loop-holds Inv-loop μ-loop
 loop-holds c = (omega arith, ends-none (c .args .table .now) (c .args .rules))
@@ -35,7 +35,7 @@ loop-again c =
 returns : tie.Need-returns Inv-loop μ-loop
 returns c =
     let l = c .before in
-    let e : l .loop .nonterminal ≡ 32 = omega arith in
+    let e : l .loop .nonterminal ≡ l .before .args .n = omega arith in
     rw e at (l .loop .inv .1)
 
 pub ends-of-spec : {M : Type 1} → statement M

@@ -8,6 +8,7 @@ use Rattle.tables.specs.Table.{ruleIn}
 use Rattle.rule_index.specs.Classes.{classAt, classOf}
 use Rattle.rule_index.proofs.Walk.{starts, goes-on}
 use Rattle.contexts.specs.Context.{tokenHere}
+use Rattle.contexts.proofs.Forms.{class-kind}
 use Rattle.rule_set.specs.RuleSet.{waysIn, wordsIn}
 use Rattle.rule_set.proofs.Words.{add-length}
 use Rattle.rule_set.proofs.RuleSet.{ways-passed, words-passed}
@@ -16,12 +17,12 @@ use Rattle.rule_set.proofs.class_set.Statement.{statement}
 use Rattle.rule_set.proofs.class_set.Tie as tie
 
 abbrev Inv-loop : tie.InvT-loop
-Inv-loop table here context words₀ count ways₀ r₀ words ways r =
-    (r ≤ count) × (length words ≡ 4) × (ways ≡ waysIn table here context r) × (words ≡ wordsIn table here context r)
+Inv-loop table head here context words₀ count ways₀ r₀ words ways r =
+    (r ≤ count) × (length words ≡ 4) × (ways ≡ waysIn (head .well) table here context r) × (words ≡ wordsIn (head .well) table here context r)
     × (r < count → classOf (ruleIn table r) ≡ classAt (tokenHere context))
 
 abbrev μ-loop : tie.MeasureT-loop
-μ-loop table here context words₀ count ways₀ r₀ words ways r = count - r
+μ-loop table head here context words₀ count ways₀ r₀ words ways r = count - r
 
 clear-requires : tie.Need-clear-requires Inv-loop μ-loop
 clear-requires c κs = search needs
@@ -39,7 +40,7 @@ loop-holds c =
     let p = s .args .context in
     let f = starts (s .pre .0 .0) (tokenHere p) (classAt (tokenHere p)) (c .first-here .result) refl (c .first-here .ensures) in
     let cleared = c .before .before .before .before .clear .ensures in
-    (f .most, ap length cleared, c .before .no-ways .ensures ∙ sym (ways-passed (s .args .table .now) (s .args .here) p (s .pre .0 .1) f), cleared ∙ sym (words-passed (s .args .table .now) (s .args .here) p (s .pre .0 .1) f), f .of-class)
+    (f .most, ap length cleared, c .before .no-ways .ensures ∙ sym (ways-passed (s .args .head .well) (s .args .table .now) (s .args .here) p (s .pre .0 .1) f), cleared ∙ sym (words-passed (s .args .head .well) (s .args .table .now) (s .args .here) p (s .pre .0 .1) f), f .of-class)
 
 next-of-requires : tie.Need-next-of-requires Inv-loop μ-loop
 next-of-requires c κs = omega (arith, c .before .before .before .before .before .before .before .before .before .pre .0 .0 .ready .few)
@@ -47,7 +48,9 @@ next-of-requires c κs = omega (arith, c .before .before .before .before .before
 keeps-requires : tie.Need-keeps-requires Inv-loop μ-loop
 keeps-requires c κs =
     let s = c .before .before .before .before .before .before .before .before .before .before in
-    (omega (arith, s .pre .0 .0 .ready .few), s .pre .0 .0 .ready .small _ (c .before .loop-test .taken))
+    let l = c .before .before .loop in
+    let h = c .before .loop-test .taken in
+    (s .pre .0 .0, h, class-kind (ruleIn (s .args .table .now) (l .r)) (s .args .context .kind) (s .args .context .name) (omega (arith, s .pre .0 .1)) (l .inv .4 h))
 
 add-requires : tie.Need-add-requires Inv-loop μ-loop
 add-requires c κs =
@@ -61,7 +64,7 @@ ways-with-requires c κs =
     let x = s .pre .0 .0 in
     let taken = c .before .before .before .before .before .before .before .loop-test .taken in (
       (omega (arith, x .ready .few), x .ready .small _ taken),
-      rw (l .loop .inv .2) (sum-most (s .args .table .now) (s .args .here) (s .args .context) (l .loop .r) (λ q h. x .ready .small q (omega arith) .0)),
+      rw (l .loop .inv .2) (sum-most (s .args .head .well) (s .args .table .now) (s .args .here) (s .args .context) (l .loop .r) (λ q h. x .ready .small q (omega arith) .0)),
     )
 
 loop-less : tie.Need-loop-less Inv-loop μ-loop
@@ -79,12 +82,12 @@ loop-again c =
     let f = goes-on (s .pre .0 .0) (l .loop .r) (classAt (tokenHere p)) (n .next-of .result) (n .before .loop-test .taken) (l .loop .inv .4 (n .before .loop-test .taken)) (n .next-of .ensures) in
     let yes = sym (c .before .before .before .before .before .before .keeps .ensures) ∙ c .before .before .before .before .before .if1 .taken in
     let added = c .before .before .before .add .ensures in
-    let ways : c .ways-with .result ≡ waysIn (s .args .table .now) (s .args .here) p (suc (l .loop .r)) = rw (yes, ← (l .loop .inv .2)) (c .ways-with .ensures) in
-    let words : c .before .before .before .add .last .0 ≡ wordsIn (s .args .table .now) (s .args .here) p (suc (l .loop .r)) = rw (yes, ← (l .loop .inv .3)) added in (
+    let ways : c .ways-with .result ≡ waysIn (s .args .head .well) (s .args .table .now) (s .args .here) p (suc (l .loop .r)) = rw (yes, ← (l .loop .inv .2)) (c .ways-with .ensures) in
+    let words : c .before .before .before .add .last .0 ≡ wordsIn (s .args .head .well) (s .args .table .now) (s .args .here) p (suc (l .loop .r)) = rw (yes, ← (l .loop .inv .3)) added in (
       f .most,
       ap length added ∙ add-length 32 (l .loop .words) (l .loop .r) ∙ l .loop .inv .1,
-      ways ∙ sym (ways-passed (s .args .table .now) (s .args .here) p (s .pre .0 .1) f),
-      words ∙ sym (words-passed (s .args .table .now) (s .args .here) p (s .pre .0 .1) f),
+      ways ∙ sym (ways-passed (s .args .head .well) (s .args .table .now) (s .args .here) p (s .pre .0 .1) f),
+      words ∙ sym (words-passed (s .args .head .well) (s .args .table .now) (s .args .here) p (s .pre .0 .1) f),
       f .of-class,
     )
 
@@ -102,9 +105,9 @@ loop-again-2 c =
     let p = s .args .context in
     let f = goes-on (s .pre .0 .0) (l .loop .r) (classAt (tokenHere p)) (n .next-of .result) (n .before .loop-test .taken) (l .loop .inv .4 (n .before .loop-test .taken)) (n .next-of .ensures) in
     let no = sym (c .before .keeps .ensures) ∙ c .if1 .left in
-    let ways : l .loop .ways ≡ waysIn (s .args .table .now) (s .args .here) p (suc (l .loop .r)) = rw no (l .loop .inv .2) in
-    let words : l .loop .words ≡ wordsIn (s .args .table .now) (s .args .here) p (suc (l .loop .r)) = rw no (l .loop .inv .3) in
-    (f .most, l .loop .inv .1, ways ∙ sym (ways-passed (s .args .table .now) (s .args .here) p (s .pre .0 .1) f), words ∙ sym (words-passed (s .args .table .now) (s .args .here) p (s .pre .0 .1) f), f .of-class)
+    let ways : l .loop .ways ≡ waysIn (s .args .head .well) (s .args .table .now) (s .args .here) p (suc (l .loop .r)) = rw no (l .loop .inv .2) in
+    let words : l .loop .words ≡ wordsIn (s .args .head .well) (s .args .table .now) (s .args .here) p (suc (l .loop .r)) = rw no (l .loop .inv .3) in
+    (f .most, l .loop .inv .1, ways ∙ sym (ways-passed (s .args .head .well) (s .args .table .now) (s .args .here) p (s .pre .0 .1) f), words ∙ sym (words-passed (s .args .head .well) (s .args .table .now) (s .args .here) p (s .pre .0 .1) f), f .of-class)
 
 same-length : tie.Need-same-length Inv-loop μ-loop
 same-length c = c .before .loop .inv .1 ∙ sym (c .before .before .before .before .before .before .before .before .before .pre .1)

@@ -4,36 +4,32 @@ use mathlib.Core.Path.{sym, _∙_}
 use native.Mathlib.Omega.{arith}
 use Prim.Native.Nat.{_-_}
 use lib.Bits.{bitAnd, and-le-r}
-use Rattle.rule_index.specs.Index.{endsIn}
 use Rattle.rule_set.proofs.Ends.{Gathered, gathered-none, gathered-more, gathered-all, next-small, next-few}
 use Rattle.rule_set.proofs.ends_words.Statement.{statement}
 use Rattle.rule_set.proofs.ends_words.Tie as tie
 
 abbrev Inv-loop : tie.InvT-loop
-Inv-loop table here words₀ due₀ words due = Gathered table (bitAnd here (endsIn table)) due words
+Inv-loop table here ends words₀ due₀ words due = Gathered table (bitAnd here ends) due words
 
 abbrev μ-loop : tie.MeasureT-loop
-μ-loop table here words₀ due₀ words due = due
+μ-loop table here ends words₀ due₀ words due = due
 
 clear-requires : tie.Need-clear-requires Inv-loop μ-loop
 clear-requires c κs = search needs
 
-ends-requires : tie.Need-ends-requires Inv-loop μ-loop
-ends-requires c κs = search needs
-
 loop-holds : tie.Need-loop-holds Inv-loop μ-loop
 loop-holds c =
-    let s = c .before .before .before .before .before .before in
-    rw (c .ends .ensures, c .before .before .before .clear .ensures) (gathered-none (s .pre .0) (s .args .here) (omega arith))
+    let s = c .before .before .before .before .before in
+    rw (c .before .before .clear .ensures) (gathered-none (s .pre .0 .0) (s .args .ends) (s .pre .0 .1) (s .args .here) (omega arith))
 
 cast-end-of : tie.Need-cast-end-of Inv-loop μ-loop
-cast-end-of c = omega (arith, next-small (c .before .before .before .before .before .before .before .before .before .pre .0) (omega arith) (c .before .before .loop .inv))
+cast-end-of c = omega (arith, next-small (c .before .before .before .before .before .before .before .before .pre .0 .0) (omega arith) (c .before .before .loop .inv))
 
 end-of-requires : tie.Need-end-of-requires Inv-loop μ-loop
-end-of-requires c κs = next-small (c .before .before .before .before .before .before .before .before .before .pre .0) (omega arith) (c .before .before .loop .inv)
+end-of-requires c κs = next-small (c .before .before .before .before .before .before .before .before .pre .0 .0) (omega arith) (c .before .before .loop .inv)
 
 add-requires : tie.Need-add-requires Inv-loop μ-loop
-add-requires c κs = (c .before .before .before .loop .inv .size, rw (c .end-of .ensures) (next-few (c .before .before .before .before .before .before .before .before .before .before .pre .0) (omega arith) (c .before .before .before .loop .inv)))
+add-requires c κs = (c .before .before .before .loop .inv .size, rw (c .end-of .ensures) (next-few (c .before .before .before .before .before .before .before .before .before .pre .0 .0) (omega arith) (c .before .before .before .loop .inv)))
 
 sub-due : tie.Need-sub-due Inv-loop μ-loop
 sub-due c = omega arith
@@ -44,13 +40,13 @@ loop-less c = omega (arith, and-le-r (c .before .before .before .before .before 
 loop-again : tie.Need-loop-again Inv-loop μ-loop
 loop-again c =
     rw (c .before .before .add .ensures, c .before .before .before .end-of .ensures)
-    (gathered-more (c .before .before .before .before .before .before .before .before .before .before .before .before .before .pre .0) (omega arith) (c .before .before .before .before .before .before .loop .inv))
+    (gathered-more (c .before .before .before .before .before .before .before .before .before .before .before .before .pre .0 .0) (omega arith) (c .before .before .before .before .before .before .loop .inv))
 
 same-length : tie.Need-same-length Inv-loop μ-loop
-same-length c = c .before .loop .inv .size ∙ sym (c .before .before .before .before .before .before .before .before .pre .1)
+same-length c = c .before .loop .inv .size ∙ sym (c .before .before .before .before .before .before .before .pre .1)
 
 returns : tie.Need-returns Inv-loop μ-loop
-returns c = λ p close. gathered-all (c .before .before .before .before .before .before .before .before .pre .0) p close (c .before .before .before .before .before .before .before .before .args .here) (rw (c .loop-test .left) at (c .before .loop .inv))
+returns c = let s = c .before .before .before .before .before .before .before in λ p o. gathered-all (s .pre .0 .0) p (s .pre .0 .1) o (s .args .here) (rw (c .loop-test .left) at (c .before .loop .inv))
 
 pub ends-words-spec : {M : Type 1} → statement M
 ends-words-spec =
@@ -59,7 +55,6 @@ ends-words-spec =
     Inv-loop
     μ-loop
     clear-requires
-    ends-requires
     loop-holds
     cast-end-of
     end-of-requires

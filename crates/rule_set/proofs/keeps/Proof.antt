@@ -1,29 +1,21 @@
--- `keeps`: the nonterminal of a rule of the table is below 32.
-use mathlib.Core.Path.{sym, _∙_}
+-- `keeps`: both tests, one behind the other.
 use borrow.Author.Needs.{needs}
+use mathlib.Core.Path.{sym, _∙_}
+use native.Mathlib.Omega.{arith}
 use Rattle.rule_set.proofs.keeps.Statement.{statement}
 use Rattle.rule_set.proofs.keeps.Tie as tie
 
-left-in-requires : tie.Need-left-in-requires
-left-in-requires c κs = search needs
+left-here-requires : tie.Need-left-here-requires
+left-here-requires c κs = (omega (arith, c .pre .0 .ready .few, c .pre .1), c .pre .0 .ready .small _ (c .pre .1))
 
-cast-has : tie.Need-cast-has
-cast-has c = search needs
-
-has-requires : tie.Need-has-requires
-has-requires c κs =
-    rw (c .left-in .ensures) (c .before .pre .1 .0)
-
-applies-requires : tie.Need-applies-requires
-applies-requires c κs = search needs
+takes-requires : tie.Need-takes-requires
+takes-requires c κs = search needs
 
 returns : tie.Need-returns
-returns c =
-    let yes = sym (c .before .before .has .ensures) ∙ c .before .if1 .taken in
-    simp (c .applies .ensures, ← (c .before .before .before .left-in .ensures), yes)
+returns c = rw (sym (c .before .before .left-here .ensures) ∙ c .before .if1 .taken, c .takes .ensures)
 
 returns-2 : tie.Need-returns-2
-returns-2 c = let no = sym (c .before .has .ensures) ∙ c .if1 .left in simp (← (c .before .before .left-in .ensures), no)
+returns-2 c = rw (sym (c .before .left-here .ensures) ∙ c .if1 .left)
 
 pub keeps-spec : {M : Type 1} → statement M
-keeps-spec = tie.close (tie.spec left-in-requires cast-has has-requires applies-requires returns returns-2)
+keeps-spec = tie.close (tie.spec left-here-requires takes-requires returns returns-2)

@@ -1,6 +1,7 @@
 -- `ways_turn` meets its contract.
 use borrow.Author.Needs.{needs}
 use mathlib.Core.Path.{sym, _∙_}
+use native.Mathlib.Omega.{arith}
 use Rattle.rule_set.proofs.ways_turn.Statement.{statement}
 use Rattle.rule_set.proofs.ways_turn.Tie as tie
 
@@ -8,7 +9,9 @@ keeps-requires : tie.Need-keeps-requires
 keeps-requires c κs = search needs
 
 ways-with-requires : tie.Need-ways-with-requires
-ways-with-requires c κs = search needs
+ways-with-requires c κs =
+    let p = c .before .before .pre in
+    ((omega (arith, p .0 .0 .ready .few, p .0 .1), p .0 .0 .ready .small _ (p .0 .1)), p .1)
 
 returns : tie.Need-returns
 returns c = rw (sym (c .before .before .keeps .ensures) ∙ c .before .if1 .taken, c .ways-with .ensures)

@@ -9,6 +9,7 @@ use Rattle.numbers.specs.declared.FieldRead.{FieldRead}
 use Rattle.numbers.specs.declared.FieldRead.the-variants.{Field, Refused as FieldRefused}
 use Rattle.numbers.specs.believed.Field.{fieldAt}
 use Rattle.vpg.specs.declared.Rule.{Rule}
+use Rattle.vpg.specs.declared.Token.{Token}
 use Rattle.rules.specs.declared.PairRead.{PairRead}
 use Rattle.rules.specs.declared.PairRead.the-variants.{Pair, Refused as PairRefused}
 use Rattle.rules.specs.declared.RuleRead.{RuleRead}
@@ -50,7 +51,7 @@ stepAt number at nonterminals from name to =
 unfoldable pub bodyAt : (ℕ → NumberRead) → ℕ → ℕ → ℕ → ℕ → RuleRead
 bodyAt number at nonterminals form from =
     after (pairAt number at names 7 nonterminals) λ name to next.
-    cond (eqb form 1) (Read (Rule.Mark from (record { 0 = name }) to) next) (stepAt number next nonterminals from name to)
+    cond (eqb form 1) (Read (Rule.Next from (Token.Mark (record { 0 = name })) to) next) (stepAt number next nonterminals from name to)
 
 -- "its form, then L; or L c L1; or L a L1 b L2": the form and L, then what the form asks for
 unfoldable pub ruleAt : (ℕ → NumberRead) → ℕ → ℕ → RuleRead

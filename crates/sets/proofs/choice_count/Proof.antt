@@ -39,7 +39,7 @@ choices-on-requires : tie.Need-choices-on-requires
 choices-on-requires c κs =
     let o = c .before .before .before .before .before .open-files .ensures in
     let k = o .passes _ _ (c .before .before .before .opened .given .1) in
-    (k .indexed, (k .tokens, k .balanced))
+    (k .indexed, k .tokens)
 
 returns-2 : tie.Need-returns-2
 returns-2 c =

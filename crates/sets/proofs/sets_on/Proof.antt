@@ -3,18 +3,11 @@ use borrow.Author.Needs.{needs}
 use Rattle.sets.proofs.sets_on.Statement.{statement}
 use Rattle.sets.proofs.sets_on.Tie as tie
 
-closes-of-requires : tie.Need-closes-of-requires
-closes-of-requires c κs = c .before .before .pre .1 .0 .0
-
-masks-of-requires : tie.Need-masks-of-requires
-masks-of-requires c κs =
-    let s = c .before .before .before .before in
-    (s .pre .0, (s .pre .1 .0 .0, c .before .closes-of .ensures .1))
+prepare-requires : tie.Need-prepare-requires
+prepare-requires c κs = search needs
 
 sets-requires : tie.Need-sets-requires
-sets-requires c κs =
-    let s = c .before .before .before .before .before .before .before .before in
-    (record { indexed = s .pre .0; tokens = s .pre .1 .0 .0; balanced = s .pre .1 .0 .1; matched = c .before .before .before .before .before .closes-of .ensures .1; leveled = c .before .before .before .masks-of .ensures .1 }, s .pre .1 .1)
+sets-requires c κs = (c .before .before .before .prepare .ensures, c .before .before .before .before .before .before .before .before .pre .1 .1)
 
 same-length : tie.Need-same-length
 same-length c = search needs
@@ -23,4 +16,4 @@ returns : tie.Need-returns
 returns c = search needs
 
 pub sets-on-spec : {M : Type 1} → statement M
-sets-on-spec = tie.close (tie.spec closes-of-requires masks-of-requires sets-requires same-length returns)
+sets-on-spec = tie.close (tie.spec prepare-requires sets-requires same-length returns)

@@ -13,62 +13,69 @@ use Rattle.sets_core.proofs.choices.Statement.{statement}
 use Rattle.sets_core.proofs.choices.Tie as tie
 
 abbrev Inv-loop : tie.InvT-loop
-Inv-loop table head tokens closes masks behind₀ here₀ total₀ p₀ behind here total p = Going table head tokens p here behind × Choices (grammarIn table head) (tokensOf tokens) p total
+Inv-loop table head tokens closes masks behind₀ derives here₀ total₀ p₀ behind here total p = Going table head tokens p here behind × Choices (grammarIn table head) (tokensOf tokens) p total
 
 abbrev μ-loop : tie.MeasureT-loop
-μ-loop table head tokens closes masks behind₀ here₀ total₀ p₀ behind here total p = length tokens + 1 - p
+μ-loop table head tokens closes masks behind₀ derives here₀ total₀ p₀ behind here total p = length tokens + 1 - p
 
-element-copy-out-start-set : tie.Need-element-copy-out-start-set Inv-loop μ-loop
-element-copy-out-start-set c = search needs
+derives-all-requires : tie.Need-derives-all-requires Inv-loop μ-loop
+derives-all-requires c κs = c .before .pre .indexed .ready .start-small
 
 start-set-requires : tie.Need-start-set-requires Inv-loop μ-loop
-start-set-requires c κs = search needs
+start-set-requires c κs = c .before .before .pre .indexed .ready .start-small
 
 loop-holds : tie.Need-loop-holds Inv-loop μ-loop
-loop-holds c = (rw (c .start-set .ensures) (going-start (c .before .before .before .pre)), choices-none)
+loop-holds c =
+    let s = c .before .before .before in
+    let x = s .pre in
+    (rw (c .start-set .ensures) (going-start x (c .before .derives-all .ensures _ (s .args .tokens .now) (x .leveled))), choices-none)
 
 context-at-requires : tie.Need-context-at-requires Inv-loop μ-loop
-context-at-requires c κs = let s = c .before .before .before .before .before in (s .pre .tokens, (omega arith, s .pre .matched))
+context-at-requires c κs = let s = c .before .before .before .before .before in ((s .pre .tokens, omega arith), λ k f r. s .pre .matched k (omega arith) r)
 
 ways-at-requires : tie.Need-ways-at-requires Inv-loop μ-loop
 ways-at-requires c κs = c .before .before .before .before .before .before .pre .indexed
 
-mul-counted : tie.Need-mul-counted Inv-loop μ-loop
-mul-counted c = search needs
+mul-low-half : tie.Need-mul-low-half Inv-loop μ-loop
+mul-low-half c = search needs
 
-element-copy-out-counted : tie.Need-element-copy-out-counted Inv-loop μ-loop
-element-copy-out-counted c = search needs
+element-copy-out-low-half : tie.Need-element-copy-out-low-half Inv-loop μ-loop
+element-copy-out-low-half c = search needs
+
+low-half-requires : tie.Need-low-half-requires Inv-loop μ-loop
+low-half-requires c κs = search needs
 
 counted-requires : tie.Need-counted-requires Inv-loop μ-loop
-counted-requires c κs = omega (arith, c .before .before .before .before .before .before .before .before .pre .tokens .few, choices-most (c .before .before .before .before .loop .inv .1))
+counted-requires c κs =
+    let l = c .before .before .before .before .before in
+    omega (arith, l .before .before .before .before .pre .tokens .few, choices-most (l .loop .inv .1))
 
-mul-onward : tie.Need-mul-onward Inv-loop μ-loop
-mul-onward c = search needs
-
-element-copy-out-onward : tie.Need-element-copy-out-onward Inv-loop μ-loop
-element-copy-out-onward c = search needs
+close-at-requires : tie.Need-close-at-requires Inv-loop μ-loop
+close-at-requires c κs = let i = c .before .before .before .before .before .before in omega (arith, i .loop-test .taken, i .before .before .before .before .before .pre .tokens .few)
 
 onward-requires : tie.Need-onward-requires Inv-loop μ-loop
 onward-requires c κs =
-    let i = c .before .before .before .before .before .before in
-    onward-room (i .before .before .before .before .before .pre) (i .before .loop .inv .0) (omega (arith, i .loop-test .taken))
+    let i = c .before .before .before .before .before .before .before in
+    rw (c .close-at .ensures) (onward-room (i .before .before .before .before .before .pre) (i .before .loop .inv .0) (omega (arith, i .loop-test .taken)))
 
 add-p : tie.Need-add-p Inv-loop μ-loop
-add-p c = search needs
+add-p c = let i = c .before .before .before .before .before .before .before .before in omega (arith, i .loop-test .taken, i .before .before .before .before .before .pre .tokens .few)
 
 loop-less : tie.Need-loop-less Inv-loop μ-loop
 loop-less c = search needs
 
 loop-again : tie.Need-loop-again Inv-loop μ-loop
 loop-again c =
-    let i = c .before .before .before .before .before .before .before in
-    let x = i .before .before .before .before .before .pre in
+    let i = c .before .before .before .before .before .before .before .before in
+    let s = i .before .before .before .before .before in
+    let x = s .pre in
     let l = i .before .loop in
-    let h : l .p ≤ length (i .before .before .before .before .before .args .tokens .now) = omega (arith, i .loop-test .taken) in
-    let context = c .before .before .before .before .before .before .context-at in
-    let ways = c .before .before .before .before .before .ways-at .ensures in (
-      going-next x (l .inv .0) h (context .result) (context .ensures) ways (c .onward .ensures .0) (c .onward .ensures .1),
-      choices-next (l .inv .1) (choice-here x (l .inv .0) h (context .result) (context .ensures) ways) (c .before .before .before .counted .ensures),
+    let h : l .p ≤ length (s .args .tokens .now) = omega (arith, i .loop-test .taken) in
+    let context = c .before .before .before .before .before .before .before .context-at in
+    let stands = context .ensures (s .args .head .well) in
+    let ways = c .before .before .before .before .before .before .ways-at .ensures in (
+      going-next x (l .inv .0) h (context .result) stands ways (c .onward .ensures .0) (rw (c .before .close-at .ensures) at (c .onward .ensures .1)),
+      choices-next (l .inv .1) (choice-here x (l .inv .0) h (context .result) stands ways) (rw (c .before .before .before .before .low-half .ensures) at (c .before .before .before .counted .ensures)),
     )
 
 returns : tie.Need-returns Inv-loop μ-loop
@@ -84,16 +91,16 @@ choices-spec =
     (tie.spec
     Inv-loop
     μ-loop
-    element-copy-out-start-set
+    derives-all-requires
     start-set-requires
     loop-holds
     context-at-requires
     ways-at-requires
-    mul-counted
-    element-copy-out-counted
+    mul-low-half
+    element-copy-out-low-half
+    low-half-requires
     counted-requires
-    mul-onward
-    element-copy-out-onward
+    close-at-requires
     onward-requires
     add-p
     loop-less

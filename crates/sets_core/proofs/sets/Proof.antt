@@ -16,22 +16,28 @@ use Rattle.sets_core.proofs.sets.Statement.{statement}
 use Rattle.sets_core.proofs.sets.Tie as tie
 
 abbrev Inv-loop : tie.InvT-loop
-Inv-loop table head tokens closes masks words₀ n behind₀ here₀ count₀ p₀ words behind here count p = Going table head tokens p here behind × Written (grammarIn table head) (tokensOf tokens) words₀ p words × Choices (grammarIn table head) (tokensOf tokens) p count
+Inv-loop table head tokens closes masks words₀ n behind₀ derives here₀ count₀ p₀ words behind here count p =
+    Going table head tokens p here behind
+    × Written (grammarIn table head) (tokensOf tokens) words₀ p words
+    × Choices (grammarIn table head) (tokensOf tokens) p count
 
 abbrev μ-loop : tie.MeasureT-loop
-μ-loop table head tokens closes masks words₀ n behind₀ here₀ count₀ p₀ words behind here count p = length tokens + 1 - p
+μ-loop table head tokens closes masks words₀ n behind₀ derives here₀ count₀ p₀ words behind here count p = length tokens + 1 - p
 
-element-copy-out-start-set : tie.Need-element-copy-out-start-set Inv-loop μ-loop
-element-copy-out-start-set c = search needs
+derives-all-requires : tie.Need-derives-all-requires Inv-loop μ-loop
+derives-all-requires c κs = c .before .before .pre .0 .indexed .ready .start-small
 
 start-set-requires : tie.Need-start-set-requires Inv-loop μ-loop
-start-set-requires c κs = search needs
+start-set-requires c κs = c .before .before .before .pre .0 .indexed .ready .start-small
 
 loop-holds : tie.Need-loop-holds Inv-loop μ-loop
-loop-holds c = (rw (c .start-set .ensures) (going-start (c .before .before .before .before .pre .0)), written-none, choices-none)
+loop-holds c =
+    let s = c .before .before .before .before in
+    let x = s .pre .0 in
+    (rw (c .start-set .ensures) (going-start x (c .before .derives-all .ensures _ (s .args .tokens .now) (x .leveled))), written-none, choices-none)
 
 context-at-requires : tie.Need-context-at-requires Inv-loop μ-loop
-context-at-requires c κs = let s = c .before .before .before .before .before .before in (s .pre .0 .tokens, (omega arith, s .pre .0 .matched))
+context-at-requires c κs = let s = c .before .before .before .before .before .before in ((s .pre .0 .tokens, omega arith), λ k f r. s .pre .0 .matched k (omega arith) r)
 
 mul-set-at : tie.Need-mul-set-at Inv-loop μ-loop
 mul-set-at c = omega (arith, c .before .before .before .before .before .before .before .pre .0 .tokens .few)
@@ -64,45 +70,47 @@ set-at-requires c κs =
     let four : 4 * l .p + 4 - 4 * l .p ≡ 4 = omega arith in
     (s .pre .0 .indexed, mid-len (4 * l .p) (4 * l .p + 4) (l .words) (omega (arith, s .pre .1, e)) ∙ four)
 
-mul-counted : tie.Need-mul-counted Inv-loop μ-loop
-mul-counted c = search needs
+mul-low-half : tie.Need-mul-low-half Inv-loop μ-loop
+mul-low-half c = search needs
 
-element-copy-out-counted : tie.Need-element-copy-out-counted Inv-loop μ-loop
-element-copy-out-counted c = search needs
+element-copy-out-low-half : tie.Need-element-copy-out-low-half Inv-loop μ-loop
+element-copy-out-low-half c = search needs
+
+low-half-requires : tie.Need-low-half-requires Inv-loop μ-loop
+low-half-requires c κs = search needs
 
 counted-requires : tie.Need-counted-requires Inv-loop μ-loop
 counted-requires c κs =
-    let l = c .before .before .before .before .before .before .before in
+    let l = c .before .before .before .before .before .before .before .before in
     omega (arith, l .before .before .before .before .before .pre .0 .tokens .few, choices-most (l .loop .inv .2))
 
-mul-onward : tie.Need-mul-onward Inv-loop μ-loop
-mul-onward c = search needs
-
-element-copy-out-onward : tie.Need-element-copy-out-onward Inv-loop μ-loop
-element-copy-out-onward c = search needs
+close-at-requires : tie.Need-close-at-requires Inv-loop μ-loop
+close-at-requires c κs = let i = c .before .before .before .before .before .before .before .before .before in omega (arith, i .loop-test .taken, i .before .before .before .before .before .before .pre .0 .tokens .few)
 
 onward-requires : tie.Need-onward-requires Inv-loop μ-loop
 onward-requires c κs =
-    let i = c .before .before .before .before .before .before .before .before .before in
-    onward-room (i .before .before .before .before .before .before .pre .0) (i .before .loop .inv .0) (omega (arith, i .loop-test .taken))
+    let i = c .before .before .before .before .before .before .before .before .before .before in
+    rw (c .close-at .ensures) (onward-room (i .before .before .before .before .before .before .pre .0) (i .before .loop .inv .0) (omega (arith, i .loop-test .taken)))
 
 add-p : tie.Need-add-p Inv-loop μ-loop
-add-p c = let i = c .before .before .before .before .before .before .before .before .before .before in omega (arith, i .loop-test .taken, i .before .before .before .before .before .before .pre .0 .tokens .few)
+add-p c = let i = c .before .before .before .before .before .before .before .before .before .before .before in omega (arith, i .loop-test .taken, i .before .before .before .before .before .before .pre .0 .tokens .few)
 
 loop-less : tie.Need-loop-less Inv-loop μ-loop
 loop-less c = search needs
 
 loop-again : tie.Need-loop-again Inv-loop μ-loop
 loop-again c =
-    let i = c .before .before .before .before .before .before .before .before .before .before in
+    let i = c .before .before .before .before .before .before .before .before .before .before .before in
     let s = i .before .before .before .before .before .before in
+    let x = s .pre .0 in
     let l = i .before .loop in
     let h : l .p ≤ length (s .args .tokens .now) = omega (arith, i .loop-test .taken) in
-    let context = c .before .before .before .before .before .before .before .before .before .context-at in
-    let set = c .before .before .before .before .before .before .before .set-at .ensures in (
-      going-next (s .pre .0) (l .inv .0) h (context .result) (context .ensures) (set .0) (c .onward .ensures .0) (c .onward .ensures .1),
-      written-next (l .inv .1) (omega (arith, s .pre .1)) (words-here (s .pre .0) (l .inv .0) h (context .result) (context .ensures) (set .1)),
-      choices-next (l .inv .2) (choice-here (s .pre .0) (l .inv .0) h (context .result) (context .ensures) (set .0)) (c .before .before .before .counted .ensures),
+    let context = c .before .before .before .before .before .before .before .before .before .before .context-at in
+    let stands = context .ensures (s .args .head .well) in
+    let set = c .before .before .before .before .before .before .before .before .set-at .ensures in (
+      going-next x (l .inv .0) h (context .result) stands (set .0) (c .onward .ensures .0) (rw (c .before .close-at .ensures) at (c .onward .ensures .1)),
+      written-next (l .inv .1) (omega (arith, s .pre .1)) (words-here x (l .inv .0) h (context .result) stands (set .1)),
+      choices-next (l .inv .2) (choice-here x (l .inv .0) h (context .result) stands (set .0)) (rw (c .before .before .before .before .low-half .ensures) at (c .before .before .before .counted .ensures)),
     )
 
 same-length : tie.Need-same-length Inv-loop μ-loop
@@ -121,7 +129,7 @@ sets-spec =
     (tie.spec
     Inv-loop
     μ-loop
-    element-copy-out-start-set
+    derives-all-requires
     start-set-requires
     loop-holds
     context-at-requires
@@ -133,11 +141,11 @@ sets-spec =
     part-set-at-start
     part-set-at-end
     set-at-requires
-    mul-counted
-    element-copy-out-counted
+    mul-low-half
+    element-copy-out-low-half
+    low-half-requires
     counted-requires
-    mul-onward
-    element-copy-out-onward
+    close-at-requires
     onward-requires
     add-p
     loop-less

@@ -7,8 +7,9 @@ use mathlib.Core.List.{List}
 use borrow.Author.Needs.{needs}
 use lib.ListN.{length, replicate, length-replicate, length-set}
 use Rattle.pair_states.specs.Wide.{wideGrammar}
-use Rattle.stop_marks_core.specs.Stack.{markOf}
-use Rattle.stop_marks_core.proofs.Turns.{Turn, depths, other, first-turn, next-turn, last-turn}
+use Rattle.configurations.proofs.Stacks.{other}
+use Rattle.stop_marks_core.specs.MarkOf.{markOf}
+use Rattle.stop_marks_core.proofs.Turns.{Turn, depths, first-turn, next-turn, last-turn}
 use Rattle.stop_marks_core.proofs.marks.Statement.{statement}
 use Rattle.stop_marks_core.proofs.marks.Tie as tie
 
@@ -29,12 +30,12 @@ loop-holds c =
     let s = c .before .before .before .before in
     let a = s .args in (
       omega arith,
-      first-turn (a .table .now) (a .head) (a .tokens .now) (a .out .now) (c .begin .result) (replicate 128 (replicate 32 0)) (replicate 128 0) (c .begin .ensures) (s .pre .1 .1 .0)
+      first-turn (a .table .now) (a .head) (a .tokens .now) (a .out .now) (s .pre .0) (c .begin .result) (replicate 128 (replicate 32 0)) (replicate 128 0) (c .begin .ensures) (s .pre .1 .1 .0)
           (length-replicate {A = List ℕ} 128 (replicate 32 0)) (length-replicate {A = ℕ} 128 0),
     )
 
-mark-of-requires : tie.Need-mark-of-requires Inv-loop μ-loop
-mark-of-requires c κs = search needs
+mark-in-requires : tie.Need-mark-in-requires Inv-loop μ-loop
+mark-in-requires c κs = c .before .before .before .before .before .before .before .before .pre .0 .ready .start-small
 
 slice-write-out : tie.Need-slice-write-out Inv-loop μ-loop
 slice-write-out c = let l = c .before .before .before .before .loop in omega (arith, l .inv .1 .size)
@@ -69,21 +70,21 @@ loop-again c =
     let s = t .before .before .before .before .before .before in
     let a = s .args in
     let after = c .turn .last .1 .1 .1 in
-    let mark = c .before .before .before .before .before .before .before .mark-of in (
+    let mark = c .before .before .before .before .before .before .before .mark-in in (
       omega arith,
       next-turn (a .table .now) (a .head) (a .tokens .now) (a .out .now) (l .i) (l .depth) _ (l .stack) (l .names) (l .out) (mark .result) (s .pre .1 .1 .1) (l .inv .1) (s .pre .0)
-          (mark .ensures ∙ ap (markOf (l .depth) (cond (l .first) (l .a) (l .b))) (t .before .before .before .ends .ensures))
+          (mark .ensures ∙ ap (λ (e : ℕ). markOf (l .depth) (cond (l .first) (l .a) (l .b)) e (a .head)) (t .before .before .before .ends .ensures))
           (c .turn .result) _ _ _ (t .loop-test .taken) (rw (c .before .before .before .before .before .token-of .ensures, other (l .first) (after .0) (after .1 .0)) at (c .turn .ensures)),
     )
 
-mark-of-requires-2 : tie.Need-mark-of-requires-2 Inv-loop μ-loop
-mark-of-requires-2 c κs = search needs
+mark-in-requires-2 : tie.Need-mark-in-requires-2 Inv-loop μ-loop
+mark-in-requires-2 c κs = c .before .before .before .before .before .before .before .before .pre .0 .ready .start-small
 
 slice-write-out-2 : tie.Need-slice-write-out-2 Inv-loop μ-loop
 slice-write-out-2 c = let l = c .before .before .before .before .loop in omega (arith, l .inv .1 .size)
 
 same-length : tie.Need-same-length Inv-loop μ-loop
-same-length c = let l = c .before .before .before .before .loop in length-set (l .out) (l .i) (c .mark-of2 .result) ∙ l .inv .1 .size
+same-length c = let l = c .before .before .before .before .loop in length-set (l .out) (l .i) (c .mark-in2 .result) ∙ l .inv .1 .size
 
 returns : tie.Need-returns Inv-loop μ-loop
 returns c =
@@ -91,8 +92,8 @@ returns c =
     let l = t .before .loop in
     let s = t .before .before .before .before .before .before in
     let a = s .args in
-    last-turn (a .table .now) (a .head) (a .tokens .now) (a .out .now) (l .i) (l .depth) _ (l .stack) (l .names) (l .out) (c .mark-of2 .result) (s .pre .1 .1 .1) (l .inv .1) (s .pre .0)
-    (c .mark-of2 .ensures ∙ ap (markOf (l .depth) (cond (l .first) (l .a) (l .b))) (t .before .before .before .ends .ensures))
+    last-turn (a .table .now) (a .head) (a .tokens .now) (a .out .now) (l .i) (l .depth) _ (l .stack) (l .names) (l .out) (c .mark-in2 .result) (s .pre .1 .1 .1) (l .inv .1) (s .pre .0)
+    (c .mark-in2 .ensures ∙ ap (λ (e : ℕ). markOf (l .depth) (cond (l .first) (l .a) (l .b)) e (a .head)) (t .before .before .before .ends .ensures))
     (omega arith)
 
 pub marks-spec : {M : Type 1} → statement M
@@ -104,7 +105,7 @@ marks-spec =
     ends-requires
     begin-requires
     loop-holds
-    mark-of-requires
+    mark-in-requires
     slice-write-out
     mul-token-of
     shared-slice-read-token-of
@@ -113,7 +114,7 @@ marks-spec =
     add-i
     loop-less
     loop-again
-    mark-of-requires-2
+    mark-in-requires-2
     slice-write-out-2
     same-length
     returns)
