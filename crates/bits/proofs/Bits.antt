@@ -1,4 +1,4 @@
--- The laws of `bit` and `addBit`, over every width.
+-- The laws of `bit` and `add_bit`, over every width.
 use Prim.Native.Nat.{ℕ, zero, suc, ◌+◌, ◌*◌, ◌-◌, ◌/◌, ◌%◌, ◌^◌, ◌<◌, ◌≤◌}
 use mathlib.Core.Bool.{true, false, ◌||◌, ◌&&◌}
 use mathlib.Core.Path.{◌≡◌, refl, sym, ◌∙◌, ap, ap₂}
@@ -10,15 +10,15 @@ use lib.Dec.{eqb, leb, lit<, eqb-zero-suc, eqb-suc-zero, eqb-suc-suc}
 use lib.Arith.{lt-one}
 use lib.Bits.{bit_and, bit_or, and_shr, and_mod, and_mask, or_shr, or_mod, or_lt}
 use lib.Pow.{pow_pos, pow-lt, pow_mono, shr-shr, shr_lt}
-use Rattle.bits.specs.Bit.{bit, addBit}
+use Rattle.bits.specs.Bit.{bit, add_bit}
 
 -- the empty set has no member
 pub bit-zero : (b : ℕ) → bit 0 b ≡ false
 bit-zero b = rw zero-div
 
 -- a set within a width has no member from there on
-pub bit-above : (k m b : ℕ) → m < 2 ^ k → k ≤ b → bit m b ≡ false
-bit-above k m b h l = rw (div-eq_of_lt (lt_of_lt_of_le h (pow_mono l)))
+pub bit_above : (k m b : ℕ) → m < 2 ^ k → k ≤ b → bit m b ≡ false
+bit_above k m b h l = rw (div-eq_of_lt (lt_of_lt_of_le h (pow_mono l)))
 
 pub bit-first : (m : ℕ) → bit m 0 ≡ eqb (m % 2) 1
 bit-first m = rw div-one
@@ -54,23 +54,23 @@ wide zero = pow_pos 0
 wide (suc n) = omega (arith, wide n, pow-suc 2 n)
 
 -- so two sets with the same members are one number, whatever their widths
-pub same-members : (m n : ℕ) → ((b : ℕ) → bit m b ≡ bit n b) → m ≡ n
-same-members m n e = same (m + n) m n (lt_of_lt_of_le (wide m) (pow_mono (omega arith))) (lt_of_lt_of_le (wide n) (pow_mono (omega arith))) (λ b l. e b)
+pub same_members : (m n : ℕ) → ((b : ℕ) → bit m b ≡ bit n b) → m ≡ n
+same_members m n e = same (m + n) m n (lt_of_lt_of_le (wide m) (pow_mono (omega arith))) (lt_of_lt_of_le (wide n) (pow_mono (omega arith))) (λ b l. e b)
 
-or-digit : (x y : ℕ) → x < 2 → y < 2 → eqb (bit_or x y) 1 ≡ (eqb x 1 || eqb y 1)
-or-digit zero zero h h' = refl
-or-digit zero (suc zero) h h' = refl
-or-digit (suc zero) zero h h' = refl
-or-digit (suc zero) (suc zero) h h' = refl
-or-digit (suc (suc x)) y h h' = absurd (omega arith)
-or-digit zero (suc (suc y)) h h' = absurd (omega arith)
-or-digit (suc zero) (suc (suc y)) h h' = absurd (omega arith)
+or_digit : (x y : ℕ) → x < 2 → y < 2 → eqb (bit_or x y) 1 ≡ (eqb x 1 || eqb y 1)
+or_digit zero zero h h' = refl
+or_digit zero (suc zero) h h' = refl
+or_digit (suc zero) zero h h' = refl
+or_digit (suc zero) (suc zero) h h' = refl
+or_digit (suc (suc x)) y h h' = absurd (omega arith)
+or_digit zero (suc (suc y)) h h' = absurd (omega arith)
+or_digit (suc zero) (suc (suc y)) h h' = absurd (omega arith)
 
 -- the union has the members of both
 pub bit-or : (m n b : ℕ) → bit (bit_or m n) b ≡ (bit m b || bit n b)
 bit-or m n b =
     rw (or_shr m n b, or_mod (m / 2 ^ b) (n / 2 ^ b) 1)
-    (or-digit (m / 2 ^ b % 2) (n / 2 ^ b % 2) (mod-lt (m / 2 ^ b) (lit< tt)) (mod-lt (n / 2 ^ b) (lit< tt)))
+    (or_digit (m / 2 ^ b % 2) (n / 2 ^ b % 2) (mod-lt (m / 2 ^ b) (lit< tt)) (mod-lt (n / 2 ^ b) (lit< tt)))
 
 -- 2 ^ b has the one member b
 pub bit-pow : (b k : ℕ) → bit (2 ^ b) k ≡ eqb k b
@@ -80,27 +80,27 @@ bit-pow (suc b) zero = bit-first (2 ^ suc b) ∙ rw (pow-suc 2 b, mul-mod_left (
 bit-pow (suc b) (suc k) = bit-suc (2 ^ suc b) k ∙ rw (pow-suc 2 b, mul-div_cancel (2 ^ b) (lit< tt), eqb-suc-suc k b) (bit-pow b k)
 
 -- m with b has the members of m, and b
-pub bit-add : (m b k : ℕ) → bit (addBit m b) k ≡ (bit m k || eqb k b)
+pub bit-add : (m b k : ℕ) → bit (add_bit m b) k ≡ (bit m k || eqb k b)
 bit-add m b k = bit-or m (2 ^ b) k ∙ rw bit-pow
 
 -- and stays within the width
-pub add-below : (k m b : ℕ) → m < 2 ^ k → b < k → addBit m b < 2 ^ k
-add-below k m b h l = or_lt k m (2 ^ b) h (pow-lt l)
+pub add_below : (k m b : ℕ) → m < 2 ^ k → b < k → add_bit m b < 2 ^ k
+add_below k m b h l = or_lt k m (2 ^ b) h (pow-lt l)
 
-and-digit : (x y : ℕ) → x < 2 → y < 2 → eqb (bit_and x y) 1 ≡ (eqb x 1 && eqb y 1)
-and-digit zero zero h h' = refl
-and-digit zero (suc zero) h h' = refl
-and-digit (suc zero) zero h h' = refl
-and-digit (suc zero) (suc zero) h h' = refl
-and-digit (suc (suc x)) y h h' = absurd (omega arith)
-and-digit zero (suc (suc y)) h h' = absurd (omega arith)
-and-digit (suc zero) (suc (suc y)) h h' = absurd (omega arith)
+and_digit : (x y : ℕ) → x < 2 → y < 2 → eqb (bit_and x y) 1 ≡ (eqb x 1 && eqb y 1)
+and_digit zero zero h h' = refl
+and_digit zero (suc zero) h h' = refl
+and_digit (suc zero) zero h h' = refl
+and_digit (suc zero) (suc zero) h h' = refl
+and_digit (suc (suc x)) y h h' = absurd (omega arith)
+and_digit zero (suc (suc y)) h h' = absurd (omega arith)
+and_digit (suc zero) (suc (suc y)) h h' = absurd (omega arith)
 
 -- the members in common
 pub bit-and : (m n b : ℕ) → bit (bit_and m n) b ≡ (bit m b && bit n b)
 bit-and m n b =
     rw (and_shr m n b, and_mod (m / 2 ^ b) (n / 2 ^ b) 1)
-    (and-digit (m / 2 ^ b % 2) (n / 2 ^ b % 2) (mod-lt (m / 2 ^ b) (lit< tt)) (mod-lt (n / 2 ^ b) (lit< tt)))
+    (and_digit (m / 2 ^ b % 2) (n / 2 ^ b % 2) (mod-lt (m / 2 ^ b) (lit< tt)) (mod-lt (n / 2 ^ b) (lit< tt)))
 
 -- the set of all numbers below k
 pub bit-all : (k b : ℕ) → b < k → bit (2 ^ k - 1) b ≡ true
@@ -117,8 +117,8 @@ no_member k m h e = same k m 0 h (pow_pos k) (λ b l. e b l ∙ sym (bit-zero b)
 -- ── two sets in one word ──
 
 -- the digits behind the first k are those of the quotient
-pub bit-shift : (k m b : ℕ) → bit (m / 2 ^ k) b ≡ bit m (k + b)
-bit-shift k m b = rw (← shr-shr m k b)
+pub bit_shift : (k m b : ℕ) → bit (m / 2 ^ k) b ≡ bit m (k + b)
+bit_shift k m b = rw (← shr-shr m k b)
 
 twice : (k h : ℕ) → h * 2 ^ suc k ≡ 2 * (h * 2 ^ k)
 twice k h = rw (pow-suc 2 k) (omega arith)
@@ -126,31 +126,31 @@ twice k h = rw (pow-suc 2 k) (omega arith)
 halved : (k m h : ℕ) → (m + h * 2 ^ suc k) / 2 ≡ m / 2 + h * 2 ^ k
 halved k m h = rw (twice k h) (omega arith)
 
-pub joined-low : (k m h b : ℕ) → b < k → bit (m + h * 2 ^ k) b ≡ bit m b
-joined-low zero m h b l = absurd (omega arith)
-joined-low (suc k) m h zero l =
+pub joined_low : (k m h b : ℕ) → b < k → bit (m + h * 2 ^ k) b ≡ bit m b
+joined_low zero m h b l = absurd (omega arith)
+joined_low (suc k) m h zero l =
     let e : (m + 2 * (h * 2 ^ k)) % 2 ≡ m % 2 = omega arith in
     bit-first (m + h * 2 ^ suc k) ∙ rw (twice k h, e) refl ∙ sym (bit-first m)
-joined-low (suc k) m h (suc b) l = bit-suc (m + h * 2 ^ suc k) b ∙ rw (halved k m h) (joined-low k (m / 2) h b (omega arith)) ∙ sym (bit-suc m b)
+joined_low (suc k) m h (suc b) l = bit-suc (m + h * 2 ^ suc k) b ∙ rw (halved k m h) (joined_low k (m / 2) h b (omega arith)) ∙ sym (bit-suc m b)
 
-pub joined-high : (k m h b : ℕ) → m < 2 ^ k → bit (m + h * 2 ^ k) (k + b) ≡ bit h b
-joined-high zero m h b l = let e : m + h * 2 ^ 0 ≡ h = omega (arith, lt-one l) in rw (e, zero-add b)
-joined-high (suc k) m h b l =
+pub joined_high : (k m h b : ℕ) → m < 2 ^ k → bit (m + h * 2 ^ k) (k + b) ≡ bit h b
+joined_high zero m h b l = let e : m + h * 2 ^ 0 ≡ h = omega (arith, lt-one l) in rw (e, zero-add b)
+joined_high (suc k) m h b l =
     let e : suc k + b ≡ suc (k + b) = omega arith in
-    rw (e, bit-suc (m + h * 2 ^ suc k) (k + b), halved k m h) (joined-high k (m / 2) h b (half k m l))
+    rw (e, bit-suc (m + h * 2 ^ suc k) (k + b), halved k m h) (joined_high k (m / 2) h b (half k m l))
 
 -- the first k digits are those of the remainder
 pub bit-mod : (k m b : ℕ) → b < k → bit (m % 2 ^ k) b ≡ bit m b
 bit-mod k m b l =
     let e : m % 2 ^ k + m / 2 ^ k * 2 ^ k ≡ m = omega (arith, div-add-mod' m (2 ^ k)) in
-    sym (joined-low k (m % 2 ^ k) (m / 2 ^ k) b l) ∙ ap (λ (x : ℕ). bit x b) e
+    sym (joined_low k (m % 2 ^ k) (m / 2 ^ k) b l) ∙ ap (λ (x : ℕ). bit x b) e
 
 -- the members from w on
 pub bit-from : (w m b : ℕ) → bit (m / 2 ^ w * 2 ^ w) b ≡ (leb w b && bit m b)
 bit-from w m b = go (dec_lt b w)
   where
     go : Dec (b < w) → bit (m / 2 ^ w * 2 ^ w) b ≡ (leb w b && bit m b)
-    go (yes l) = ap (λ (x : ℕ). bit x b) (sym (zero-add (m / 2 ^ w * 2 ^ w))) ∙ joined-low w 0 (m / 2 ^ w) b l ∙ bit-zero b ∙ rw (lt-leb w b l)
+    go (yes l) = ap (λ (x : ℕ). bit x b) (sym (zero-add (m / 2 ^ w * 2 ^ w))) ∙ joined_low w 0 (m / 2 ^ w) b l ∙ bit-zero b ∙ rw (lt-leb w b l)
     go (no l) =
         let e : b ≡ w + (b - w) = omega arith in
-        rw (le-leb w b (omega arith)) (ap₂ bit (sym (zero-add (m / 2 ^ w * 2 ^ w))) e ∙ joined-high w 0 (m / 2 ^ w) (b - w) (pow_pos w) ∙ bit-shift w m (b - w) ∙ ap (bit m) (sym e))
+        rw (le-leb w b (omega arith)) (ap₂ bit (sym (zero-add (m / 2 ^ w * 2 ^ w))) e ∙ joined_high w 0 (m / 2 ^ w) (b - w) (pow_pos w) ∙ bit_shift w m (b - w) ∙ ap (bit m) (sym e))

@@ -8,5 +8,5 @@ abbrev pub bit : ℕ → ℕ → Bool
 bit m b = eqb (m / 2 ^ b % 2) 1
 
 -- m with digit b set to 1
-abbrev pub addBit : ℕ → ℕ → ℕ
-addBit m b = bit_or m (2 ^ b)
+abbrev pub add_bit : ℕ → ℕ → ℕ
+add_bit m b = bit_or m (2 ^ b)

@@ -1,6 +1,6 @@
 // Sets of small numbers as the binary digits of a word.
 ghost use Rattle.std.specs.Prelude.{◌≡◌, ◌&&◌, ℕ, ◌+◌, ◌*◌, ◌%◌, ◌<◌, ◌≤◌, leb};
-ghost use Rattle.bits.specs.Bit.{bit, addBit};
+ghost use Rattle.bits.specs.Bit.{bit, add_bit};
 
 // Whether b is in the set m: digit b of m is 1.
 pub fn has(m: u32, b: usize) -> bool
@@ -13,7 +13,7 @@ pub fn has(m: u32, b: usize) -> bool
 // The set m with b.
 pub fn with(m: u32, b: usize) -> u32
     requires { b < 32 }
-    ensures { result ≡ addBit m b }
+    ensures { result ≡ add_bit m b }
 {
     m | (1 << b)
 }

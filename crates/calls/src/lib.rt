@@ -1,10 +1,10 @@
 // A whole list of the calls first reading and next reading on one buffer.
 ghost use Rattle.std.specs.Prelude.{◌≡◌, length};
-ghost use Rattle.listing_model.specs.Calls.{callOn};
+ghost use Rattle.listing_model.specs.Calls.{call_on};
 ghost use Rattle.readings.specs.believed.Answers.{said, subject};
-ghost use Rattle.service.specs.believed.Given.{outcomeSaid};
-ghost use Rattle.service.specs.believed.Opened.{filesIn};
-ghost use Rattle.calls.specs.believed.CallList.{code_of, call_of, coded, noRoom, callsDue};
+ghost use Rattle.service.specs.believed.Given.{outcome_said};
+ghost use Rattle.service.specs.believed.Opened.{files_in};
+ghost use Rattle.calls.specs.believed.CallList.{code_of, call_of, coded, no_room_lem, calls_due};
 
 use readings::Answer;
 use service::{Opened, Outcome};
@@ -23,7 +23,7 @@ pub fn code_of(answer: Answer) -> u8
 
 // One call: 0 is first reading, any other number next reading.
 pub fn call(grammar: &[u8], history: &[u8], kind: u8, buffer: &mut [u8]) -> u8
-    ensures { (result, buffer.new) ≡ coded (callOn (subject grammar.now history.now (length buffer.old)) (call_of kind) buffer.old) }
+    ensures { (result, buffer.new) ≡ coded (call_on (subject grammar.now history.now (length buffer.old)) (call_of kind) buffer.old) }
 {
     if kind == 0 {
         return code_of(readings::first_reading(grammar, history, buffer));
@@ -33,7 +33,7 @@ pub fn call(grammar: &[u8], history: &[u8], kind: u8, buffer: &mut [u8]) -> u8
 
 // The number where the answers have no room: a refused file's, else 15.
 fn no_room(grammar: &[u8], history: &[u8]) -> u8
-    ensures { result ≡ noRoom (filesIn grammar.now history.now) }
+    ensures { result ≡ no_room_lem (files_in grammar.now history.now) }
 {
     let mut table = [0u16; 1412];
     let mut tokens = [0u32; 1024];
@@ -52,7 +52,7 @@ pub fn run_calls(
     answers: &mut [u8],
     buffer: &mut [u8],
 ) -> Outcome
-    ensures { (outcomeSaid result, answers.new, buffer.new) ≡ callsDue grammar.now history.now calls.now answers.old buffer.old }
+    ensures { (outcome_said result, answers.new, buffer.new) ≡ calls_due grammar.now history.now calls.now answers.old buffer.old }
 {
     if answers.len() < calls.len() {
         return Outcome::Refused(no_room(grammar, history));

@@ -7,14 +7,14 @@ use mathlib.Core.List.Memᴰ
 use mathlib.Core.List.{List, [], ◌∷◌, Memᴰ}
 use mathlib.Core.Option.{some, some-injective}
 use lib.ListN.{length, take, get_elem?}
-use Rattle.laws.proofs.Lists.{trichotomy, heads, tails, at-below, at_some}
+use Rattle.laws.proofs.Lists.{trichotomy, heads, tails, at_below, at_some}
 use Rattle.vpg.specs.declared.Token.{Token}
 use Rattle.vpg.specs.believed.Grammar.{Grammar, General}
 use Rattle.vpg.specs.believed.Order.{Before, Ascending}
 use Rattle.vpg.specs.Runs.{entries}
-use Rattle.vpg.proofs.Ascends.{entries-ascending}
+use Rattle.vpg.proofs.Ascends.{entries_ascending}
 use Rattle.vpg.proofs.Entries.{entry_length}
-use Rattle.vpg.proofs.Sound.{entries-readings}
+use Rattle.vpg.proofs.Sound.{entries_readings}
 use Rattle.sets_theory.specs.believed.Sets.{Choice}
 use Rattle.choice_theory.specs.Several.{Differ, Neighbours}
 use Rattle.choice_theory.proofs.Choices.{choice-first}
@@ -51,12 +51,12 @@ later x [] p h = absurd h
 later x (y ∷ l) p h = inr h
 
 -- from a list to one behind it that first differs from it at p: on the way two neighbours do so
-from-head : (p n : ℕ) (x : List ℕ) (l : List (List ℕ)) (f : List ℕ) → Ascending (x ∷ l) → Even n (x ∷ l) → Memᴰ f l → Differ x f p → Neighbours (x ∷ l) p
-from-head p n x [] f a long m d = absurd (Memᴰ.not-nil m)
-from-head p n x (y ∷ l) f a long m d = go (Memᴰ.cases_cons m) (from-head p n y l f a.1 (λ e k. long e (Memᴰ.tail k)))
+from_head : (p n : ℕ) (x : List ℕ) (l : List (List ℕ)) (f : List ℕ) → Ascending (x ∷ l) → Even n (x ∷ l) → Memᴰ f l → Differ x f p → Neighbours (x ∷ l) p
+from_head p n x [] f a long m d = absurd (Memᴰ.not-nil m)
+from_head p n x (y ∷ l) f a long m d = go (Memᴰ.cases_cons m) (from_head p n y l f a.1 (λ e k. long e (Memᴰ.tail k)))
   where
     there : (r : ℕ) × (get_elem? y p ≡ some r)
-    there = at_some y p (omega (arith, at-below x p d.one_at, long x (Memᴰ.head refl), long y (Memᴰ.tail (Memᴰ.head refl))))
+    there = at_some y p (omega (arith, at_below x p d.one_at, long x (Memᴰ.head refl), long y (Memᴰ.tail (Memᴰ.head refl))))
 
     go : (f ≡ y) ⊎ Memᴰ f l → (Memᴰ f l → Differ y f p → Neighbours (y ∷ l) p) → Neighbours (x ∷ y ∷ l) p
     go (inl q) on = inl (rw q at d)
@@ -79,8 +79,8 @@ any-two p n (x ∷ l) e f a long m k d = go (Memᴰ.cases_cons m) (Memᴰ.cases_
   where
     go : (e ≡ x) ⊎ Memᴰ e l → (f ≡ x) ⊎ Memᴰ f l → (Memᴰ e l → Memᴰ f l → Differ e f p → Neighbours l p) → Neighbours (x ∷ l) p
     go (inl i) (inl j) on = absurd (d.differ (some-injective d.one d.other (sym d.one_at ∙ ap (λ (z : List ℕ). get_elem? z p) (i ∙ sym j) ∙ d.other_at)))
-    go (inl i) (inr k) on = from-head p n x l f a long k (rw i at d)
-    go (inr m) (inl j) on = from-head p n x l e a long m (rw j at (other_way d))
+    go (inl i) (inr k) on = from_head p n x l f a long k (rw i at d)
+    go (inr m) (inl j) on = from_head p n x l e a long m (rw j at (other_way d))
     go (inr m) (inr k) on = later x l p (on m k d)
 
 -- the two
@@ -88,26 +88,26 @@ record Two (l : List (List ℕ)) (p : ℕ) : Type 0 where
   one : List ℕ
   other : List ℕ
   one_in : Memᴰ one l
-  other-in : Memᴰ other l
+  other_in : Memᴰ other l
   apart : Differ one other p
 
-two-of : (l : List (List ℕ)) (p : ℕ) → Neighbours l p → Two l p
-two-of [] p h = absurd h
-two-of (e ∷ []) p h = absurd h
-two-of (e ∷ f ∷ l) p (inl d) = record { one = e; other = f; one_in = Memᴰ.head refl; other-in = Memᴰ.tail (Memᴰ.head refl); apart = d }
-two-of (e ∷ f ∷ l) p (inr h) =
-    let t = two-of (f ∷ l) p h in
-    record { one = t.one; other = t.other; one_in = Memᴰ.tail t.one_in; other-in = Memᴰ.tail t.other-in; apart = t.apart }
+two_of : (l : List (List ℕ)) (p : ℕ) → Neighbours l p → Two l p
+two_of [] p h = absurd h
+two_of (e ∷ []) p h = absurd h
+two_of (e ∷ f ∷ l) p (inl d) = record { one = e; other = f; one_in = Memᴰ.head refl; other_in = Memᴰ.tail (Memᴰ.head refl); apart = d }
+two_of (e ∷ f ∷ l) p (inr h) =
+    let t = two_of (f ∷ l) p h in
+    record { one = t.one; other = t.other; one_in = Memᴰ.tail t.one_in; other_in = Memᴰ.tail t.other_in; apart = t.apart }
 
-pub choice-neighbours : (g : Grammar) → General g.well g.rules → (w : List Token) (p : ℕ) → Choice g w p ↔ Neighbours (entries g w) p
-choice-neighbours g ok w p = (listed, chosen)
+pub choice_neighbours : (g : Grammar) → General g.well g.rules → (w : List Token) (p : ℕ) → Choice g w p ↔ Neighbours (entries g w) p
+choice_neighbours g ok w p = (listed, chosen)
   where
     listed : Choice g w p → Neighbours (entries g w) p
     listed c =
         let (e, f, a, b, d) = (choice-first g w ok p).0 c in
-        any-two p (suc (length w)) (entries g w) e f (entries-ascending g w) (entry_length g w) ((entries-readings g w e).1 a) ((entries-readings g w f).1 b) d
+        any-two p (suc (length w)) (entries g w) e f (entries_ascending g w) (entry_length g w) ((entries_readings g w e).1 a) ((entries_readings g w f).1 b) d
 
     chosen : Neighbours (entries g w) p → Choice g w p
     chosen h =
-        let t = two-of (entries g w) p h in
-        (choice-first g w ok p).1 (t.one, t.other, (entries-readings g w t.one).0 t.one_in, (entries-readings g w t.other).0 t.other-in, t.apart)
+        let t = two_of (entries g w) p h in
+        (choice-first g w ok p).1 (t.one, t.other, (entries_readings g w t.one).0 t.one_in, (entries_readings g w t.other).0 t.other_in, t.apart)

@@ -11,19 +11,19 @@ use Rattle.vpg.specs.declared.Rule.{Rule}
 use Rattle.vpg.specs.declared.Token.{Token}
 use Rattle.vpg.specs.believed.Grammar.{Rules, General, left}
 use Rattle.vpg.specs.Runs.{Stack, State, runs}
-use Rattle.vpg.proofs.Take.{Move, by-empty, by_next, by-step, moves, Taken, taken, ended, end}
+use Rattle.vpg.proofs.Take.{Move, by_empty, by_next, by_step, moves, Taken, taken, ended, end}
 use Rattle.vpg.proofs.Take as step
 use Rattle.level_theory.specs.Masks.{masks, Calm}
-use Rattle.level_theory.proofs.Alive.{applies-goes, goes-applies, calm-on, run_fits, fits-run}
+use Rattle.level_theory.proofs.Alive.{applies_goes, goes_applies, calm_on, run_fits, fits_run}
 use Rattle.choice_theory.specs.Several.{Differ}
 
 -- ── lists ──
 
-pub differ-somewhere : (e f : List ℕ) → length e ≡ length f → e ≢ f → (p : ℕ) × Differ e f p
-differ-somewhere [] [] l d = absurd (d refl)
-differ-somewhere [] (y ∷ f) l d = absurd (omega (arith, l))
-differ-somewhere (x ∷ e) [] l d = absurd (omega (arith, l))
-differ-somewhere (x ∷ e) (y ∷ f) l d = go (trichotomy x y) (differ-somewhere e f (omega (arith, l)))
+pub differ_somewhere : (e f : List ℕ) → length e ≡ length f → e ≢ f → (p : ℕ) × Differ e f p
+differ_somewhere [] [] l d = absurd (d refl)
+differ_somewhere [] (y ∷ f) l d = absurd (omega (arith, l))
+differ_somewhere (x ∷ e) [] l d = absurd (omega (arith, l))
+differ_somewhere (x ∷ e) (y ∷ f) l d = go (trichotomy x y) (differ_somewhere e f (omega (arith, l)))
   where
     here : x ≢ y → (p : ℕ) × Differ (x ∷ e) (y ∷ f) p
     here n = (0, record { one = x; other = y; before = refl; one_at = refl; other_at = refl; differ = n })
@@ -42,9 +42,9 @@ abbrev pub For : Rules → ℕ → ℕ → Type 0
 For g r L = (R : Rule) × (get_elem? g r ≡ some R) × (left R ≡ L)
 
 move-left : {R : Rule} {L : ℕ} {s : Stack} {t : Token} {L' : ℕ} {s' : Stack} → Move R L s t L' s' → left R ≡ L
-move-left by-empty = refl
+move-left by_empty = refl
 move-left by_next = refl
-move-left by-step = refl
+move-left by_step = refl
 
 -- by one rule there is one way on
 one_way : (g : Rules) {r r' : ℕ} {R R' : Rule} {L : ℕ} {s : Stack} {t : Token} (x y : State) → r ≡ r' → get_elem? g r ≡ some R → get_elem? g r' ≡ some R' →
@@ -54,20 +54,20 @@ one_way g {R} {R'} x y q e e' m m' =
     some-injective x y (sym (moves m) ∙ rw same (moves m'))
 
 -- the first rule of a run is for the nonterminal from which it runs
-head-for : (g : Rules) (w : List Token) (L : ℕ) (s : Stack) (e : List ℕ) (r : ℕ) → Memᴰ e (runs g (L, s) w) → get_elem? e 0 ≡ some r → For g r L
-head-for g [] L s e r m a =
+head_for : (g : Rules) (w : List Token) (L : ℕ) (s : Stack) (e : List ℕ) (r : ℕ) → Memᴰ e (runs g (L, s) w) → get_elem? e 0 ≡ some r → For g r L
+head_for g [] L s e r m a =
     let h = ended g L s e m in
     (Rule.Empty L, rw (some-injective h.number r (rw h.shape at a)) at h.is, refl)
-head-for g (t ∷ w) L s e r m a =
+head_for g (t ∷ w) L s e r m a =
     let h = taken g L s t w e m in
     (h.rule, rw (some-injective h.number r (rw h.shape at a)) at h.is, move-left h.goes)
 
 -- where two runs are the same up to a position, what is left to derive there is the same, so both have rules of one nonterminal there
-pub same-for : (g : Rules) (w : List Token) (L : ℕ) (s : Stack) (e f : List ℕ) (p r r' : ℕ) → Memᴰ e (runs g (L, s) w) → Memᴰ f (runs g (L, s) w) →
+pub same_for : (g : Rules) (w : List Token) (L : ℕ) (s : Stack) (e f : List ℕ) (p r r' : ℕ) → Memᴰ e (runs g (L, s) w) → Memᴰ f (runs g (L, s) w) →
     take p e ≡ take p f → get_elem? e p ≡ some r → get_elem? f p ≡ some r' → (K : ℕ) × For g r K × For g r' K
-same-for g w L s e f zero r r' m m' q a b = (L, head-for g w L s e r m a, head-for g w L s f r' m' b)
-same-for g [] L s e f (suc p) r r' m m' q a b = absurd (none-ne-some r (rw (ended g L s e m).shape at a))
-same-for g (t ∷ w) L s e f (suc p) r r' m m' q a b = go (taken g L s t w e m) (taken g L s t w f m') (λ K z x y. same-for g w K z x y p r r')
+same_for g w L s e f zero r r' m m' q a b = (L, head_for g w L s e r m a, head_for g w L s f r' m' b)
+same_for g [] L s e f (suc p) r r' m m' q a b = absurd (none-ne-some r (rw (ended g L s e m).shape at a))
+same_for g (t ∷ w) L s e f (suc p) r r' m m' q a b = go (taken g L s t w e m) (taken g L s t w f m') (λ K z x y. same_for g w K z x y p r r')
   where
     On : Type 0
     On = (K : ℕ) (z : Stack) (x y : List ℕ) → Memᴰ x (runs g (K, z) w) → Memᴰ y (runs g (K, z) w) → take p x ≡ take p y → get_elem? x p ≡ some r → get_elem? y p ≡ some r' → (M : ℕ) × For g r M × For g r' M
@@ -88,38 +88,38 @@ pub record Instead (g : Rules) (w : List Token) (L : ℕ) (s : Stack) (e : List 
   pub at : get_elem? numbers p ≡ some r
 
 -- a rule is for one nonterminal
-one-for : (g : Rules) (r K L : ℕ) → For g r K → For g r L → K ≡ L
-one-for g r K L (R, e, q) (R', e', q') = sym q ∙ ap left (some-injective R R' (sym e ∙ e')) ∙ q'
+one_for : (g : Rules) (r K L : ℕ) → For g r K → For g r L → K ≡ L
+one_for g r K L (R, e, q) (R', e', q') = sym q ∙ ap left (some-injective R R' (sym e ∙ e')) ∙ q'
 
--- W: the well-matched nonterminals are those below it
+-- W: the well_matched nonterminals are those below it
 module _ (W : ℕ) (g : Rules) (ok : General W g) where
   -- at the first position, where both run from the same nonterminal
-  instead-here : (w : List Token) (L : ℕ) (s : Stack) (e : List ℕ) (s' : Stack) (f : List ℕ) (r : ℕ) → Calm W L s → Calm W L s' →
+  instead_here : (w : List Token) (L : ℕ) (s : Stack) (e : List ℕ) (s' : Stack) (f : List ℕ) (r : ℕ) → Calm W L s → Calm W L s' →
       Memᴰ e (runs g (L, s) w) → Memᴰ f (runs g (L, s') w) → get_elem? f 0 ≡ some r → Instead g w L s e 0 r
-  instead-here [] L s e s' f r c c' m m' b =
+  instead_here [] L s e s' f r c c' m m' b =
       let k = ended g L s' f m' in
       record { numbers = k.number ∷ []; run = rw (ended g L s e m).done (end g k.is); before = refl; at = rw k.shape at b }
-  instead-here (t ∷ w) L s e s' f r c c' m m' b =
+  instead_here (t ∷ w) L s e s' f r c c' m m' b =
       let h = taken g L s t w e m in
       let k = taken g L s' t w f m' in
       let ah = ok h.number h.rule h.is in
       let ak = ok k.number k.rule k.is in
-      let mine = goes-applies W (masks W g w) ah c h.goes (run_fits W g ok w h.nonterminal h.due (calm-on W ah h.goes c) h.rest h.run) in
-      let its = goes-applies W (masks W g w) ak c' k.goes (run_fits W g ok w k.nonterminal k.due (calm-on W ak k.goes c') k.rest k.run) in
-      let way = applies-goes W (masks W g w) t k.rule s ak (rw its.from mine.match) its.applied in
-      let (x, run) = fits-run W g ok w way.nonterminal way.due way.fits in
+      let mine = goes_applies W (masks W g w) ah c h.goes (run_fits W g ok w h.nonterminal h.due (calm_on W ah h.goes c) h.rest h.run) in
+      let its = goes_applies W (masks W g w) ak c' k.goes (run_fits W g ok w k.nonterminal k.due (calm_on W ak k.goes c') k.rest k.run) in
+      let way = applies_goes W (masks W g w) t k.rule s ak (rw its.from mine.match) its.applied in
+      let (x, run) = fits_run W g ok w way.nonterminal way.due way.fits in
       record { numbers = k.number ∷ x; run = rw its.from at (step.take g w k.is way.goes run); before = refl; at = rw k.shape at b }
 
   -- a rule that some run has at a position can stand there in any other that has a rule of the same nonterminal there: what it needs is decided
-  -- within its level, or, for a nonterminal that is no well-matched one, within all that is left, and what is due behind the level stays as it was
+  -- within its level, or, for a nonterminal that is no well_matched one, within all that is left, and what is due behind the level stays as it was
   pub instead : (w : List Token) (L : ℕ) (s : Stack) (e : List ℕ) (L' : ℕ) (s' : Stack) (f : List ℕ) (p r r' K : ℕ) → Calm W L s → Calm W L' s' →
       Memᴰ e (runs g (L, s) w) → Memᴰ f (runs g (L', s') w) → get_elem? e p ≡ some r → get_elem? f p ≡ some r' → For g r K → For g r' K → Instead g w L s e p r'
   instead w L s e L' s' f zero r r' K c c' m m' a b x y =
-      let same : L ≡ L' = sym (one-for g r K L x (head-for g w L s e r m a)) ∙ one-for g r' K L' y (head-for g w L' s' f r' m' b) in
-      instead-here w L s e s' f r' c (rw same c') m (rw same m') b
+      let same : L ≡ L' = sym (one_for g r K L x (head_for g w L s e r m a)) ∙ one_for g r' K L' y (head_for g w L' s' f r' m' b) in
+      instead_here w L s e s' f r' c (rw same c') m (rw same m') b
   instead [] L s e L' s' f (suc p) r r' K c c' m m' a b x y = absurd (none-ne-some r (rw (ended g L s e m).shape at a))
   instead (t ∷ w) L s e L' s' f (suc p) r r' K c c' m m' a b x y =
       let h = taken g L s t w e m in
       let k = taken g L' s' t w f m' in
-      let z = instead w h.nonterminal h.due h.rest k.nonterminal k.due k.rest p r r' K (calm-on W (ok h.number h.rule h.is) h.goes c) (calm-on W (ok k.number k.rule k.is) k.goes c') h.run k.run (rw h.shape at a) (rw k.shape at b) x y in
+      let z = instead w h.nonterminal h.due h.rest k.nonterminal k.due k.rest p r r' K (calm_on W (ok h.number h.rule h.is) h.goes c) (calm_on W (ok k.number k.rule k.is) k.goes c') h.run k.run (rw h.shape at a) (rw k.shape at b) x y in
       record { numbers = h.number ∷ z.numbers; run = step.take g w h.is h.goes z.run; before = ap (λ (l : List ℕ). h.number ∷ l) z.before ∙ sym (ap (take (suc p)) h.shape); at = z.at }

@@ -1,6 +1,6 @@
 -- More than one reading, and where two readings differ first (document 02, 2.5).
 -- Law: several-count, choice-first (choice_theory/proofs/Choices.antt)
--- Law: choice-neighbours (choice_theory/proofs/Neighbours.antt)
+-- Law: choice_neighbours (choice_theory/proofs/Neighbours.antt)
 use Rattle.std.specs.Prelude.{ℕ, ◌≡◌, ◌⊎◌, ◌≢◌, List, [], ◌∷◌, take}
 use Rattle.std.proofs.Math.Option.{some}
 use Rattle.std.proofs.Math.ListN.{get_elem?}

@@ -2,16 +2,16 @@
 use Prim.Native.Nat.{ℕ, zero, suc, ◌<◌, ◌≤◌}
 use native.Mathlib.Omega.{arith}
 use mathlib.Core.Path.{◌≡◌, refl}
-use Rattle.pair_theory.specs.Depth.{openAfter}
-use Rattle.history_file.specs.believed.HistoryFile.{kind, tokenWith, tokenOf, depthAfter}
+use Rattle.pair_theory.specs.Depth.{open_after}
+use Rattle.history_file.specs.believed.HistoryFile.{kind, token_with, token_of, depth_after}
 
 -- both ways to count the open steps agree
 pub record Counts (t d : ℕ) : Type 0 where
-  pub same : depthAfter t d ≡ openAfter (tokenOf t) d
-  pub most : (kind t ≡ 1 → d < 128) → d ≤ 128 → depthAfter t d ≤ 128
+  pub same : depth_after t d ≡ open_after (token_of t) d
+  pub most : (kind t ≡ 1 → d < 128) → d ≤ 128 → depth_after t d ≤ 128
 
 pub counts : (t d : ℕ) → kind t < 3 → Counts t d
-unfolding depthAfter tokenOf tokenWith
+unfolding depth_after token_of token_with
 counts t d h = go (kind t) refl h
   where
     go : (k : ℕ) → kind t ≡ k → k < 3 → Counts t d

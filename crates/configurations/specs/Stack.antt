@@ -2,11 +2,11 @@
 -- Inner: turn (configurations/src/lib.rt)
 use Rattle.std.specs.Prelude.{ℕ, zero, suc, ◌≡◌, List, [], ◌∷◌, length, get_or}
 use Rattle.vpg.specs.declared.Token.{Token}
-use Rattle.pair_theory.specs.Depth.{openAfter}
+use Rattle.pair_theory.specs.Depth.{open_after}
 use Rattle.pair_theory.specs.Pairs.{PairStack, Configuration, derivative}
 use Rattle.tables.specs.declared.Head.{Head}
 use Rattle.pair_states.specs.Encodes.{Encodes}
-use Rattle.pair_states.specs.Wide.{wideGrammar}
+use Rattle.pair_states.specs.Wide.{wide_grammar}
 
 -- the first d states, and the names beside them, are the stack, its top last
 abbrev pub Saved : List (List ℕ) → List ℕ → ℕ → PairStack → Type 0
@@ -22,7 +22,7 @@ pub record Holds (d : ℕ) (rows : List ℕ) (stack : List (List ℕ)) (names : 
 
 -- over the token t: whatever configuration the words were before, they are its derivative now; the arrays are as long as before
 pub record StepHolds (table : List ℕ) (head : Head) (t : Token) (d : ℕ) (rows : List ℕ) (stack : List (List ℕ)) (names : List ℕ) (d' : ℕ) (rows' : List ℕ) (stack' : List (List ℕ)) (names' : List ℕ) : Type 0 where
-  pub holds : (x : Configuration) → Holds d rows stack names x → Holds d' rows' stack' names' (derivative (wideGrammar table head) t x)
-  pub steps-open : d' ≡ openAfter t d
-  pub stack-size : length stack' ≡ 128
+  pub holds : (x : Configuration) → Holds d rows stack names x → Holds d' rows' stack' names' (derivative (wide_grammar table head) t x)
+  pub steps_open : d' ≡ open_after t d
+  pub stack_size : length stack' ≡ 128
   pub names-size : length names' ≡ 128

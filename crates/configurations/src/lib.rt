@@ -1,7 +1,7 @@
 // Configurations of pair states (Definitions 4.1 and 4.2 of the paper) over a token: a state, and for each open the state before it.
 // The states before and after a token are two arrays that take turns: the 32 words are copied at an open alone.
 ghost use Rattle.std.specs.Prelude.{◌≡◌, cond, ◌≤◌, length};
-ghost use Rattle.pair_theory.specs.Depth.{openAfter};
+ghost use Rattle.pair_theory.specs.Depth.{open_after};
 ghost use Rattle.rule_index.specs.Index.{Indexed};
 ghost use Rattle.configurations.specs.Stack.{StepHolds};
 
@@ -60,7 +60,7 @@ fn step(
     names: &mut Names,
 ) -> usize
     requires indexed { Indexed table.now top.head }
-    requires depth_bound { (top.depth ≤ 128) × (openAfter token top.depth ≤ 128) }
+    requires depth_bound { (top.depth ≤ 128) × (open_after token top.depth ≤ 128) }
     requires stack_len { (length stack.old ≡ 128) × (length names.old ≡ 128) }
     ensures { StepHolds table.now top.head token top.depth rows.now stack.old names.old result out.new stack.new names.new }
 {
@@ -93,7 +93,7 @@ pub fn turn(
     names: &mut Names,
 ) -> usize
     requires indexed { Indexed table.now top.head }
-    requires depth_bound { (top.depth ≤ 128) × (openAfter token top.depth ≤ 128) }
+    requires depth_bound { (top.depth ≤ 128) × (open_after token top.depth ≤ 128) }
     requires stack_len { (length stack.old ≡ 128) × (length names.old ≡ 128) }
     ensures { StepHolds table.now top.head token top.depth (cond top.first a.old b.old) stack.old names.old result (cond top.first b.new a.new) stack.new names.new }
 {

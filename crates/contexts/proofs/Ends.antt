@@ -1,5 +1,5 @@
 -- At the end the nonterminals of the rules that can stand there are those that have an empty rule: the word that the index has of them. At a close
--- the well-matched ones among them are there from the start, and the rules of the close's class add the others.
+-- the well_matched ones among them are there from the start, and the rules of the close's class add the others.
 use Prim.Native.Nat.{ℕ, zero, suc, ◌<◌, ◌≤◌}
 use native.Mathlib.Nat.{eq-or-lt_of_le, le_of_suc-le-suc}
 use native.Mathlib.Omega.{arith}
@@ -11,34 +11,34 @@ use native.Mathlib.Decide.{dec_lt}
 use borrow.Author.Tests.{eqb-true, ltb-true, ltb-false, lt-ltb, le-ltb, le-leb, lt-leb, leb-true, ne_eqb}
 use lib.Dec.{eqb, ltb, leb}
 use Rattle.laws.proofs.Bools.{and_left, and_right, both, or_cases, same_test, eqb_refl}
-use Rattle.bits.specs.Bit.{bit, addBit}
-use Rattle.bits.proofs.Bits.{bit-zero, bit-add, same-members}
+use Rattle.bits.specs.Bit.{bit, add_bit}
+use Rattle.bits.proofs.Bits.{bit-zero, bit-add, same_members}
 use Rattle.vpg.specs.declared.Rule.{Rule}
 use Rattle.vpg.specs.believed.Grammar.{left}
-use Rattle.vpg.specs.Tests.{anyClose}
+use Rattle.vpg.specs.Tests.{any_close}
 use Rattle.level_theory.proofs.Alive.{some-lefts}
 use Rattle.tables.specs.declared.Head.{Head}
-use Rattle.tables.specs.Table.{ruleIn, rulesIn}
-use Rattle.tables.proofs.Tables.{rules-at}
+use Rattle.tables.specs.Table.{rule_in, rules_in}
+use Rattle.tables.proofs.Tables.{rules_at}
 use Rattle.tables.specs.Ready.{Ready}
 use Rattle.rule_index.specs.Classes.{class_at, class_of}
-use Rattle.rule_index.specs.Index.{FirstEmpty, Indexed, end_in, endsIn, lowEndsIn}
-use Rattle.rule_index.proofs.Classes.{Ends, stands-class, low-class}
-use Rattle.history_file.specs.believed.HistoryFile.{tokenWith}
+use Rattle.rule_index.specs.Index.{FirstEmpty, Indexed, end_in, ends_in, low_ends_in}
+use Rattle.rule_index.proofs.Classes.{Ends, stands_class, low_class}
+use Rattle.history_file.specs.believed.HistoryFile.{token_with}
 use Rattle.contexts.specs.declared.Context.{Context}
-use Rattle.contexts.specs.Context.{tokenHere, lowHere, mayEnd, insideHere, afterClose, appliesTo, base_of, withLeft, levelIn}
+use Rattle.contexts.specs.Context.{token_here, low_here, may_end, inside_here, after_close, applies_to, base_of, with_left, level_in}
 use Rattle.contexts.proofs.Contexts.{with-bit, level-bit}
 
 -- every kind but those of marks and opens is that of closes
-pub close-kind : (p : Context) → 2 ≤ p.kind → anyClose (tokenHere p) ≡ true
-unfolding tokenWith
-close-kind p h = rw (ne_eqb p.kind 0 (λ e. omega arith), ne_eqb p.kind 1 (λ e. omega arith))
+pub close_kind : (p : Context) → 2 ≤ p.kind → any_close (token_here p) ≡ true
+unfolding token_with
+close_kind p h = rw (ne_eqb p.kind 0 (λ e. omega arith), ne_eqb p.kind 1 (λ e. omega arith))
 
-close-only : (p : Context) → anyClose (tokenHere p) ≡ true → 2 ≤ p.kind
-unfolding tokenWith
-close-only p e = go p.kind e
+close_only : (p : Context) → any_close (token_here p) ≡ true → 2 ≤ p.kind
+unfolding token_with
+close_only p e = go p.kind e
   where
-    go : (k : ℕ) → anyClose (tokenWith k p.name) ≡ true → 2 ≤ k
+    go : (k : ℕ) → any_close (token_with k p.name) ≡ true → 2 ≤ k
     go zero e = absurd (false≢true e)
     go (suc zero) e = absurd (false≢true e)
     go (suc (suc k)) e = omega arith
@@ -51,40 +51,40 @@ or_assoc false b c = refl
 
 -- rule R is for L and can stand here
 abbrev pub FitsHere : ℕ → Context → Rule → ℕ → Bool
-FitsHere W p R L = eqb (left R) L && appliesTo W R p
+FitsHere W p R L = eqb (left R) L && applies_to W R p
 
 -- where L can only end, its rules that can stand are empty
-pub ends-only : (W : ℕ) (p : Context) (R : Rule) (L : ℕ) → mayEnd W p L ≡ true → FitsHere W p R L ≡ true → R ≡ Rule.Empty L
+pub ends-only : (W : ℕ) (p : Context) (R : Rule) (L : ℕ) → may_end W p L ≡ true → FitsHere W p R L ≡ true → R ≡ Rule.Empty L
 ends-only W p R L m e =
     let s = eqb-true (left R) L (and_left _ _ e) in
-    let w = and_right (leb 2 p.kind) (lowHere W p L) m in
-    let o = close-kind p (leb-true 2 p.kind (and_left _ _ m)) in
-    low-class (lowHere W p (left R)) (insideHere p) (afterClose p) (tokenHere p) R (ap (lowHere W p) s ∙ w) o (and_right (eqb (left R) L) (appliesTo W R p) e) ∙ ap Rule.Empty s
+    let w = and_right (leb 2 p.kind) (low_here W p L) m in
+    let o = close_kind p (leb-true 2 p.kind (and_left _ _ m)) in
+    low_class (low_here W p (left R)) (inside_here p) (after_close p) (token_here p) R (ap (low_here W p) s ∙ w) o (and_right (eqb (left R) L) (applies_to W R p) e) ∙ ap Rule.Empty s
 
-pub ends-stand : (W : ℕ) (p : Context) (R : Rule) (L : ℕ) → mayEnd W p L ≡ true → R ≡ Rule.Empty L → FitsHere W p R L ≡ true
-ends-stand W p R L m e = rw e (both (eqb_refl L) (both (and_right (leb 2 p.kind) (lowHere W p L) m) (close-kind p (leb-true 2 p.kind (and_left _ _ m)))))
+pub ends_stand : (W : ℕ) (p : Context) (R : Rule) (L : ℕ) → may_end W p L ≡ true → R ≡ Rule.Empty L → FitsHere W p R L ≡ true
+ends_stand W p R L m e = rw e (both (eqb_refl L) (both (and_right (leb 2 p.kind) (low_here W p L) m) (close_kind p (leb-true 2 p.kind (and_left _ _ m)))))
 
 -- where it can't, a rule of another class doesn't fit
-pub other-class : (W : ℕ) (p : Context) (R : Rule) (L : ℕ) → mayEnd W p L ≡ false → class_of R ≢ class_at (tokenHere p) → FitsHere W p R L ≡ false
-other-class W p R L m d = go (FitsHere W p R L) refl
+pub other_class : (W : ℕ) (p : Context) (R : Rule) (L : ℕ) → may_end W p L ≡ false → class_of R ≢ class_at (token_here p) → FitsHere W p R L ≡ false
+other_class W p R L m d = go (FitsHere W p R L) refl
   where
     go : (b : Bool) → FitsHere W p R L ≡ b → b ≡ false
     go false e = refl
     go true e =
         let s = eqb-true (left R) L (and_left _ _ e) in
-        ⊎_elim (λ k. absurd (d k.class)) (λ k. absurd (false≢true (sym m ∙ both (le-leb 2 p.kind (close-only p k.closes)) (sym (ap (lowHere W p) s) ∙ k.well))))
-        (stands-class (lowHere W p (left R)) (insideHere p) (afterClose p) (tokenHere p) R (and_right (eqb (left R) L) (appliesTo W R p) e))
+        ⊎_elim (λ k. absurd (d k.class)) (λ k. absurd (false≢true (sym m ∙ both (le-leb 2 p.kind (close_only p k.closes)) (sym (ap (low_here W p) s) ∙ k.well))))
+        (stands_class (low_here W p (left R)) (inside_here p) (after_close p) (token_here p) R (and_right (eqb (left R) L) (applies_to W R p) e))
 
 -- at the end
-pub end-ends : (W : ℕ) (p : Context) → 4 ≤ p.kind → (L : ℕ) → mayEnd W p L ≡ true
-end-ends W p h L = both (le-leb 2 p.kind (omega arith)) (rw (le-leb 4 p.kind h))
+pub end_ends : (W : ℕ) (p : Context) → 4 ≤ p.kind → (L : ℕ) → may_end W p L ≡ true
+end_ends W p h L = both (le-leb 2 p.kind (omega arith)) (rw (le-leb 4 p.kind h))
 
 -- no rule of a ready table is for a nonterminal from 32 on
 pub none_above : {t : List ℕ} {head : Head} → Ready t head → (L : ℕ) → 32 ≤ L → FirstEmpty t head.rules L head.rules
 none_above {t} {head} x L h = record {
   most = omega arith;
   found = λ l. absurd (omega arith);
-  none = λ q l e. absurd (let s : left (ruleIn t q) ≡ L = ap left e in omega (arith, (x.small q l).0));
+  none = λ q l e. absurd (let s : left (rule_in t q) ≡ L = ap left e in omega (arith, (x.small q l).0));
 }
 
 -- ── the level at the end ──
@@ -92,13 +92,13 @@ none_above {t} {head} x L h = record {
 module _ (W : ℕ) (t : List ℕ) (head : Head) (p : Context) (close : 4 ≤ p.kind) where
   -- rule q is for L and can stand here
   abbrev Fits : ℕ → ℕ → Bool
-  Fits q L = eqb (left (ruleIn t q)) L && appliesTo W (ruleIn t q) p
+  Fits q L = eqb (left (rule_in t q)) L && applies_to W (rule_in t q) p
 
-  pub empty-fits : (q L : ℕ) → ruleIn t q ≡ Rule.Empty L → Fits q L ≡ true
-  empty-fits q L = ends-stand W p (ruleIn t q) L (end-ends W p close L)
+  pub empty_fits : (q L : ℕ) → rule_in t q ≡ Rule.Empty L → Fits q L ≡ true
+  empty_fits q L = ends_stand W p (rule_in t q) L (end_ends W p close L)
 
-  pub fits-empty : (q L : ℕ) → Fits q L ≡ true → ruleIn t q ≡ Rule.Empty L
-  fits-empty q L = ends-only W p (ruleIn t q) L (end-ends W p close L)
+  pub fits_empty : (q L : ℕ) → Fits q L ≡ true → rule_in t q ≡ Rule.Empty L
+  fits_empty q L = ends-only W p (rule_in t q) L (end_ends W p close L)
 
   -- e, the first empty rule of L, is one of the first n + 1 rules
   one_more : (L e : ℕ) → FirstEmpty t head.rules L e → (n : ℕ) → n < head.rules → (ltb e n || Fits n L) ≡ ltb e (suc n)
@@ -107,7 +107,7 @@ module _ (W : ℕ) (t : List ℕ) (head : Head) (p : Context) (close : 4 ≤ p.k
       (λ a. back (eq-or-lt_of_le (le_of_suc-le-suc (ltb-true e (suc n) a))))
     where
       reached : Fits n L ≡ true → (b : Bool) → ltb n e ≡ b → ltb e (suc n) ≡ true
-      reached a true l = absurd (f.none n (ltb-true n e l) (fits-empty n L a))
+      reached a true l = absurd (f.none n (ltb-true n e l) (fits_empty n L a))
       reached a false l = lt-ltb e (suc n) (omega (arith, ltb-false n e l))
 
       forth : (ltb e n ≡ true) ⊎ (Fits n L ≡ true) → ltb e (suc n) ≡ true
@@ -115,35 +115,35 @@ module _ (W : ℕ) (t : List ℕ) (head : Head) (p : Context) (close : 4 ≤ p.k
       forth (inr a) = reached a (ltb n e) refl
 
       back : (e ≡ n) ⊎ (e < n) → (ltb e n || Fits n L) ≡ true
-      back (inl a) = let d : Fits n L ≡ true = empty-fits n L ((rw a at f.found) h) in rw d (or-true (ltb e n))
+      back (inl a) = let d : Fits n L ≡ true = empty_fits n L ((rw a at f.found) h) in rw d (or-true (ltb e n))
       back (inr a) = rw (lt-ltb e n a)
 
   -- L is in the level of the first n rules exactly when e is one of them
-  level-empty : (L e : ℕ) → FirstEmpty t head.rules L e → (n : ℕ) → n ≤ head.rules → bit (levelIn W t p n) L ≡ ltb e n
-  unfolding levelIn
-  level-empty L e f zero h = bit-zero L ∙ sym (le-ltb e 0 (omega arith))
-  level-empty L e f (suc n) h =
-      with-bit (appliesTo W (ruleIn t n) p) (levelIn W t p n) (left (ruleIn t n)) L (ltb e n) (level-empty L e f n (omega arith)) ∙ one_more L e f n h
+  level_empty : (L e : ℕ) → FirstEmpty t head.rules L e → (n : ℕ) → n ≤ head.rules → bit (level_in W t p n) L ≡ ltb e n
+  unfolding level_in
+  level_empty L e f zero h = bit-zero L ∙ sym (le-ltb e 0 (omega arith))
+  level_empty L e f (suc n) h =
+      with-bit (applies_to W (rule_in t n) p) (level_in W t p n) (left (rule_in t n)) L (ltb e n) (level_empty L e f n (omega arith)) ∙ one_more L e f n h
 
 module _ (W : ℕ) (t : List ℕ) (head : Head) (p : Context) (x : Indexed t head) (h : 4 ≤ p.kind) where
   abbrev Level : ℕ
-  Level = levelIn W t p head.rules
+  Level = level_in W t p head.rules
 
-  digit : (L : ℕ) (b : Bool) → ltb L 32 ≡ b → bit Level L ≡ bit (endsIn t) L
-  digit L true l = level-empty W t head p h L (end_in t L) (x.ends L (ltb-true L 32 l)) head.rules (omega arith) ∙ sym (x.mask L ∙ rw l)
+  digit : (L : ℕ) (b : Bool) → ltb L 32 ≡ b → bit Level L ≡ bit (ends_in t) L
+  digit L true l = level_empty W t head p h L (end_in t L) (x.ends L (ltb-true L 32 l)) head.rules (omega arith) ∙ sym (x.mask L ∙ rw l)
   digit L false l =
-      level-empty W t head p h L head.rules (none_above x.ready L (ltb-false L 32 l)) head.rules (omega arith)
+      level_empty W t head p h L head.rules (none_above x.ready L (ltb-false L 32 l)) head.rules (omega arith)
       ∙ le-ltb head.rules head.rules (omega arith)
       ∙ sym (x.mask L ∙ rw l)
 
-  pub level-ends : levelIn W t p head.rules ≡ endsIn t
-  level-ends = same-members Level (endsIn t) (λ L. digit L (ltb L 32) refl)
+  pub level-ends : level_in W t p head.rules ≡ ends_in t
+  level-ends = same_members Level (ends_in t) (λ L. digit L (ltb L 32) refl)
 
 -- ── the level at a token ──
 
 -- a rule that can stand is in its level
-pub level-has : (W : ℕ) (t : List ℕ) (p : Context) (n q : ℕ) → q < n → appliesTo W (ruleIn t q) p ≡ true → bit (levelIn W t p n) (left (ruleIn t q)) ≡ true
-level-has W t p n q l e = level-bit W t p n (left (ruleIn t q)) ∙ some-lefts (λ R. appliesTo W R p) (rulesIn t n) (left (ruleIn t q)) q (ruleIn t q) (rules-at t n q l) refl e
+pub level-has : (W : ℕ) (t : List ℕ) (p : Context) (n q : ℕ) → q < n → applies_to W (rule_in t q) p ≡ true → bit (level_in W t p n) (left (rule_in t q)) ≡ true
+level-has W t p n q l e = level-bit W t p n (left (rule_in t q)) ∙ some-lefts (λ R. applies_to W R p) (rules_in t n) (left (rule_in t q)) q (rule_in t q) (rules_at t n q l) refl e
 
 module _ (t : List ℕ) (head : Head) (p : Context) (x : Indexed t head) (h : p.kind < 4) where
   abbrev W : ℕ
@@ -151,15 +151,15 @@ module _ (t : List ℕ) (head : Head) (p : Context) (x : Indexed t head) (h : p.
 
   -- L is there from the start, or one of the first n rules lets it stand here
   abbrev pub Sofar : ℕ → ℕ → Bool
-  Sofar L n = bit (base_of t p) L || bit (levelIn W t p n) L
+  Sofar L n = bit (base_of t p) L || bit (level_in W t p n) L
 
-  low-is : (L : ℕ) → lowHere W p L ≡ ltb L head.well
-  low-is L = rw (lt-leb 4 p.kind h)
+  low_is : (L : ℕ) → low_here W p L ≡ ltb L head.well
+  low_is L = rw (lt-leb 4 p.kind h)
 
-  -- at a close: the first empty rule of a well-matched nonterminal
-  base-has : (q L : ℕ) → q < head.rules → 2 ≤ p.kind → L < head.well → ruleIn t q ≡ Rule.Empty L → bit (base_of t p) L ≡ true
-  base-has q L l k w e =
-      let f = x.ends L (omega (arith, w, x.ready.well-small)) in
+  -- at a close: the first empty rule of a well_matched nonterminal
+  base_has : (q L : ℕ) → q < head.rules → 2 ≤ p.kind → L < head.well → rule_in t q ≡ Rule.Empty L → bit (base_of t p) L ≡ true
+  base_has q L l k w e =
+      let f = x.ends L (omega (arith, w, x.ready.well_small)) in
       rw (le-leb 2 p.kind k) (x.low L ∙ rw (lt-ltb L head.well w) (first (dec_lt (end_in t L) head.rules) f))
     where
       first : Dec (end_in t L < head.rules) → FirstEmpty t head.rules L (end_in t L) → ltb (end_in t L) head.rules ≡ true
@@ -167,60 +167,60 @@ module _ (t : List ℕ) (head : Head) (p : Context) (x : Indexed t head) (h : p.
       first (no m) f = absurd (f.none q (omega (arith, f.most)) e)
 
   -- a rule of another class adds nothing
-  pub sofar-apart : (L q : ℕ) → q < head.rules → class_of (ruleIn t q) ≢ class_at (tokenHere p) → Sofar L (suc q) ≡ Sofar L q
-  unfolding levelIn
-  sofar-apart L q l d = go (appliesTo W (ruleIn t q) p) refl
+  pub sofar_apart : (L q : ℕ) → q < head.rules → class_of (rule_in t q) ≢ class_at (token_here p) → Sofar L (suc q) ≡ Sofar L q
+  unfolding level_in
+  sofar_apart L q l d = go (applies_to W (rule_in t q) p) refl
     where
       R : Rule
-      R = ruleIn t q
+      R = rule_in t q
 
-      go : (b : Bool) → appliesTo W R p ≡ b → (bit (base_of t p) L || bit (cond b (addBit (levelIn W t p q) (left R)) (levelIn W t p q)) L) ≡ Sofar L q
+      go : (b : Bool) → applies_to W R p ≡ b → (bit (base_of t p) L || bit (cond b (add_bit (level_in W t p q) (left R)) (level_in W t p q)) L) ≡ Sofar L q
       go false e = refl
-      go true e = ⊎_elim (λ k. absurd (d k.class)) ending (stands-class (lowHere W p (left R)) (insideHere p) (afterClose p) (tokenHere p) R e)
+      go true e = ⊎_elim (λ k. absurd (d k.class)) ending (stands_class (low_here W p (left R)) (inside_here p) (after_close p) (token_here p) R e)
         where
-          ending : Ends (lowHere W p (left R)) (insideHere p) (afterClose p) (tokenHere p) R → (bit (base_of t p) L || bit (addBit (levelIn W t p q) (left R)) L) ≡ Sofar L q
-          ending k = rw (bit-add (levelIn W t p q) (left R) L) (at (eqb L (left R)) refl)
+          ending : Ends (low_here W p (left R)) (inside_here p) (after_close p) (token_here p) R → (bit (base_of t p) L || bit (add_bit (level_in W t p q) (left R)) L) ≡ Sofar L q
+          ending k = rw (bit-add (level_in W t p q) (left R) L) (at (eqb L (left R)) refl)
             where
               two : 2 ≤ p.kind
-              two = close-only p k.closes
+              two = close_only p k.closes
 
-              at : (b : Bool) → eqb L (left R) ≡ b → (bit (base_of t p) L || (bit (levelIn W t p q) L || b)) ≡ Sofar L q
-              at true i = let z = base-has q (left R) l two (ltb-true (left R) head.well (sym (low-is (left R)) ∙ k.well)) k.empty in rw (eqb-true L (left R) i, z)
-              at false i = rw (or-false (bit (levelIn W t p q) L))
+              at : (b : Bool) → eqb L (left R) ≡ b → (bit (base_of t p) L || (bit (level_in W t p q) L || b)) ≡ Sofar L q
+              at true i = let z = base_has q (left R) l two (ltb-true (left R) head.well (sym (low_is (left R)) ∙ k.well)) k.empty in rw (eqb-true L (left R) i, z)
+              at false i = rw (or-false (bit (level_in W t p q) L))
 
   -- what is there from the start is there in the end
-  base-in : (L : ℕ) → bit (base_of t p) L ≡ true → bit (levelIn W t p head.rules) L ≡ true
-  base-in L e = go (leb 2 p.kind) refl e
+  base_in : (L : ℕ) → bit (base_of t p) L ≡ true → bit (level_in W t p head.rules) L ≡ true
+  base_in L e = go (leb 2 p.kind) refl e
     where
-      go : (b : Bool) → leb 2 p.kind ≡ b → bit (cond b (lowEndsIn t) 0) L ≡ true → bit (levelIn W t p head.rules) L ≡ true
+      go : (b : Bool) → leb 2 p.kind ≡ b → bit (cond b (low_ends_in t) 0) L ≡ true → bit (level_in W t p head.rules) L ≡ true
       go false k e = absurd (false≢true (sym (bit-zero L) ∙ e))
       go true k e =
           let two = leb-true 2 p.kind k in
           let m = sym (x.low L) ∙ e in
           let w = ltb-true L head.well (and_left (ltb L head.well) _ m) in
           let l = ltb-true (end_in t L) head.rules (and_right (ltb L head.well) _ m) in
-          let f = (x.ends L (omega (arith, w, x.ready.well-small))).found l in
-          let a : appliesTo W (ruleIn t (end_in t L)) p ≡ true = rw (f, low-is L, lt-ltb L head.well w) (close-kind p two) in
-          let s : left (ruleIn t (end_in t L)) ≡ L = ap left f in
+          let f = (x.ends L (omega (arith, w, x.ready.well_small))).found l in
+          let a : applies_to W (rule_in t (end_in t L)) p ≡ true = rw (f, low_is L, lt-ltb L head.well w) (close_kind p two) in
+          let s : left (rule_in t (end_in t L)) ≡ L = ap left f in
           rw s at (level-has W t p head.rules (end_in t L) l a)
 
-  pub sofar-whole : (set : ℕ) → ((L : ℕ) → bit set L ≡ Sofar L head.rules) → set ≡ levelIn W t p head.rules
-  sofar-whole set e = same-members set (levelIn W t p head.rules) (λ L. e L ∙ go L (bit (base_of t p) L) refl)
+  pub sofar_whole : (set : ℕ) → ((L : ℕ) → bit set L ≡ Sofar L head.rules) → set ≡ level_in W t p head.rules
+  sofar_whole set e = same_members set (level_in W t p head.rules) (λ L. e L ∙ go L (bit (base_of t p) L) refl)
     where
-      go : (L : ℕ) (b : Bool) → bit (base_of t p) L ≡ b → (b || bit (levelIn W t p head.rules) L) ≡ bit (levelIn W t p head.rules) L
-      go L true i = sym (base-in L i)
+      go : (L : ℕ) (b : Bool) → bit (base_of t p) L ≡ b → (b || bit (level_in W t p head.rules) L) ≡ bit (level_in W t p head.rules) L
+      go L true i = sym (base_in L i)
       go L false i = refl
 
   -- at the start, before the first rule of the class
-  pub sofar-start : (set L : ℕ) → set ≡ base_of t p → bit set L ≡ Sofar L 0
-  unfolding levelIn
-  sofar-start set L e = rw (e, bit-zero L) (sym (or-false (bit (base_of t p) L)))
+  pub sofar_start : (set L : ℕ) → set ≡ base_of t p → bit set L ≡ Sofar L 0
+  unfolding level_in
+  sofar_start set L e = rw (e, bit-zero L) (sym (or-false (bit (base_of t p) L)))
 
   -- one rule more
-  pub sofar-with : (set n L : ℕ) → bit set L ≡ Sofar L n → bit (withLeft W set (ruleIn t n) p) L ≡ Sofar L (suc n)
-  unfolding levelIn
-  sofar-with set n L e = go (appliesTo W (ruleIn t n) p)
+  pub sofar_with : (set n L : ℕ) → bit set L ≡ Sofar L n → bit (with_left W set (rule_in t n) p) L ≡ Sofar L (suc n)
+  unfolding level_in
+  sofar_with set n L e = go (applies_to W (rule_in t n) p)
     where
-      go : (b : Bool) → bit (cond b (addBit set (left (ruleIn t n))) set) L ≡ (bit (base_of t p) L || bit (cond b (addBit (levelIn W t p n) (left (ruleIn t n))) (levelIn W t p n)) L)
+      go : (b : Bool) → bit (cond b (add_bit set (left (rule_in t n))) set) L ≡ (bit (base_of t p) L || bit (cond b (add_bit (level_in W t p n) (left (rule_in t n))) (level_in W t p n)) L)
       go false = e
-      go true = bit-add set (left (ruleIn t n)) L ∙ rw (e, bit-add (levelIn W t p n) (left (ruleIn t n)) L) (or_assoc (bit (base_of t p) L) (bit (levelIn W t p n) L) (eqb L (left (ruleIn t n))))
+      go true = bit-add set (left (rule_in t n)) L ∙ rw (e, bit-add (level_in W t p n) (left (rule_in t n)) L) (or_assoc (bit (base_of t p) L) (bit (level_in W t p n) L) (eqb L (left (rule_in t n))))

@@ -1,10 +1,10 @@
 // What stands at a position, which rules can stand there, and the nonterminals of those rules.
 ghost use Rattle.std.specs.Prelude.{◌≡◌, ◌&&◌, ◌<◌, ◌≤◌, eqb};
 ghost use Rattle.bits.specs.Bit.{bit};
-ghost use Rattle.tables.specs.Table.{ruleIn};
+ghost use Rattle.tables.specs.Table.{rule_in};
 ghost use Rattle.rule_index.specs.Classes.{class_at};
-ghost use Rattle.rule_index.specs.Index.{afterIn, firstIn, Indexed};
-ghost use Rattle.contexts.specs.Context.{tokenHere, lowHere, mayEnd, AtKind, kindFits, appliesTo, base_of, withLeft, levelIn};
+ghost use Rattle.rule_index.specs.Index.{after_in, first_in, Indexed};
+ghost use Rattle.contexts.specs.Context.{token_here, low_here, may_end, AtKind, kind_fits, applies_to, base_of, with_left, level_in};
 
 use tables::{Head, Table};
 use vpg::CloseName;
@@ -25,9 +25,9 @@ pub struct Context {
     pub after: u64,
 }
 
-// Whether the nonterminal ends here as a well-matched one does.
+// Whether the nonterminal ends here as a well_matched one does.
 fn low_here(head: Head, context: Context, l: u16) -> bool
-    ensures { result ≡ lowHere head.well context l }
+    ensures { result ≡ low_here head.well context l }
 {
     if 4 <= context.kind {
         return true;
@@ -37,15 +37,15 @@ fn low_here(head: Head, context: Context, l: u16) -> bool
 
 // Whether the nonterminal can only end here.
 pub fn may_end(head: Head, context: Context, l: u16) -> bool
-    ensures { result ≡ mayEnd head.well context l }
+    ensures { result ≡ may_end head.well context l }
 {
     tables::both(2 <= context.kind, low_here(head, context, l))
 }
 
 // Whether the close of the step that rule r makes stands here, and what follows it can be derived.
 fn closes(table: &Table, r: usize, b: CloseName, context: Context) -> bool
-    requires { (r < 128) × (afterIn table.now r < 64) }
-    ensures { result ≡ (eqb b.0 context.close.0 && bit context.after (afterIn table.now r)) }
+    requires { (r < 128) × (after_in table.now r < 64) }
+    ensures { result ≡ (eqb b.0 context.close.0 && bit context.after (after_in table.now r)) }
 {
     let close = context.close;
     if vpg::same_close(b, close) {
@@ -56,8 +56,8 @@ fn closes(table: &Table, r: usize, b: CloseName, context: Context) -> bool
 
 // Whether rule r, which stands at tokens of this kind, can stand here. Few of the rules that are asked have the name: it comes first.
 pub fn takes(table: &Table, head: Head, r: usize, context: Context) -> bool
-    requires { Indexed table.now head × (r < head.rules) × AtKind (ruleIn table.now r) context.kind }
-    ensures { result ≡ appliesTo head.well (ruleIn table.now r) context }
+    requires { Indexed table.now head × (r < head.rules) × AtKind (rule_in table.now r) context.kind }
+    ensures { result ≡ applies_to head.well (rule_in table.now r) context }
 {
     let v = tables::six_in(table, r);
     if v.2 == context.name {
@@ -73,7 +73,7 @@ pub fn takes(table: &Table, head: Head, r: usize, context: Context) -> bool
 
 // Whether a rule of this form stands at tokens of this kind. At the end, of kind 4, only empty rules do.
 fn kind_fits(form: u16, kind: u32) -> bool
-    ensures { result ≡ kindFits form kind }
+    ensures { result ≡ kind_fits form kind }
 {
     if form == 4 {
         return kind / 2 == 1;
@@ -90,7 +90,7 @@ fn kind_fits(form: u16, kind: u32) -> bool
 // Whether the rule of number r, any rule, can stand here, whatever nonterminal it is for.
 pub fn applies(table: &Table, head: Head, r: usize, context: Context) -> bool
     requires { Indexed table.now head × (r < head.rules) }
-    ensures { result ≡ appliesTo head.well (ruleIn table.now r) context }
+    ensures { result ≡ applies_to head.well (rule_in table.now r) context }
 {
     let v = tables::six_in(table, r);
     if v.0 == 0 {
@@ -104,15 +104,15 @@ pub fn applies(table: &Table, head: Head, r: usize, context: Context) -> bool
 
 // The first rule of the token's class; the number of rules where there is none.
 pub fn first_here(table: &Table, context: Context) -> usize
-    ensures { result ≡ firstIn table.now (class_at (tokenHere context)) }
+    ensures { result ≡ first_in table.now (class_at (token_here context)) }
 {
     rule_index::first_of(table, rule_index::class_by(context.kind, context.name))
 }
 
 // The set with the nonterminal of rule r, where the rule can stand here.
 fn with_left(set: u32, table: &Table, head: Head, r: usize, context: Context) -> u32
-    requires { Indexed table.now head × (r < head.rules) × AtKind (ruleIn table.now r) context.kind }
-    ensures { result ≡ withLeft head.well set (ruleIn table.now r) context }
+    requires { Indexed table.now head × (r < head.rules) × AtKind (rule_in table.now r) context.kind }
+    ensures { result ≡ with_left head.well set (rule_in table.now r) context }
 {
     if takes(table, head, r, context) {
         bits::with(set, tables::left_in(table, r) as usize)
@@ -134,7 +134,7 @@ fn base_of(table: &Table, context: Context) -> u32
 // The nonterminals of the rules that can stand at a token.
 pub fn level(table: &Table, head: Head, context: Context) -> u32
     requires { Indexed table.now head × (context.kind < 4) }
-    ensures { result ≡ levelIn head.well table.now context head.rules }
+    ensures { result ≡ level_in head.well table.now context head.rules }
 {
     let count = head.rules;
     let mut set = base_of(table, context);

@@ -15,45 +15,45 @@ use Rattle.vpg.specs.believed.Grammar.{Grammar, General}
 use Rattle.vpg.specs.Runs.{entries}
 use Rattle.capped.specs.Capped.{cap}
 use Rattle.level_theory.specs.Masks.{Nonterminals, floor, masks}
-use Rattle.level_theory.specs.Pending.{Closes, pendingAt}
+use Rattle.level_theory.specs.Pending.{Closes, pending_at}
 use Rattle.level_theory.proofs.Alive.{fits_all, run_fits}
 use Rattle.level_theory.proofs.Pending.{masks-outer}
-use Rattle.levels.specs.Levels.{derivesAll}
+use Rattle.levels.specs.Levels.{derives_all}
 use Rattle.count_theory.specs.believed.CountAt.{tally}
 use Rattle.count_theory.specs.Allowed.{Allowed, passes}
-use Rattle.count_theory.specs.Counts.{Counts, counts, countsAt}
+use Rattle.count_theory.specs.Counts.{Counts, counts, counts_at}
 use Rattle.count_theory.proofs.Counting.{all-weight, tally-runs}
 use Rattle.count_theory.proofs.Here.{counts-outer}
 use Rattle.count_rows.specs.Rows.{Sized, value_at, Clear, Complete}
 
 -- a new array has nothing
-pub new-sized : Sized (replicate 33858 0)
-new-sized = length-replicate {A = ℕ} 33858 0
+pub new_sized : Sized (replicate 33858 0)
+new_sized = length-replicate {A = ℕ} 33858 0
 
-pub new-clear : Clear (replicate 33858 0) 1025
-new-clear k M l m = rw (lt-ltb k 1026 (omega arith), get_or-replicate {A = ℕ} 33858 (32832 + k) 0 0 (omega arith), bit-zero M) (get_or-replicate {A = ℕ} 33858 (32 * k + M) 0 0 (omega arith))
+pub new_clear : Clear (replicate 33858 0) 1025
+new_clear k M l m = rw (lt-ltb k 1026 (omega arith), get_or-replicate {A = ℕ} 33858 (32832 + k) 0 0 (omega arith), bit-zero M) (get_or-replicate {A = ℕ} 33858 (32 * k + M) 0 0 (omega arith))
 
 -- around all tokens there is no level
-pub whole : (g : Grammar) → General g.well g.rules → (w : List Token) (ok : Allowed) → derivesAll g.well g.rules w g.start ≡ true → countsAt ok g.well g.rules w 0 g.start ≡ tally (passes ok 0) (entries g w)
+pub whole : (g : Grammar) → General g.well g.rules → (w : List Token) (ok : Allowed) → derives_all g.well g.rules w g.start ≡ true → counts_at ok g.well g.rules w 0 g.start ≡ tally (passes ok 0) (entries g w)
 whole g form w ok all =
-    sym (tally-runs ok g.well g.rules form 0 w (g.start, []) tt ∙ all-weight g.well g.start (countsAt ok g.well g.rules w 0 g.start) (counts ok g.well g.rules 0 w).1 ∙ rw alone)
+    sym (tally-runs ok g.well g.rules form 0 w (g.start, []) tt ∙ all-weight g.well g.start (counts_at ok g.well g.rules w 0 g.start) (counts ok g.well g.rules 0 w).1 ∙ rw alone)
   where
     same : floor g.well (counts ok g.well g.rules 0 w).1 ≡ floor g.well (masks g.well g.rules w).1
-    same = rw (counts-outer ok g.well g.rules w 0, masks-outer g.well g.rules w 0) (go (pendingAt w 0))
+    same = rw (counts-outer ok g.well g.rules w 0, masks-outer g.well g.rules w 0) (go (pending_at w 0))
       where
-        go : (l : Closes) → floor {A = CloseName × Counts} g.well (map (λ d. (d.0, countsAt ok g.well g.rules w (suc d.1))) l) ≡ floor {A = CloseName × Nonterminals} g.well (map (λ d. (d.0, (masks g.well g.rules (drop (suc d.1) w)).0)) l)
+        go : (l : Closes) → floor {A = CloseName × Counts} g.well (map (λ d. (d.0, counts_at ok g.well g.rules w (suc d.1))) l) ≡ floor {A = CloseName × Nonterminals} g.well (map (λ d. (d.0, (masks g.well g.rules (drop (suc d.1) w)).0)) l)
         go [] = refl
         go (d ∷ l) = refl
 
     alone : leb (floor g.well (counts ok g.well g.rules 0 w).1) g.start ≡ true
     alone = rw same (and_right ((masks g.well g.rules w).0 g.start) _ all)
 
-pub count-whole : (g : Grammar) → General g.well g.rules → (w : List Token) {ok : Allowed} {rows : List ℕ} → derivesAll g.well g.rules w g.start ≡ true → g.start < 32 → Complete ok g.well g.rules w rows →
+pub count-whole : (g : Grammar) → General g.well g.rules → (w : List Token) {ok : Allowed} {rows : List ℕ} → derives_all g.well g.rules w g.start ≡ true → g.start < 32 → Complete ok g.well g.rules w rows →
     value_at rows 0 g.start ≡ cap (tally (passes ok 0) (entries g w))
 count-whole g form w {ok} all small c = c.counted 0 g.start (omega arith) (omega arith) small ∙ ap cap (whole g form w ok all)
 
 -- where the start doesn't derive all tokens there is no reading
-pub count_none : (g : Grammar) → General g.well g.rules → (w : List Token) (f : List ℕ → Bool) → derivesAll g.well g.rules w g.start ≡ false → 0 ≡ cap (tally f (entries g w))
+pub count_none : (g : Grammar) → General g.well g.rules → (w : List Token) (f : List ℕ → Bool) → derives_all g.well g.rules w g.start ≡ false → 0 ≡ cap (tally f (entries g w))
 count_none g form w f none = rw (empty (entries g w) (λ e m. false≢true (sym none ∙ fits_all g.well g.start (masks g.well g.rules w).0 (masks g.well g.rules w).1 (run_fits g.well g.rules form w g.start [] tt e m))))
   where
     empty : (l : List (List ℕ)) → ((e : List ℕ) → Memᴰ e l → ⊥) → l ≡ []

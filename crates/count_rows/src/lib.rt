@@ -3,15 +3,15 @@ ghost use Rattle.std.specs.Prelude.{◌≡◌, ◌&&◌, ◌<◌, ◌≤◌, ltb
 ghost use Rattle.capped.specs.Capped.{cap, value};
 ghost use Rattle.vpg.specs.Runs.{entries};
 ghost use Rattle.count_theory.specs.believed.CountAt.{tally};
-ghost use Rattle.count_theory.specs.Allowed.{passes, aloneAt, anywhere};
-ghost use Rattle.tables.specs.Table.{ruleIn};
-ghost use Rattle.tables.specs.Ready.{Below, rulesOf, grammarIn};
+ghost use Rattle.count_theory.specs.Allowed.{passes, alone_at, anywhere};
+ghost use Rattle.tables.specs.Table.{rule_in};
+ghost use Rattle.tables.specs.Ready.{Below, rules_of, grammar_in};
 ghost use Rattle.rule_index.specs.Index.{Indexed, end_in};
-ghost use Rattle.history_file.specs.believed.HistoryFile.{tokensOf};
+ghost use Rattle.history_file.specs.believed.HistoryFile.{tokens_of};
 ghost use Rattle.contexts.specs.Context.{AtKind};
 ghost use Rattle.vpg.specs.believed.Grammar.{left};
 ghost use Rattle.levels.specs.Levels.{Setting};
-ghost use Rattle.count_rows.specs.Rows.{Sized, oversAt, value_at, OversBehind, partsBehind, Added, AddedIf, RuleAdded, Empty, EndsOnly, Filled, Clear, Complete};
+ghost use Rattle.count_rows.specs.Rows.{Sized, overs_at, value_at, OversBehind, parts_behind, Added, AddedIf, RuleAdded, Empty, EndsOnly, Filled, Clear, Complete};
 
 use capped::Count;
 use contexts::Context;
@@ -32,7 +32,7 @@ pub fn count_at(rows: &Rows, p: usize, l: usize) -> Count
 
 // The same by the position's word, which the caller has read.
 fn count_by(rows: &Rows, p: usize, l: usize, overs: u64) -> Count
-    requires { (p < 1026) × (l < 32) × (overs ≡ oversAt rows.now p) }
+    requires { (p < 1026) × (l < 32) × (overs ≡ overs_at rows.now p) }
     ensures { value result ≡ value_at rows.now p l }
 {
     let row = 32 * p;
@@ -85,7 +85,7 @@ pub fn anywhere() -> Alone
 
 // Whether rule r may stand at position p.
 fn allowed(p: usize, r: usize, alone: Alone) -> bool
-    ensures { result ≡ aloneAt alone.position alone.rule p r }
+    ensures { result ≡ alone_at alone.position alone.rule p r }
 {
     if p == alone.position {
         return r == alone.rule;
@@ -116,7 +116,7 @@ pub fn overs_behind(rows: &Rows, position: usize, closing: usize) -> Overs
 // In how many ways a rule that can stand here is gone on with: any derivation of each part of its right side.
 pub fn parts_of(rule: Rule, rows: &Rows, position: usize, closing: usize, overs: Overs) -> Count
     requires { Below 32 rule × (position < 1025) × (closing < 1025) × OversBehind rows.now position closing overs }
-    ensures { value result ≡ partsBehind rows.now position closing rule }
+    ensures { value result ≡ parts_behind rows.now position closing rule }
 {
     let inside = position + 1;
     let after = closing + 1;
@@ -139,9 +139,9 @@ fn add_parts(
     overs: Overs,
     rows: &mut Rows,
 )
-    requires r_bound { (r < 128) × Below 32 (ruleIn table.now r) }
+    requires r_bound { (r < 128) × Below 32 (rule_in table.now r) }
     requires position_bound { (position < 1025) × (closing < 1025) × OversBehind rows.old position closing overs × Sized rows.old }
-    ensures { Added rows.old position (left (ruleIn table.now r)) (partsBehind rows.old position closing (ruleIn table.now r)) rows.new }
+    ensures { Added rows.old position (left (rule_in table.now r)) (parts_behind rows.old position closing (rule_in table.now r)) rows.new }
 {
     let l = tables::left_in(table, r) as usize;
     let n = parts_of(tables::rule_of(table, r), rows, position, closing, overs);
@@ -158,7 +158,7 @@ fn add_taken(
     overs: Overs,
     rows: &mut Rows,
 )
-    requires indexed { Indexed table.now head × (r < head.rules) × AtKind (ruleIn table.now r) context.kind }
+    requires indexed { Indexed table.now head × (r < head.rules) × AtKind (rule_in table.now r) context.kind }
     requires position_bound { (context.position < 1025) × (context.closing < 1025) × OversBehind rows.old context.position context.closing overs × Sized rows.old }
     ensures { RuleAdded table.now head.well r context alone rows.old rows.new }
 {
@@ -194,7 +194,7 @@ fn add_rule(
 fn add_end(table: &Table, head: Head, l: usize, p: usize, alone: Alone, rows: &mut Rows)
     requires l_bound { l < 32 }
     requires p_bound { (p < 1025) × Sized rows.old }
-    ensures { AddedIf (ltb (end_in table.now l) head.rules && aloneAt alone.position alone.rule p (end_in table.now l)) rows.old p l 1 rows.new }
+    ensures { AddedIf (ltb (end_in table.now l) head.rules && alone_at alone.position alone.rule p (end_in table.now l)) rows.old p l 1 rows.new }
 {
     let r = rule_index::end_of(table, l);
     if r < head.rules {
@@ -297,7 +297,7 @@ pub fn rows_of(
 )
     requires setting { Setting table.now head tokens.now closes.now masks.now }
     requires sized { Sized rows.old × Clear rows.old 1025 }
-    ensures { Complete (aloneAt alone.position alone.rule) head.well (rulesOf table.now head) (tokensOf tokens.now) rows.new }
+    ensures { Complete (alone_at alone.position alone.rule) head.well (rules_of table.now head) (tokens_of tokens.now) rows.new }
 {
     let mut i = tokens.len() + 1;
     while 0 < i {
@@ -318,7 +318,7 @@ pub fn all_rows(
 )
     requires setting { Setting table.now head tokens.now closes.now masks.now }
     requires sized { Sized rows.old × Clear rows.old 1025 }
-    ensures { Complete anywhere head.well (rulesOf table.now head) (tokensOf tokens.now) rows.new }
+    ensures { Complete anywhere head.well (rules_of table.now head) (tokens_of tokens.now) rows.new }
 {
     let alone = anywhere();
     rows_of(table, head, tokens, closes, masks, alone, rows);
@@ -334,7 +334,7 @@ pub fn count(
     alone: Alone,
 ) -> Count
     requires { Setting table.now head tokens.now closes.now masks.now }
-    ensures { value result ≡ cap (tally (passes (aloneAt alone.position alone.rule) 0) (entries (grammarIn table.now head) (tokensOf tokens.now))) }
+    ensures { value result ≡ cap (tally (passes (alone_at alone.position alone.rule) 0) (entries (grammar_in table.now head) (tokens_of tokens.now))) }
 {
     if levels::derives_all(masks, head) {
         let start = head.start as usize;

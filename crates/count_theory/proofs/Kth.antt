@@ -15,15 +15,15 @@ use Rattle.vpg.specs.believed.Grammar.{Rules, General, left}
 use Rattle.vpg.specs.Runs.{Stack, State, move, ends, collect, once, follow, runs}
 use Rattle.vpg.proofs.Take.{Move, moved, moves, taken, ended}
 use Rattle.level_theory.specs.Masks.{outer, Calm}
-use Rattle.level_theory.proofs.Alive.{calm-on}
+use Rattle.level_theory.proofs.Alive.{calm_on}
 use Rattle.level_theory.proofs.Pending.{drop-next}
 use Rattle.count_theory.specs.believed.CountAt.{tally}
-use Rattle.count_theory.specs.Allowed.{Allowed, passes, aloneAt}
+use Rattle.count_theory.specs.Allowed.{Allowed, passes, alone_at}
 use Rattle.count_theory.specs.Counts.{Levels, given, sum, counts, weight, total, worth}
 use Rattle.count_theory.specs.Kth.{Free, size, Located, Onward}
-use Rattle.count_theory.proofs.Counting.{ahead, rule-ahead, tally-end, tally-runs, sum_like}
-use Rattle.count_theory.proofs.Here.{worth-token, worth-end}
-use Rattle.count_theory.proofs.Places.{passes-before, tally-all}
+use Rattle.count_theory.proofs.Counting.{ahead, rule_ahead, tally_end, tally-runs, sum_like}
+use Rattle.count_theory.proofs.Here.{worth_token, worth_end}
+use Rattle.count_theory.proofs.Places.{passes_before, tally-all}
 
 -- ── the lists of each rule ──
 
@@ -78,20 +78,20 @@ module _ (ok : Allowed) (W : ℕ) (g : Rules) (form : General W g) (w : List Tok
   after-size q R i = go (drop p w) refl
     where
       go : (v : List Token) → drop p w ≡ v → length (after g s v R) ≡ given (eqb (left R) s.0) (worth ok W g w p R) * weight W s.0 s.1 (counts ok W g p v).1
-      go [] e = length-once ok p (ends R s.0 s.1) ∙ tally-end ok p W s.0 s.1 R ∙ ap (λ (n : ℕ). given (eqb (left R) s.0) n * weight W s.0 s.1 []) (worth-end ok W g w p e R)
+      go [] e = length-once ok p (ends R s.0 s.1) ∙ tally_end ok p W s.0 s.1 R ∙ ap (λ (n : ℕ). given (eqb (left R) s.0) n * weight W s.0 s.1 []) (worth_end ok W g w p e R)
       go (t ∷ v) e =
           rw (← (drop-next w p e))
-          (length-follow W (counts ok W g (suc p) (drop (suc p) w)) (λ s'. runs g s' (drop (suc p) w)) (move R s.0 s.1 t) (λ s' m. free s' (calm-on W (form q R i) (moved R s.0 s.1 t s' m) calm))
-          ∙ rule-ahead W (counts ok W g (suc p) (drop (suc p) w)) s.0 s.1 t R (form q R i) calm
-          ∙ ap (λ (n : ℕ). given (eqb (left R) s.0) n * weight W s.0 s.1 (outer t (counts ok W g (suc p) (drop (suc p) w)))) (worth-token ok W g w p t v e R))
+          (length-follow W (counts ok W g (suc p) (drop (suc p) w)) (λ s'. runs g s' (drop (suc p) w)) (move R s.0 s.1 t) (λ s' m. free s' (calm_on W (form q R i) (moved R s.0 s.1 t s' m) calm))
+          ∙ rule_ahead W (counts ok W g (suc p) (drop (suc p) w)) s.0 s.1 t R (form q R i) calm
+          ∙ ap (λ (n : ℕ). given (eqb (left R) s.0) n * weight W s.0 s.1 (outer t (counts ok W g (suc p) (drop (suc p) w)))) (worth_token ok W g w p t v e R))
 
   -- all runs are those of all rules
   pub runs-size : length (runs g s (drop p w)) ≡ sum (λ q R. size ok W g w p s R) 0 g
   runs-size = rw (runs_after g s (drop p w)) (length-collect (after g s (drop p w)) 0 g ∙ sum_like _ _ 0 g (λ q r R i. after-size q R i))
 
   -- the k-th run is the i-th of those of the rule found
-  kth-here : (k r i : ℕ) (a : Located (size ok W g w p s) g k r i) (e : List ℕ) → get_elem? (after g s (drop p w) a.rule) i ≡ some e → get_elem? (runs g s (drop p w)) k ≡ some (r ∷ e)
-  kth-here k r i a e q =
+  kth_here : (k r i : ℕ) (a : Located (size ok W g w p s) g k r i) (e : List ℕ) → get_elem? (after g s (drop p w) a.rule) i ≡ some e → get_elem? (runs g s (drop p w)) k ≡ some (r ∷ e)
+  kth_here k r i a e q =
       rw (runs_after g s (drop p w))
       (ap (get_elem? (collect (after g s (drop p w)) 0 g)) (sym a.skipped ∙ ap (λ (n : ℕ). n + i) (sym (sum_like _ _ 0 (take r g) (λ q j R i. after-size q R (taken_at g r q i)))))
       ∙ kth-collect (after g s (drop p w)) 0 g r a.rule i e a.is q
@@ -101,15 +101,15 @@ module _ (ok : Allowed) (W : ℕ) (g : Rules) (form : General W g) (w : List Tok
   pub kth-next : (s₀ : State) (k₀ : ℕ) (e₀ : List ℕ) (t : Token) (v : List Token) → drop p w ≡ t ∷ v → (k r i : ℕ) (a : Located (size ok W g w p s) g k r i) (L : ℕ) (z : Stack) → Move a.rule s.0 s.1 t L z →
       Onward g s₀ w k₀ e₀ p s k → Onward g s₀ w k₀ (e₀ ++ (r ∷ [])) (suc p) (L, z) i
   kth-next s₀ k₀ e₀ t v d k r i a L z m far f q =
-      rw (append_assoc e₀ (r ∷ []) f) (far (r ∷ f) (kth-here k r i a f (rw (d, moves m, ← (drop-next w p d)) q)))
+      rw (append_assoc e₀ (r ∷ []) f) (far (r ∷ f) (kth_here k r i a f (rw (d, moves m, ← (drop-next w p d)) q)))
 
   -- what is left is one of those behind it
-  pub inside-next : (t : Token) (v : List Token) → drop p w ≡ t ∷ v → (k r i : ℕ) (a : Located (size ok W g w p s) g k r i) (L : ℕ) (z : Stack) → Move a.rule s.0 s.1 t L z → i < length (runs g (L, z) (drop (suc p) w))
-  inside-next t v d k r i a L z m = rw (← (after-size r a.rule a.is), d, moves m, ← (drop-next w p d)) at a.inside
+  pub inside_next : (t : Token) (v : List Token) → drop p w ≡ t ∷ v → (k r i : ℕ) (a : Located (size ok W g w p s) g k r i) (L : ℕ) (z : Stack) → Move a.rule s.0 s.1 t L z → i < length (runs g (L, z) (drop (suc p) w))
+  inside_next t v d k r i a L z m = rw (← (after-size r a.rule a.is), d, moves m, ← (drop-next w p d)) at a.inside
 
   -- and where no token is left it is the whole
   pub kth-last : (s₀ : State) (k₀ : ℕ) (e₀ : List ℕ) → drop p w ≡ [] → (k r i : ℕ) → Located (size ok W g w p s) g k r i → Onward g s₀ w k₀ e₀ p s k → get_elem? (runs g s₀ w) k₀ ≡ some (e₀ ++ (r ∷ []))
-  kth-last s₀ k₀ e₀ d k r i a far = far (r ∷ []) (kth-here k r i a [] (rw d (only_one (ends a.rule s.0 s.1) i (rw (← (after-size r a.rule a.is), d) at a.inside))))
+  kth-last s₀ k₀ e₀ d k r i a far = far (r ∷ []) (kth_here k r i a [] (rw d (only_one (ends a.rule s.0 s.1) i (rw (← (after-size r a.rule a.is), d) at a.inside))))
     where
       only_one : (b : Bool) (i : ℕ) → i < length (once b) → get_elem? (once b) i ≡ some []
       only_one true zero h = refl
@@ -123,10 +123,10 @@ run_length g [] s e m = rw (ended g s.0 s.1 e m).shape
 run_length g (t ∷ v) s e m = let k = taken g s.0 s.1 t v e m in rw k.shape (ap suc (run_length g v (k.nonterminal, k.due) k.rest k.run))
 
 -- a position that no run reaches asks for nothing
-pub all-free : (a r W : ℕ) (g : Rules) → General W g → (w : List Token) (p : ℕ) → p ≤ length w + 1 → length w + 1 < a → Free (aloneAt a r) W g w p
+pub all-free : (a r W : ℕ) (g : Rules) → General W g → (w : List Token) (p : ℕ) → p ≤ length w + 1 → length w + 1 < a → Free (alone_at a r) W g w p
 all-free a r W g form w p h l s c =
-    sym (tally-all (passes (aloneAt a r) p) (runs g s (drop p w)) (λ e m. passes-before a r p e (omega (arith, run_length g (drop p w) s e m, length-drop p w))))
-    ∙ tally-runs (aloneAt a r) W g form p (drop p w) s c
+    sym (tally-all (passes (alone_at a r) p) (runs g s (drop p w)) (λ e m. passes_before a r p e (omega (arith, run_length g (drop p w) s e m, length-drop p w))))
+    ∙ tally-runs (alone_at a r) W g form p (drop p w) s c
 
 -- ── the rules before one ──
 

@@ -1,5 +1,5 @@
 -- Tests of lists of rule numbers, position by position.
--- Law: with-rule, with-any (count_theory/proofs/Places.antt)
+-- Law: with_rule, with-any (count_theory/proofs/Places.antt)
 use Rattle.std.specs.Prelude.{ℕ, suc, Bool, true, ◌&&◌, ◌||◌, not, List, [], ◌∷◌, eqb}
 
 -- may rule number r stand at position p
@@ -12,9 +12,9 @@ passes ok p [] = true
 passes ok p (r ∷ e) = ok p r && passes ok (suc p) e
 
 -- at position p rule r alone, elsewhere any
-abbrev pub aloneAt : ℕ → ℕ → Allowed
-aloneAt p r q n = not (eqb q p) || eqb n r
+abbrev pub alone_at : ℕ → ℕ → Allowed
+alone_at p r q n = not (eqb q p) || eqb n r
 
 -- no history has position 1,026: any rule is allowed everywhere
 abbrev pub anywhere : Allowed
-anywhere = aloneAt 1026 0
+anywhere = alone_at 1026 0

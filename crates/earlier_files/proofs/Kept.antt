@@ -12,8 +12,8 @@ use lib.ListN.{length, get_or}
 use Rattle.numbers.specs.declared.NumberRead.{NumberRead}
 use Rattle.numbers.specs.declared.NumberRead.TheVariants.{Number, Refused as NumberRefused}
 use Rattle.numbers.specs.declared.FieldRead.TheVariants.{Field, Refused as FieldRefused}
-use Rattle.numbers.specs.believed.Number.{withGroup, numberWithin}
-use Rattle.numbers.specs.believed.Field.{limited, field_at, positive, countAt}
+use Rattle.numbers.specs.believed.Number.{with_group, number_within}
+use Rattle.numbers.specs.believed.Field.{limited, field_at, positive, count_at}
 
 -- which refusals have moved; how a refusal is said; the answer before and since
 abbrev pub Kept : {A : Type 0} → (ℕ → Type 0) → (ℕ → A) → A → A → Type 0
@@ -32,13 +32,13 @@ module _ (Moved : ℕ → Type 0) where
   either-kept false k l = l
 
   -- a number with one byte more allowed
-  pub number-kept : Moved 2 → (s : List ℕ) (most at : ℕ) → Kept Moved NumberRefused (numberWithin most s at) (numberWithin (suc most) s at)
-  unfolding numberWithin
+  pub number-kept : Moved 2 → (s : List ℕ) (most at : ℕ) → Kept Moved NumberRefused (number_within most s at) (number_within (suc most) s at)
+  unfolding number_within
   number-kept two s zero at = inr (2, two, refl)
   number-kept two s (suc most) at =
       either-kept (ltb at (length s))
       (either-kept (ltb (get_or s at 0) 128) (inl refl)
-      (followed (withGroup (get_or s at 0 - 128)) (withGroup (get_or s at 0 - 128)) (λ e. refl) (λ r. inl refl) (number-kept two s most (at + 1))))
+      (followed (with_group (get_or s at 0 - 128)) (with_group (get_or s at 0 - 128)) (λ e. refl) (λ r. inl refl) (number-kept two s most (at + 1))))
       (inl refl)
 
   -- the range is what it was, or it is wider and its refusal has moved
@@ -61,7 +61,7 @@ module _ (Moved : ℕ → Type 0) where
     field-kept at limit wide e w =
         followed (λ r. limited r limit e) (λ r. limited r wide e) (λ d. refl) (limited-kept limit wide e w) (numbers at)
 
-    pub count_kept : (at most e : ℕ) → Kept Moved FieldRefused (countAt number at most e) (countAt number' at most e)
-    unfolding countAt
+    pub count_kept : (at most e : ℕ) → Kept Moved FieldRefused (count_at number at most e) (count_at number' at most e)
+    unfolding count_at
     count_kept at most e =
         followed (λ r. positive r e) (λ r. positive r e) (λ d. refl) (λ r. inl refl) (field-kept at (most + 1) (most + 1) e (inl refl))

@@ -9,30 +9,30 @@ use Rattle.vpg.specs.declared.Token.{Token}
 use Rattle.vpg.specs.believed.Grammar.{Grammar, Reading}
 use Rattle.vpg.specs.believed.Matched.{PlainRule, PlainRules, MatchedReading}
 use Rattle.vpg.specs.Runs.{entries}
-use Rattle.vpg.proofs.Matched.{matched-readings, entries-matched}
+use Rattle.vpg.proofs.Matched.{matched_readings, entries_matched}
 use Rattle.numbers.specs.believed.Number.{bytes}
 use Rattle.rules.specs.RuleNumbers.{Fits}
-use Rattle.grammar_file.specs.believed.GrammarFile.{accepted, grammarOf}
+use Rattle.grammar_file.specs.believed.GrammarFile.{accepted, grammar_of}
 use Rattle.grammar_file.specs.Wellformed.{Wellformed}
-use Rattle.grammar_file.proofs.Accepted.{member, grammar-wellformed}
+use Rattle.grammar_file.proofs.Accepted.{member, grammar_wellformed}
 
-fits-plain : (n : ℕ) (R : Rule) → Fits n R → PlainRule R
-fits-plain n (Rule.Empty L) f = tt
-fits-plain n (Rule.Next L i L₁) f = f.3
-fits-plain n (Rule.Step L a L₁ b L₂) f = tt
+fits_plain : (n : ℕ) (R : Rule) → Fits n R → PlainRule R
+fits_plain n (Rule.Empty L) f = tt
+fits_plain n (Rule.Next L i L₁) f = f.3
+fits_plain n (Rule.Step L a L₁ b L₂) f = tt
 
-module _ (s : List ℕ) (g : Grammar) (passed : grammarOf s ≡ accepted g) where
-  pub file-plain : PlainRules g.rules
-  file-plain r R h = fits-plain g.nonterminals R (w.fits R (member g.rules r h))
+module _ (s : List ℕ) (g : Grammar) (passed : grammar_of s ≡ accepted g) where
+  pub file_plain : PlainRules g.rules
+  file_plain r R h = fits_plain g.nonterminals R (w.fits R (member g.rules r h))
     where
       w : Wellformed g
-      w = grammar-wellformed (bytes s) g passed
+      w = grammar_wellformed (bytes s) g passed
 
-  pub file-well : g.well ≡ g.nonterminals
-  file-well = (grammar-wellformed (bytes s) g passed).well-all
+  pub file_well : g.well ≡ g.nonterminals
+  file_well = (grammar_wellformed (bytes s) g passed).well_all
 
-  pub file-readings : (w : List Token) (e : List ℕ) → Reading g w e ↔ MatchedReading g w e
-  file-readings w e = matched-readings g file-plain w e
+  pub file_readings : (w : List Token) (e : List ℕ) → Reading g w e ↔ MatchedReading g w e
+  file_readings w e = matched_readings g file_plain w e
 
-  pub file-entries : (w : List Token) (e : List ℕ) → Memᴰ e (entries g w) ↔ MatchedReading g w e
-  file-entries w e = entries-matched g file-plain w e
+  pub file_entries : (w : List Token) (e : List ℕ) → Memᴰ e (entries g w) ↔ MatchedReading g w e
+  file_entries w e = entries_matched g file_plain w e

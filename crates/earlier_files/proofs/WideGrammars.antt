@@ -11,35 +11,35 @@ use Rattle.numbers.specs.declared.NumberRead.TheVariants.{Number, Refused as Num
 use Rattle.numbers.specs.declared.FieldRead.{FieldRead}
 use Rattle.numbers.specs.declared.FieldRead.TheVariants.{Field, Refused as FieldRefused}
 use Rattle.numbers.specs.believed.Number.{number_at, Source, bytes}
-use Rattle.numbers.specs.believed.Field.{field_at, countAt}
+use Rattle.numbers.specs.believed.Field.{field_at, count_at}
 use Rattle.rules.specs.declared.PairRead.{PairRead}
 use Rattle.rules.specs.declared.PairRead.TheVariants.{Pair, Refused as PairRefused}
 use Rattle.rules.specs.declared.RuleRead.{RuleRead}
 use Rattle.rules.specs.declared.RuleRead.TheVariants.{Read, Refused as RuleRefused}
-use Rattle.rules.specs.believed.Rule.{names, forms, first, second, pair_at, after, stepAt, body_at, ruleAt}
+use Rattle.rules.specs.believed.Rule.{names, forms, first, second, pair_at, after, step_at, body_at, rule_at}
 use Rattle.tables.specs.Table.{earlier}
 use Rattle.vpg.specs.declared.Rule.{Rule}
 use Rattle.vpg.specs.believed.Grammar.{Grammar}
-use Rattle.grammar_file.specs.believed.GrammarFile.{GrammarFile, accepted, refused, afterRule, afterCount, rulesFrom, countedFrom, withoutStart, withStart, either, grammarFrom, grammarOf}
+use Rattle.grammar_file.specs.believed.GrammarFile.{GrammarFile, accepted, refused, after_rule, after_count, rules_from, counted_from, without_start, with_start, either, grammar_from, grammar_of}
 use Rattle.grammar_file.proofs.Accepted.{apart}
-use Rattle.earlier_files.specs.TwoBytes.{twoBytes}
-use Rattle.earlier_files.specs.NarrowGrammar.{narrowNames, stepNarrow, bodyNarrow, ruleNarrow, rulesNarrow, countedNarrow, withoutStartNarrow, withStartNarrow, grammarNarrow}
-use Rattle.earlier_files.specs.GrammarBefore.{grammarBefore}
-use Rattle.earlier_files.proofs.Grammars.{grammar-kept}
+use Rattle.earlier_files.specs.TwoBytes.{two_bytes_lem}
+use Rattle.earlier_files.specs.NarrowGrammar.{narrow_names, step_narrow, body_narrow, rule_narrow, rules_narrow, counted_narrow, without_start_narrow, with_start_narrow, grammar_narrow}
+use Rattle.earlier_files.specs.GrammarBefore.{grammar_before}
+use Rattle.earlier_files.proofs.Grammars.{grammar_kept}
 use Rattle.earlier_files.proofs.Kept.{Kept, followed, either-kept, number-kept, Wider, field-kept, count_kept}
 
 abbrev Moved : ℕ → Type 0
 Moved e = (e ≡ 2) ⊎ (e ≡ 7)
 
-wider-names : Wider Moved narrowNames names 7
-wider-names = inr (omega arith, inr refl)
+wider_names : Wider Moved narrow_names names 7
+wider_names = inr (omega arith, inr refl)
 
 -- ── one rule ──
 
 module _ {number number' : ℕ → NumberRead} (numbers : (at : ℕ) → Kept Moved NumberRefused (number at) (number' at)) (nonterminals : ℕ) where
-  pair-kept : (at limit wide e : ℕ) → Wider Moved limit wide e → Kept Moved PairRefused (pair_at number at limit e nonterminals) (pair_at number' at wide e nonterminals)
+  pair_kept : (at limit wide e : ℕ) → Wider Moved limit wide e → Kept Moved PairRefused (pair_at number at limit e nonterminals) (pair_at number' at wide e nonterminals)
   unfolding pair_at
-  pair-kept at limit wide e w = followed Moved (λ r. first r _) (λ r. first r _) (λ d. refl) goes (field-kept Moved numbers at limit wide e w)
+  pair_kept at limit wide e w = followed Moved (λ r. first r _) (λ r. first r _) (λ d. refl) goes (field-kept Moved numbers at limit wide e w)
     where
       goes : (r : FieldRead)
           → Kept Moved PairRefused (first r (λ a next. second a (field_at number next nonterminals 6))) (first r (λ a next. second a (field_at number' next nonterminals 6)))
@@ -55,101 +55,101 @@ module _ {number number' : ℕ → NumberRead} (numbers : (at : ℕ) → Kept Mo
       goes (Pair a b next) = k a b next
       goes (PairRefused d) = inl refl
 
-  step_kept : (at from name to : ℕ) → Kept Moved RuleRefused (stepNarrow number at nonterminals from name to) (stepAt number' at nonterminals from name to)
-  unfolding stepNarrow stepAt
-  step_kept at from name to = after_kept _ _ (λ close last next. inl refl) (pair-kept at narrowNames names 7 wider-names)
+  step_kept : (at from name to : ℕ) → Kept Moved RuleRefused (step_narrow number at nonterminals from name to) (step_at number' at nonterminals from name to)
+  unfolding step_narrow step_at
+  step_kept at from name to = after_kept _ _ (λ close last next. inl refl) (pair_kept at narrow_names names 7 wider_names)
 
-  body_kept : (at form from : ℕ) → Kept Moved RuleRefused (bodyNarrow number at nonterminals form from) (body_at number' at nonterminals form from)
-  unfolding bodyNarrow body_at
+  body_kept : (at form from : ℕ) → Kept Moved RuleRefused (body_narrow number at nonterminals form from) (body_at number' at nonterminals form from)
+  unfolding body_narrow body_at
   body_kept at form from =
-      after_kept _ _ (λ name to next. either-kept Moved (eqb form 1) (inl refl) (step_kept next from name to)) (pair-kept at narrowNames names 7 wider-names)
+      after_kept _ _ (λ name to next. either-kept Moved (eqb form 1) (inl refl) (step_kept next from name to)) (pair_kept at narrow_names names 7 wider_names)
 
-  rule-kept : (at : ℕ) → Kept Moved RuleRefused (ruleNarrow number at nonterminals) (ruleAt number' at nonterminals)
-  unfolding ruleNarrow ruleAt
-  rule-kept at =
-      after_kept _ _ (λ form from next. either-kept Moved (eqb form 0) (inl refl) (body_kept next form from)) (pair-kept at forms forms 5 (inl refl))
+  rule_kept : (at : ℕ) → Kept Moved RuleRefused (rule_narrow number at nonterminals) (rule_at number' at nonterminals)
+  unfolding rule_narrow rule_at
+  rule_kept at =
+      after_kept _ _ (λ form from next. either-kept Moved (eqb form 0) (inl refl) (body_kept next form from)) (pair_kept at forms forms 5 (inl refl))
 
 -- ── the file ──
 
 module _ {x y : Source} (numbers : (at : ℕ) → Kept Moved NumberRefused (x.number at) (y.number at)) (more : (at : ℕ) → y.more at ≡ x.more at) where
   -- what follows a rule
-  after-rule-kept : (f g : Rule → ℕ → GrammarFile) → ((R : Rule) (next : ℕ) → Kept Moved refused (f R next) (g R next))
-      → {r s : RuleRead} → Kept Moved RuleRefused r s → Kept Moved refused (afterRule r f) (afterRule s g)
-  after-rule-kept f g k h = followed Moved (λ r. afterRule r f) (λ r. afterRule r g) (λ d. refl) goes h
+  after_rule-kept : (f g : Rule → ℕ → GrammarFile) → ((R : Rule) (next : ℕ) → Kept Moved refused (f R next) (g R next))
+      → {r s : RuleRead} → Kept Moved RuleRefused r s → Kept Moved refused (after_rule r f) (after_rule s g)
+  after_rule-kept f g k h = followed Moved (λ r. after_rule r f) (λ r. after_rule r g) (λ d. refl) goes h
     where
-      goes : (r : RuleRead) → Kept Moved refused (afterRule r f) (afterRule r g)
+      goes : (r : RuleRead) → Kept Moved refused (after_rule r f) (after_rule r g)
       goes (Read R next) = k R next
       goes (RuleRefused d) = inl refl
 
-  rules-kept : (nonterminals start due at : ℕ) (rules : List Rule)
-      → Kept Moved refused (rulesNarrow x nonterminals start due at rules) (rulesFrom y nonterminals start due at rules)
-  unfolding rulesNarrow rulesFrom
-  rules-kept nonterminals start zero at rules = inl (rw more)
-  rules-kept nonterminals start (suc due) at rules =
-      after-rule-kept _ _
-      (λ R next. either-kept Moved (earlier R rules) (inl refl) (rules-kept nonterminals start due next (rules ++ (R ∷ []))))
-      (rule-kept numbers nonterminals at)
+  rules_kept : (nonterminals start due at : ℕ) (rules : List Rule)
+      → Kept Moved refused (rules_narrow x nonterminals start due at rules) (rules_from y nonterminals start due at rules)
+  unfolding rules_narrow rules_from
+  rules_kept nonterminals start zero at rules = inl (rw more)
+  rules_kept nonterminals start (suc due) at rules =
+      after_rule-kept _ _
+      (λ R next. either-kept Moved (earlier R rules) (inl refl) (rules_kept nonterminals start due next (rules ++ (R ∷ []))))
+      (rule_kept numbers nonterminals at)
 
   -- what follows a count
-  after-count-kept : (f g : ℕ → ℕ → GrammarFile) → ((n next : ℕ) → Kept Moved refused (f n next) (g n next))
-      → {r s : FieldRead} → Kept Moved FieldRefused r s → Kept Moved refused (afterCount r f) (afterCount s g)
-  after-count-kept f g k h = followed Moved (λ r. afterCount r f) (λ r. afterCount r g) (λ d. refl) goes h
+  after_count-kept : (f g : ℕ → ℕ → GrammarFile) → ((n next : ℕ) → Kept Moved refused (f n next) (g n next))
+      → {r s : FieldRead} → Kept Moved FieldRefused r s → Kept Moved refused (after_count r f) (after_count s g)
+  after_count-kept f g k h = followed Moved (λ r. after_count r f) (λ r. after_count r g) (λ d. refl) goes h
     where
-      goes : (r : FieldRead) → Kept Moved refused (afterCount r f) (afterCount r g)
+      goes : (r : FieldRead) → Kept Moved refused (after_count r f) (after_count r g)
       goes (Field n next) = k n next
       goes (FieldRefused d) = inl refl
 
-  counted-kept : (at nonterminals start : ℕ) → Kept Moved refused (countedNarrow x at nonterminals start) (countedFrom y at nonterminals start)
+  counted-kept : (at nonterminals start : ℕ) → Kept Moved refused (counted_narrow x at nonterminals start) (counted_from y at nonterminals start)
   counted-kept at nonterminals start =
-      after-count-kept _ _ (λ due next. rules-kept nonterminals start due next []) (count_kept Moved numbers at 128 4)
+      after_count-kept _ _ (λ due next. rules_kept nonterminals start due next []) (count_kept Moved numbers at 128 4)
 
-  without-kept : Kept Moved refused (withoutStartNarrow x) (withoutStart y)
-  without-kept = after-count-kept _ _ (λ n next. counted-kept next n 0) (count_kept Moved numbers 0 32 3)
+  without_kept : Kept Moved refused (without_start_narrow x) (without_start y)
+  without_kept = after_count-kept _ _ (λ n next. counted-kept next n 0) (count_kept Moved numbers 0 32 3)
 
-  with-kept : (at : ℕ) → Kept Moved refused (withStartNarrow x at) (withStart y at)
+  with-kept : (at : ℕ) → Kept Moved refused (with_start_narrow x at) (with_start y at)
   with-kept at =
-      after-count-kept _ _
-      (λ n next. after-count-kept _ _ (λ start behind. counted-kept behind n start) (field-kept Moved numbers next n n 6 (inl refl)))
+      after_count-kept _ _
+      (λ n next. after_count-kept _ _ (λ start behind. counted-kept behind n start) (field-kept Moved numbers next n n 6 (inl refl)))
       (count_kept Moved numbers at 32 3)
 
   -- the first number, which says whether there is a start
-  begun : (r : NumberRead) → Kept Moved refused (either r (withStartNarrow x) (withoutStartNarrow x)) (either r (withStart y) (withoutStart y))
-  begun (Number n next) = either-kept Moved (eqb n 0) (with-kept next) without-kept
-  begun (NumberRefused e) = without-kept
+  begun : (r : NumberRead) → Kept Moved refused (either r (with_start_narrow x) (without_start_narrow x)) (either r (with_start y) (without_start y))
+  begun (Number n next) = either-kept Moved (eqb n 0) (with-kept next) without_kept
+  begun (NumberRefused e) = without_kept
 
-  no_number : (e : ℕ) → x.number 0 ≡ NumberRefused e → grammarNarrow x ≡ refused e
-  unfolding grammarNarrow countAt field_at
+  no_number : (e : ℕ) → x.number 0 ≡ NumberRefused e → grammar_narrow x ≡ refused e
+  unfolding grammar_narrow count_at field_at
   no_number e was = rw was
 
-  pub grammar-kept-from : Kept Moved refused (grammarNarrow x) (grammarFrom y)
-  unfolding grammarNarrow grammarFrom
-  grammar-kept-from = go (numbers 0)
+  pub grammar_kept-from : Kept Moved refused (grammar_narrow x) (grammar_from y)
+  unfolding grammar_narrow grammar_from
+  grammar_kept-from = go (numbers 0)
     where
-      go : Kept Moved NumberRefused (x.number 0) (y.number 0) → Kept Moved refused (grammarNarrow x) (grammarFrom y)
+      go : Kept Moved NumberRefused (x.number 0) (y.number 0) → Kept Moved refused (grammar_narrow x) (grammar_from y)
       go (inl same) = rw same (begun (x.number 0))
       go (inr (e, m, was)) = inr (e, m, no_number e was)
 
 -- ── of bytes ──
 
 module _ (s : List ℕ) where
-  pub grammar-widened : (grammarOf s ≡ grammarNarrow (twoBytes s)) ⊎ ((grammarNarrow (twoBytes s) ≡ refused 2) ⊎ (grammarNarrow (twoBytes s) ≡ refused 7))
+  pub grammar_widened : (grammar_of s ≡ grammar_narrow (two_bytes_lem s)) ⊎ ((grammar_narrow (two_bytes_lem s) ≡ refused 2) ⊎ (grammar_narrow (two_bytes_lem s) ≡ refused 7))
   unfolding number_at
-  grammar-widened = go (grammar-kept-from {x = twoBytes s} {y = bytes s} (number-kept Moved (inl refl) s 2) (λ at. refl))
+  grammar_widened = go (grammar_kept-from {x = two_bytes_lem s} {y = bytes s} (number-kept Moved (inl refl) s 2) (λ at. refl))
     where
-      go : Kept Moved refused (grammarNarrow (twoBytes s)) (grammarOf s)
-          → (grammarOf s ≡ grammarNarrow (twoBytes s)) ⊎ ((grammarNarrow (twoBytes s) ≡ refused 2) ⊎ (grammarNarrow (twoBytes s) ≡ refused 7))
+      go : Kept Moved refused (grammar_narrow (two_bytes_lem s)) (grammar_of s)
+          → (grammar_of s ≡ grammar_narrow (two_bytes_lem s)) ⊎ ((grammar_narrow (two_bytes_lem s) ≡ refused 2) ⊎ (grammar_narrow (two_bytes_lem s) ≡ refused 7))
       go (inl same) = inl same
       go (inr (e, inl two, was)) = inr (inl (was ∙ ap refused two))
       go (inr (e, inr seven, was)) = inr (inr (was ∙ ap refused seven))
 
-  pub grammar-keeps-its-meaning : (g : Grammar) → grammarNarrow (twoBytes s) ≡ accepted g → grammarOf s ≡ accepted g
-  grammar-keeps-its-meaning g h = go grammar-widened
+  pub grammar_keeps_its_meaning : (g : Grammar) → grammar_narrow (two_bytes_lem s) ≡ accepted g → grammar_of s ≡ accepted g
+  grammar_keeps_its_meaning g h = go grammar_widened
     where
-      go : (grammarOf s ≡ grammarNarrow (twoBytes s)) ⊎ ((grammarNarrow (twoBytes s) ≡ refused 2) ⊎ (grammarNarrow (twoBytes s) ≡ refused 7)) → grammarOf s ≡ accepted g
+      go : (grammar_of s ≡ grammar_narrow (two_bytes_lem s)) ⊎ ((grammar_narrow (two_bytes_lem s) ≡ refused 2) ⊎ (grammar_narrow (two_bytes_lem s) ≡ refused 7)) → grammar_of s ≡ accepted g
       go (inl same) = same ∙ h
       go (inr (inl two)) = absurd (apart (sym two ∙ h))
       go (inr (inr seven)) = absurd (apart (sym seven ∙ h))
 
   -- and a file that passed before it could say its start, through both requests
-  pub first-files-keep-their-meaning : (g : Grammar) → grammarBefore (twoBytes s) ≡ accepted g → grammarOf s ≡ accepted g
-  first-files-keep-their-meaning g h = grammar-keeps-its-meaning g (grammar-kept (twoBytes s) g h)
+  pub first_files_keep_their_meaning : (g : Grammar) → grammar_before (two_bytes_lem s) ≡ accepted g → grammar_of s ≡ accepted g
+  first_files_keep_their_meaning g h = grammar_keeps_its_meaning g (grammar_kept (two_bytes_lem s) g h)

@@ -1,8 +1,8 @@
 -- A file of bytes before names went above 63: its numbers have two bytes at most (document 01, "The two files").
--- Law: grammar-keeps-its-meaning (earlier_files/proofs/WideGrammars.antt)
--- Law: history-keeps-its-meaning (earlier_files/proofs/WideHistories.antt)
+-- Law: grammar_keeps_its_meaning (earlier_files/proofs/WideGrammars.antt)
+-- Law: history_keeps_its_meaning (earlier_files/proofs/WideHistories.antt)
 use Rattle.std.specs.Prelude.{ℕ, List, ltb, length}
-use Rattle.numbers.specs.believed.Number.{numberWithin, Source}
+use Rattle.numbers.specs.believed.Number.{number_within, Source}
 
-abbrev pub twoBytes : List ℕ → Source
-twoBytes s = record { number = numberWithin 2 s; more = λ at. ltb at (length s) }
+abbrev pub two_bytes_lem : List ℕ → Source
+two_bytes_lem s = record { number = number_within 2 s; more = λ at. ltb at (length s) }

@@ -1,5 +1,5 @@
 -- The bytes in which elements are handed to a reader.
--- Law: grammar-encoded, history-encoded (sources/proofs/Encoded.antt)
+-- Law: grammar_encoded, history_encoded (sources/proofs/Encoded.antt)
 use Rattle.std.specs.Prelude.{ℕ, cond, List, map, ltb, take}
 use Rattle.numbers.specs.Written.{written}
 

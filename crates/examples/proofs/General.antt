@@ -7,24 +7,24 @@ use Rattle.examples.specs.General.{GeneralExamples}
 pub general : GeneralExamples
 unfolding runs
 general = record {
-  open-alone = λ p. omega (arith, p);
-  close-alone = λ p. omega (arith, p);
-  on-to-well = λ p. omega (arith, p);
-  step-outside = (omega (arith), λ p. omega (arith, p));
-  not-open-alone = λ f. (f (omega (arith))).0;
-  not-close-alone = λ f. (f (omega (arith))).0;
-  not-on-from-well = λ f. omega (arith, (f (omega (arith))).1);
-  not-behind-well = λ f. omega (arith, f.1 (omega (arith)));
-  not-inside = λ f. omega (arith, f.0);
-  cut-behind = refl;
-  cut-before = refl;
-  cut-both = refl;
+  open_alone = λ p. omega (arith, p);
+  close_alone = λ p. omega (arith, p);
+  on_to_well = λ p. omega (arith, p);
+  step_outside = (omega (arith), λ p. omega (arith, p));
+  not_open_alone = λ f. (f (omega (arith))).0;
+  not_close_alone = λ f. (f (omega (arith))).0;
+  not_on_from_well = λ f. omega (arith, (f (omega (arith))).1);
+  not-behind_well = λ f. omega (arith, f.1 (omega (arith)));
+  not_inside = λ f. omega (arith, f.0);
+  cut_behind = refl;
+  cut_before = refl;
+  cut_both = refl;
   two_ways = refl;
   behind-step = refl;
   inside = refl;
-  no-close-then = refl;
+  no_close_then = refl;
   step_then = refl;
-  well-open = refl;
-  well-close = refl;
-  well-step = refl;
+  well_open = refl;
+  well_close = refl;
+  well_step = refl;
 }

@@ -1,8 +1,8 @@
 // The checks of the two files: accepted with the counts, or the number of the first fault.
 ghost use Rattle.std.specs.Prelude.{◌≡◌};
-ghost use Rattle.grammar_file.specs.believed.GrammarFile.{grammarOf};
-ghost use Rattle.history_file.specs.believed.HistoryFile.{historyOf};
-ghost use Rattle.files.specs.believed.Checks.{grammarSaid, grammarDue, historySaid, historyDue};
+ghost use Rattle.grammar_file.specs.believed.GrammarFile.{grammar_of};
+ghost use Rattle.history_file.specs.believed.HistoryFile.{history_of};
+ghost use Rattle.files.specs.believed.Checks.{grammar_said, grammar_due, history_said, history_due};
 
 use grammar_file::GrammarAnswer;
 use history_file::HistoryAnswer;
@@ -22,7 +22,7 @@ pub enum HistoryCheck {
 }
 
 pub fn grammar_check(grammar: &[u8]) -> GrammarCheck
-    ensures { grammarSaid result ≡ grammarDue (grammarOf grammar.now) }
+    ensures { grammar_said result ≡ grammar_due (grammar_of grammar.now) }
 {
     let mut table = [0u16; 1412];
     let answer = grammar_file::read_grammar(grammar, &mut table);
@@ -36,7 +36,7 @@ pub fn grammar_check(grammar: &[u8]) -> GrammarCheck
 }
 
 pub fn history_check(history: &[u8]) -> HistoryCheck
-    ensures { historySaid result ≡ historyDue (historyOf history.now) }
+    ensures { history_said result ≡ history_due (history_of history.now) }
 {
     let mut tokens = [0u32; 1024];
     let answer = history_file::read_history(history, &mut tokens);

@@ -1,18 +1,18 @@
 -- What the forward pass starts from, looks for and writes.
--- Law: first-is, none-is (first_run/proofs/Whole.antt)
+-- Law: first_is, none-is (first_run/proofs/Whole.antt)
 use Rattle.std.specs.Prelude.{ℕ, suc, ◌≡◌, List, ◌++◌, length, take, drop}
 use Rattle.vpg.specs.declared.Token.{Token}
 use Rattle.vpg.specs.believed.Grammar.{Rules}
 use Rattle.vpg.specs.Extremes.{Least}
 use Rattle.vpg.specs.Runs.{State}
 use Rattle.level_theory.specs.Masks.{masks, Fits}
-use Rattle.level_theory.specs.Pending.{pendingAt, due_at}
+use Rattle.level_theory.specs.Pending.{pending_at, due_at}
 use Rattle.level_theory.specs.Walk.{Run}
 use Rattle.first_run.specs.declared.Configuration.{Configuration}
 
 -- the state of a configuration: its nonterminal, and what is due behind the pending closes
 abbrev pub state_of : ℕ → List Token → Configuration → State
-state_of W w c = (c.nonterminal, due_at W c.behind (pendingAt w c.position) c.nonterminal)
+state_of W w c = (c.nonterminal, due_at W c.behind (pending_at w c.position) c.nonterminal)
 
 -- the configuration derives the tokens from its position on
 abbrev pub Derives : ℕ → Rules → List Token → Configuration → Type 0

@@ -1,12 +1,12 @@
 // The first reading: forward over the tokens, at each position the smallest rule that can stand there.
 ghost use Rattle.std.specs.Prelude.{◌≡◌, ◌<◌, ◌≤◌, length};
-ghost use Rattle.listing_model.specs.believed.Listing.{first, overEntries};
-ghost use Rattle.listing_model.specs.Calls.{callOn};
-ghost use Rattle.tables.specs.Ready.{rulesOf, grammarIn};
-ghost use Rattle.history_file.specs.believed.HistoryFile.{tokensOf};
+ghost use Rattle.listing_model.specs.believed.Listing.{first, over_entries};
+ghost use Rattle.listing_model.specs.Calls.{call_on};
+ghost use Rattle.tables.specs.Ready.{rules_of, grammar_in};
+ghost use Rattle.history_file.specs.believed.HistoryFile.{tokens_of};
 ghost use Rattle.levels.specs.Levels.{Setting};
 ghost use Rattle.first_run.specs.Fill.{Derives, Filled};
-ghost use Rattle.first_run.specs.First.{firstSaid};
+ghost use Rattle.first_run.specs.First.{first_said};
 
 use levels::{Closes, Masks, Nonterminals};
 use tables::{Head, Table};
@@ -31,8 +31,8 @@ pub fn fill(
 )
     requires setting { Setting table.now head tokens.now closes.now masks.now }
     requires position_in_bounds { (from.position ≤ length tokens.now) × (length from.behind ≡ 1025) × (length tokens.now < length out.old) }
-    requires derives { Derives head.well (rulesOf table.now head) (tokensOf tokens.now) from }
-    ensures { Filled head.well (rulesOf table.now head) (tokensOf tokens.now) from out.old out.new }
+    requires derives { Derives head.well (rules_of table.now head) (tokens_of tokens.now) from }
+    ensures { Filled head.well (rules_of table.now head) (tokens_of tokens.now) from out.old out.new }
 {
     let mut due = from.behind;
     let mut nonterminal = from.nonterminal;
@@ -69,7 +69,7 @@ pub fn first(
 ) -> FirstAnswer
     requires setting { Setting table.now head tokens.now closes.now masks.now }
     requires tokens_in_bounds { length tokens.now < length out.old }
-    ensures { (firstSaid result, out.new) ≡ callOn (overEntries (grammarIn table.now head) (tokensOf tokens.now)) first out.old }
+    ensures { (first_said result, out.new) ≡ call_on (over_entries (grammar_in table.now head) (tokens_of tokens.now)) first out.old }
 {
     let nonterminal = head.start;
     if levels::derives_all(masks, head) {

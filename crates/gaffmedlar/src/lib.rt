@@ -3,18 +3,18 @@
 // struct with its place alone, and another function says the number.
 ghost use Rattle.std.specs.Prelude.{◌≡◌, length};
 ghost use Rattle.listing_model.specs.believed.Listing.{first, next};
-ghost use Rattle.listing_model.specs.Calls.{callOn};
-ghost use Rattle.grammar_file.specs.believed.GrammarFile.{grammarOf};
-ghost use Rattle.history_file.specs.believed.HistoryFile.{historyOf};
-ghost use Rattle.files.specs.believed.Checks.{grammarDue, historyDue};
+ghost use Rattle.listing_model.specs.Calls.{call_on};
+ghost use Rattle.grammar_file.specs.believed.GrammarFile.{grammar_of};
+ghost use Rattle.history_file.specs.believed.HistoryFile.{history_of};
+ghost use Rattle.files.specs.believed.Checks.{grammar_due, history_due};
 ghost use Rattle.readings.specs.believed.Answers.{subject};
-ghost use Rattle.calls.specs.believed.CallList.{coded, callsDue};
-ghost use Rattle.sets.specs.believed.Sets.{setsDue, countDue};
-ghost use Rattle.reading_counts.specs.believed.Numbered.{readingsDue, readingsAtDue, readingDue};
-ghost use Rattle.stop_marks.specs.believed.StopMarks.{marksDue};
+ghost use Rattle.calls.specs.believed.CallList.{coded, calls_due};
+ghost use Rattle.sets.specs.believed.Sets.{sets_due, count_due};
+ghost use Rattle.reading_counts.specs.believed.Numbered.{readings_due, readings_at_due, reading_due};
+ghost use Rattle.stop_marks.specs.believed.StopMarks.{marks_due};
 ghost use Rattle.step_bytes.specs.believed.StepBytes.{step_of, number_in};
-ghost use Rattle.writers.specs.believed.Writers.{grammarWritten, historyWritten};
-ghost use Rattle.replies.specs.believed.Wire.{grammarWire, historyWire, countWire, setsWire, readingsWire, outcomeWire, callsWire, partWire, stepCode, writeWire};
+ghost use Rattle.writers.specs.believed.Writers.{grammar_written, history_written};
+ghost use Rattle.replies.specs.believed.Wire.{grammar_wire, history_wire, count_wire, sets_wire, readings_wire, outcome_wire, calls_wire, part_wire, step_code, write_wire};
 ghost use Rattle.gaffmedlar.specs.believed.Version.{version};
 
 use replies::{CountReply, GrammarReply, HistoryReply, PartReply, ReadingsReply, WriteReply};
@@ -32,14 +32,14 @@ pub extern "C" fn gaffmedlar_version() -> u32
 
 #[unsafe(no_mangle)]
 pub extern "C" fn gaffmedlar_grammar_check(grammar: &[u8]) -> GrammarReply
-    ensures { result ≡ grammarWire (grammarDue (grammarOf grammar.now)) }
+    ensures { result ≡ grammar_wire (grammar_due (grammar_of grammar.now)) }
 {
     replies::grammar_reply(files::grammar_check(grammar))
 }
 
 #[unsafe(no_mangle)]
 pub extern "C" fn gaffmedlar_history_check(history: &[u8]) -> HistoryReply
-    ensures { result ≡ historyWire (historyDue (historyOf history.now)) }
+    ensures { result ≡ history_wire (history_due (history_of history.now)) }
 {
     replies::history_reply(files::history_check(history))
 }
@@ -47,7 +47,7 @@ pub extern "C" fn gaffmedlar_history_check(history: &[u8]) -> HistoryReply
 // Writes the first reading.
 #[unsafe(no_mangle)]
 pub extern "C" fn gaffmedlar_first_reading(grammar: &[u8], history: &[u8], reading: &mut [u8]) -> u8
-    ensures { (result, reading.new) ≡ coded (callOn (subject grammar.now history.now (length reading.old)) first reading.old) }
+    ensures { (result, reading.new) ≡ coded (call_on (subject grammar.now history.now (length reading.old)) first reading.old) }
 {
     calls::code_of(readings::first_reading(grammar, history, reading))
 }
@@ -55,7 +55,7 @@ pub extern "C" fn gaffmedlar_first_reading(grammar: &[u8], history: &[u8], readi
 // Overwrites the reading in the buffer by the next one.
 #[unsafe(no_mangle)]
 pub extern "C" fn gaffmedlar_next_reading(grammar: &[u8], history: &[u8], reading: &mut [u8]) -> u8
-    ensures { (result, reading.new) ≡ coded (callOn (subject grammar.now history.now (length reading.old)) next reading.old) }
+    ensures { (result, reading.new) ≡ coded (call_on (subject grammar.now history.now (length reading.old)) next reading.old) }
 {
     calls::code_of(readings::next_reading(grammar, history, reading))
 }
@@ -70,7 +70,7 @@ pub extern "C" fn gaffmedlar_run_calls(
     answers: &mut [u8],
     buffer: &mut [u8],
 ) -> u8
-    ensures { (result, answers.new, buffer.new) ≡ callsWire (callsDue grammar.now history.now calls.now answers.old buffer.old) }
+    ensures { (result, answers.new, buffer.new) ≡ calls_wire (calls_due grammar.now history.now calls.now answers.old buffer.old) }
 {
     replies::outcome_code(calls::run_calls(grammar, history, calls, answers, buffer))
 }
@@ -78,7 +78,7 @@ pub extern "C" fn gaffmedlar_run_calls(
 // Writes four words for each position, the set of rules that stand there in some reading, and answers how many positions are choices.
 #[unsafe(no_mangle)]
 pub extern "C" fn gaffmedlar_sets(grammar: &[u8], history: &[u8], words: &mut [u32]) -> CountReply
-    ensures { (result, words.new) ≡ setsWire (setsDue grammar.now history.now words.old) }
+    ensures { (result, words.new) ≡ sets_wire (sets_due grammar.now history.now words.old) }
 {
     replies::count_reply(sets::sets(grammar, history, words))
 }
@@ -86,7 +86,7 @@ pub extern "C" fn gaffmedlar_sets(grammar: &[u8], history: &[u8], words: &mut [u
 // How many positions are choices: two rules of their set are for one nonterminal.
 #[unsafe(no_mangle)]
 pub extern "C" fn gaffmedlar_choice_count(grammar: &[u8], history: &[u8]) -> CountReply
-    ensures { result ≡ countWire (countDue grammar.now history.now) }
+    ensures { result ≡ count_wire (count_due grammar.now history.now) }
 {
     replies::count_reply(sets::choice_count(grammar, history))
 }
@@ -94,7 +94,7 @@ pub extern "C" fn gaffmedlar_choice_count(grammar: &[u8], history: &[u8]) -> Cou
 // How many readings there are.
 #[unsafe(no_mangle)]
 pub extern "C" fn gaffmedlar_reading_count(grammar: &[u8], history: &[u8]) -> ReadingsReply
-    ensures { result ≡ readingsWire (readingsDue grammar.now history.now) }
+    ensures { result ≡ readings_wire (readings_due grammar.now history.now) }
 {
     replies::readings_reply(reading_counts::reading_count(grammar, history))
 }
@@ -107,7 +107,7 @@ pub extern "C" fn gaffmedlar_reading_count_at(
     position: usize,
     rule: usize,
 ) -> ReadingsReply
-    ensures { result ≡ readingsWire (readingsAtDue grammar.now history.now position rule) }
+    ensures { result ≡ readings_wire (readings_at_due grammar.now history.now position rule) }
 {
     replies::readings_reply(reading_counts::reading_count_at(grammar, history, position, rule))
 }
@@ -120,7 +120,7 @@ pub extern "C" fn gaffmedlar_reading_at(
     k: u64,
     reading: &mut [u8],
 ) -> u8
-    ensures { (result, reading.new) ≡ outcomeWire (readingDue grammar.now history.now k reading.old) }
+    ensures { (result, reading.new) ≡ outcome_wire (reading_due grammar.now history.now k reading.old) }
 {
     replies::outcome_code(reading_counts::reading_at(grammar, history, k, reading))
 }
@@ -128,7 +128,7 @@ pub extern "C" fn gaffmedlar_reading_at(
 // Writes n + 1 bytes: byte i is 1 where the first i tokens alone have a reading, else 0.
 #[unsafe(no_mangle)]
 pub extern "C" fn gaffmedlar_stop_marks(grammar: &[u8], history: &[u8], marks: &mut [u8]) -> u8
-    ensures { (result, marks.new) ≡ outcomeWire (marksDue grammar.now history.now marks.old) }
+    ensures { (result, marks.new) ≡ outcome_wire (marks_due grammar.now history.now marks.old) }
 {
     replies::outcome_code(stop_marks::stop_marks(grammar, history, marks))
 }
@@ -136,7 +136,7 @@ pub extern "C" fn gaffmedlar_stop_marks(grammar: &[u8], history: &[u8], marks: &
 // The bytes of the step whose open stands at the position: where in the history they start, and how many there are.
 #[unsafe(no_mangle)]
 pub extern "C" fn gaffmedlar_step_bytes(history: &[u8], position: usize) -> PartReply
-    ensures { result ≡ partWire (step_of history.now position) }
+    ensures { result ≡ part_wire (step_of history.now position) }
 {
     replies::part_reply(step_bytes::locate(history, position))
 }
@@ -144,7 +144,7 @@ pub extern "C" fn gaffmedlar_step_bytes(history: &[u8], position: usize) -> Part
 // Why there is no step at the position; 0 where there is one.
 #[unsafe(no_mangle)]
 pub extern "C" fn gaffmedlar_step_refusal(history: &[u8], position: usize) -> u8
-    ensures { result ≡ stepCode (number_in (step_of history.now position)) }
+    ensures { result ≡ step_code (number_in (step_of history.now position)) }
 {
     replies::step_code(step_bytes::step_check(history, position))
 }
@@ -152,7 +152,7 @@ pub extern "C" fn gaffmedlar_step_refusal(history: &[u8], position: usize) -> u8
 // Writes the grammar file of these numbers, one element each.
 #[unsafe(no_mangle)]
 pub extern "C" fn gaffmedlar_write_grammar(numbers: &[u32], file: &mut [u8]) -> WriteReply
-    ensures { (result, file.new) ≡ writeWire (grammarWritten numbers.now file.old) }
+    ensures { (result, file.new) ≡ write_wire (grammar_written numbers.now file.old) }
 {
     replies::write_reply(writers::write_grammar(numbers, file))
 }
@@ -160,7 +160,7 @@ pub extern "C" fn gaffmedlar_write_grammar(numbers: &[u32], file: &mut [u8]) -> 
 // Writes the history file of these numbers, one element each.
 #[unsafe(no_mangle)]
 pub extern "C" fn gaffmedlar_write_history(numbers: &[u32], file: &mut [u8]) -> WriteReply
-    ensures { (result, file.new) ≡ writeWire (historyWritten numbers.now file.old) }
+    ensures { (result, file.new) ≡ write_wire (history_written numbers.now file.old) }
 {
     replies::write_reply(writers::write_history(numbers, file))
 }

@@ -17,22 +17,22 @@ use Rattle.numbers.specs.declared.NumberRead.TheVariants.{Number, Refused as Num
 use Rattle.numbers.specs.declared.FieldRead.{FieldRead}
 use Rattle.numbers.specs.declared.FieldRead.TheVariants.{Field, Refused as FieldRefused}
 use Rattle.numbers.specs.believed.Number.{Source}
-use Rattle.numbers.specs.believed.Field.{field_at, countAt}
+use Rattle.numbers.specs.believed.Field.{field_at, count_at}
 use Rattle.numbers.specs.Written.{NumbersAt, none, one, Holds}
-use Rattle.numbers.proofs.Fields.{field-read, field-reads, Counted, count-read, count-reads}
-use Rattle.laws.proofs.Bools.{chose-second}
+use Rattle.numbers.proofs.Fields.{field_read, field_reads, Counted, count_read, count_reads}
+use Rattle.laws.proofs.Bools.{chose_second}
 use Rattle.numbers.proofs.Standing.{none_left, one_left, join, part}
 use Rattle.rules.specs.declared.RuleRead.{RuleRead}
 use Rattle.rules.specs.declared.RuleRead.TheVariants.{Read, Refused as RuleRefused}
-use Rattle.rules.specs.believed.Rule.{ruleAt}
-use Rattle.rules.specs.RuleNumbers.{ruleNumbers, Fits}
-use Rattle.rules.proofs.Rules.{rule-is}
+use Rattle.rules.specs.believed.Rule.{rule_at}
+use Rattle.rules.specs.RuleNumbers.{rule_numbers, Fits}
+use Rattle.rules.proofs.Rules.{rule_is}
 use Rattle.tables.specs.Table.{earlier}
-use Rattle.tables.proofs.Earlier.{earlier-is}
+use Rattle.tables.proofs.Earlier.{earlier_is}
 use Rattle.vpg.specs.declared.Rule.{Rule}
 use Rattle.vpg.specs.believed.Grammar.{Grammar}
-use Rattle.grammar_file.specs.believed.GrammarFile.{GrammarFile, accepted, refused, afterRule, afterCount, rulesFrom, countedFrom, withoutStart, withStart, either, grammarFrom}
-use Rattle.grammar_file.specs.Wellformed.{Wellformed, rulesNumbers, numbersOf, numbersWithoutStart}
+use Rattle.grammar_file.specs.believed.GrammarFile.{GrammarFile, accepted, refused, after_rule, after_count, rules_from, counted_from, without_start, with_start, either, grammar_from}
+use Rattle.grammar_file.specs.Wellformed.{Wellformed, rules_numbers, numbers_of, numbers_without_start}
 
 -- ── lists of rules ──
 
@@ -49,9 +49,9 @@ distinct_snoc (x ∷ rs) r (apart, d) new =
     go (inl m) = apart m
     go (inr m) = new (Memᴰ.head (sym (Memᴰ.eq_of_singleton m)))
 
-distinct-new : (rs : List Rule) (r : Rule) (xs : List Rule) → Distinct (rs ++ (r ∷ xs)) → Memᴰ r rs → ⊥
-distinct-new [] r xs d m = Memᴰ.not-nil m
-distinct-new (x ∷ rs) r xs (apart, d) m = go (distinct-new rs r xs d) (Memᴰ.cases_cons m)
+distinct_new : (rs : List Rule) (r : Rule) (xs : List Rule) → Distinct (rs ++ (r ∷ xs)) → Memᴰ r rs → ⊥
+distinct_new [] r xs d m = Memᴰ.not-nil m
+distinct_new (x ∷ rs) r xs (apart, d) m = go (distinct_new rs r xs d) (Memᴰ.cases_cons m)
   where
     go : (Memᴰ r rs → ⊥) → (r ≡ x) ⊎ Memᴰ r rs → ⊥
     go below (inl e) = apart (Memᴰ.append_right rs (Memᴰ.head (sym e)))
@@ -71,16 +71,16 @@ rule_fits {g} w i {r} h = w.fits r (member g.rules i h)
 pub apart : {e : ℕ} {g : Grammar} → refused e ≢ accepted g
 apart h = let z : ◌≡◌ {A = ℕ} 0 1 = cc in omega arith
 
-after-rule : (f : RuleRead) (rest : Rule → ℕ → GrammarFile) {g : Grammar} → afterRule f rest ≡ accepted g → (r : Rule) × (p : ℕ) × (f ≡ Read r p) × (rest r p ≡ accepted g)
-after-rule (Read r p) rest h = (r, p, refl, h)
-after-rule (RuleRefused e) rest h = absurd (apart h)
+after_rule_lem : (f : RuleRead) (rest : Rule → ℕ → GrammarFile) {g : Grammar} → after_rule f rest ≡ accepted g → (r : Rule) × (p : ℕ) × (f ≡ Read r p) × (rest r p ≡ accepted g)
+after_rule_lem (Read r p) rest h = (r, p, refl, h)
+after_rule_lem (RuleRefused e) rest h = absurd (apart h)
 
-after-count : (f : FieldRead) (rest : ℕ → ℕ → GrammarFile) {g : Grammar} → afterCount f rest ≡ accepted g → (n p : ℕ) × (f ≡ Field n p) × (rest n p ≡ accepted g)
-after-count (Field n p) rest h = (n, p, refl, h)
-after-count (FieldRefused e) rest h = absurd (apart h)
+after_count_lem : (f : FieldRead) (rest : ℕ → ℕ → GrammarFile) {g : Grammar} → after_count f rest ≡ accepted g → (n p : ℕ) × (f ≡ Field n p) × (rest n p ≡ accepted g)
+after_count_lem (Field n p) rest h = (n, p, refl, h)
+after_count_lem (FieldRefused e) rest h = absurd (apart h)
 
-same-grammar : {g k : Grammar} → accepted k ≡ accepted g → g ≡ k
-same-grammar h = cc
+same_grammar : {g k : Grammar} → accepted k ≡ accepted g → g ≡ k
+same_grammar h = cc
 
 -- ── the rules of a file ──
 
@@ -91,15 +91,15 @@ module _ (x : Source) (nonterminals start : ℕ) where
     is : g ≡ record { nonterminals = nonterminals; well = nonterminals; start = start; rules = rules ++ rest }
     count : length rest ≡ due
     end : ℕ
-    stand : NumbersAt x.number at (rulesNumbers rest) end
+    stand : NumbersAt x.number at (rules_numbers rest) end
     last : x.more end ≡ false
     fits : (r : Rule) → Memᴰ r rest → Fits nonterminals r
     distinct : Distinct rules → Distinct (rules ++ rest)
 
   -- one rule before those
-  one-rule : {g : Grammar} {due at p : ℕ} {rules : List Rule} (r : Rule) → NumbersAt x.number at (ruleNumbers r) p → Fits nonterminals r
+  one_rule : {g : Grammar} {due at p : ℕ} {rules : List Rule} (r : Rule) → NumbersAt x.number at (rule_numbers r) p → Fits nonterminals r
       → earlier r rules ≡ false → RulesAre g due p (rules ++ (r ∷ [])) → RulesAre g (suc due) at rules
-  one-rule {rules} r i f new b = record {
+  one_rule {rules} r i f new b = record {
     rest = r ∷ b.rest;
     is = rw append_assoc at b.is;
     count = ap suc b.count;
@@ -107,20 +107,20 @@ module _ (x : Source) (nonterminals start : ℕ) where
     stand = join i b.stand;
     last = b.last;
     fits = λ s m. each s (Memᴰ.cases_cons m);
-    distinct = λ d. rw append_assoc at (b.distinct (distinct_snoc rules r d (λ m. false≢true (sym new ∙ (earlier-is r rules).1 m))));
+    distinct = λ d. rw append_assoc at (b.distinct (distinct_snoc rules r d (λ m. false≢true (sym new ∙ (earlier_is r rules).1 m))));
   }
     where
       each : (s : Rule) → (s ≡ r) ⊎ Memᴰ s b.rest → Fits nonterminals s
       each s (inl e) = rw e f
       each s (inr m) = b.fits s m
 
-  rules-read : (g : Grammar) (due at : ℕ) (rules : List Rule) → rulesFrom x nonterminals start due at rules ≡ accepted g → RulesAre g due at rules
-  unfolding rulesFrom
-  rules-read g zero at rules h =
-      let p = chose-second (x.more at) _ _ apart h in
+  rules_read : (g : Grammar) (due at : ℕ) (rules : List Rule) → rules_from x nonterminals start due at rules ≡ accepted g → RulesAre g due at rules
+  unfolding rules_from
+  rules_read g zero at rules h =
+      let p = chose_second (x.more at) _ _ apart h in
       record {
         rest = [];
-        is = rw append-nil (same-grammar p.1);
+        is = rw append-nil (same_grammar p.1);
         count = refl;
         end = at;
         stand = none;
@@ -128,128 +128,128 @@ module _ (x : Source) (nonterminals start : ℕ) where
         fits = λ r m. absurd (Memᴰ.not-nil m);
         distinct = λ d. rw append-nil d;
       }
-  rules-read g (suc due) at rules h =
-      let f = after-rule (ruleAt x.number at nonterminals) _ h in
-      let i = (rule-is x.number nonterminals at f.0 f.1).0 f.2 in
-      let p = chose-second (earlier f.0 rules) _ _ apart f.3 in
-      one-rule f.0 i.0 i.1 p.0 (rules-read g due f.1 (rules ++ (f.0 ∷ [])) p.1)
+  rules_read g (suc due) at rules h =
+      let f = after_rule_lem (rule_at x.number at nonterminals) _ h in
+      let i = (rule_is x.number nonterminals at f.0 f.1).0 f.2 in
+      let p = chose_second (earlier f.0 rules) _ _ apart f.3 in
+      one_rule f.0 i.0 i.1 p.0 (rules_read g due f.1 (rules ++ (f.0 ∷ [])) p.1)
 
-  rules-reads : (rest : List Rule) (at end : ℕ) (rules : List Rule) → NumbersAt x.number at (rulesNumbers rest) end → x.more end ≡ false
+  rules_reads : (rest : List Rule) (at end : ℕ) (rules : List Rule) → NumbersAt x.number at (rules_numbers rest) end → x.more end ≡ false
       → ((r : Rule) → Memᴰ r rest → Fits nonterminals r) → Distinct (rules ++ rest)
-      → rulesFrom x nonterminals start (length rest) at rules ≡ accepted (record { nonterminals = nonterminals; well = nonterminals; start = start; rules = rules ++ rest })
-  unfolding rulesFrom
-  rules-reads [] at end rules n l f d = rw (none_left n, l, append-nil)
-  rules-reads (r ∷ rest) at end rules n l f d =
-      let s = part (ruleNumbers r) n in
-      let new = ne_true (earlier r rules) (λ e. distinct-new rules r rest d ((earlier-is r rules).0 e)) in
-      rw ((rule-is x.number nonterminals at r s.0).1 (s.1, f r (Memᴰ.head refl)), new, ← append_assoc rules (r ∷ []) rest)
-      (rules-reads rest s.0 end (rules ++ (r ∷ [])) s.2 l (λ q m. f q (Memᴰ.tail m)) (rw append_assoc d))
+      → rules_from x nonterminals start (length rest) at rules ≡ accepted (record { nonterminals = nonterminals; well = nonterminals; start = start; rules = rules ++ rest })
+  unfolding rules_from
+  rules_reads [] at end rules n l f d = rw (none_left n, l, append-nil)
+  rules_reads (r ∷ rest) at end rules n l f d =
+      let s = part (rule_numbers r) n in
+      let new = ne_true (earlier r rules) (λ e. distinct_new rules r rest d ((earlier_is r rules).0 e)) in
+      rw ((rule_is x.number nonterminals at r s.0).1 (s.1, f r (Memᴰ.head refl)), new, ← append_assoc rules (r ∷ []) rest)
+      (rules_reads rest s.0 end (rules ++ (r ∷ [])) s.2 l (λ q m. f q (Memᴰ.tail m)) (rw append_assoc d))
 
 -- ── the file ──
 
 module _ (x : Source) (g : Grammar) where
   -- the numbers of the grammar, with or without its start
   abbrev pub Said : Type 0
-  Said = Holds x (numbersOf g) ⊎ (Holds x (numbersWithoutStart g) × (g.start ≡ 0))
+  Said = Holds x (numbers_of g) ⊎ (Holds x (numbers_without_start g) × (g.start ≡ 0))
 
   -- a number that is read, known as another
-  number-as : {at p end n m : ℕ} {ns : List ℕ} → m ≡ n → x.number at ≡ Number n p → NumbersAt x.number p ns end → NumbersAt x.number at (m ∷ ns) end
-  number-as e h i = rw e (one h i)
+  number_as : {at p end n m : ℕ} {ns : List ℕ} → m ≡ n → x.number at ≡ Number n p → NumbersAt x.number p ns end → NumbersAt x.number at (m ∷ ns) end
+  number_as e h i = rw e (one h i)
 
-  counted : (n start at : ℕ) → countedFrom x at n start ≡ accepted g → (due p : ℕ) × Counted (x.number at) 128 due p × RulesAre x n start g due p []
+  counted : (n start at : ℕ) → counted_from x at n start ≡ accepted g → (due p : ℕ) × Counted (x.number at) 128 due p × RulesAre x n start g due p []
   counted n start at h =
-      let s = after-count (countAt x.number at 128 4) _ h in
-      (s.0, s.1, count-read x.number at 128 4 _ _ s.2, rules-read x n start g s.0 s.1 [] s.3)
+      let s = after_count_lem (count_at x.number at 128 4) _ h in
+      (s.0, s.1, count_read x.number at 128 4 _ _ s.2, rules_read x n start g s.0 s.1 [] s.3)
 
   module _ {n p start at due q : ℕ} {r : NumberRead} (c : Counted r 32 n p) (below : start < n) (k : Counted (x.number at) 128 due q) (b : RulesAre x n start g due q []) where
-    stages-are : g.nonterminals ≡ n
-    stages-are = ap (λ f. f.nonterminals) b.is
+    stages_are : g.nonterminals ≡ n
+    stages_are = ap (λ f. f.nonterminals) b.is
 
     start_is : g.start ≡ start
     start_is = ap (λ f. f.start) b.is
 
-    rules-are : g.rules ≡ b.rest
-    rules-are = ap (λ f. f.rules) b.is
+    rules_are : g.rules ≡ b.rest
+    rules_are = ap (λ f. f.rules) b.is
 
-    due-is : length g.rules ≡ due
-    due-is = ap length rules-are ∙ b.count
+    due_is : length g.rules ≡ due
+    due_is = ap length rules_are ∙ b.count
 
-    rules-stand : NumbersAt x.number at (length g.rules ∷ rulesNumbers g.rules) b.end
-    rules-stand = rw (due-is, rules-are) (one k.read b.stand)
+    rules_stand : NumbersAt x.number at (length g.rules ∷ rules_numbers g.rules) b.end
+    rules_stand = rw (due_is, rules_are) (one k.read b.stand)
 
     good : Wellformed g
     good = record {
-      nonterminals-least = omega (arith, c.least, stages-are);
-      nonterminals-most = omega (arith, c.most-of, stages-are);
-      well-all = ap (λ f. f.well) b.is ∙ sym stages-are;
-      start-below = omega (arith, below, stages-are, start_is);
-      rules-least = omega (arith, k.least, due-is);
-      rules-most = omega (arith, k.most-of, due-is);
-      fits = rw (stages-are, rules-are) b.fits;
-      distinct = rw rules-are (b.distinct tt);
+      nonterminals_least = omega (arith, c.least, stages_are);
+      nonterminals_most = omega (arith, c.most_of, stages_are);
+      well_all = ap (λ f. f.well) b.is ∙ sym stages_are;
+      start_below = omega (arith, below, stages_are, start_is);
+      rules_least = omega (arith, k.least, due_is);
+      rules_most = omega (arith, k.most_of, due_is);
+      fits = rw (stages_are, rules_are) b.fits;
+      distinct = rw rules_are (b.distinct tt);
     }
 
-  short-read : withoutStart x ≡ accepted g → Said × Wellformed g
-  short-read h =
-      let f = after-count (countAt x.number 0 32 3) _ h in
-      let c = count-read x.number 0 32 3 _ _ f.2 in
+  short_read : without_start x ≡ accepted g → Said × Wellformed g
+  short_read h =
+      let f = after_count_lem (count_at x.number 0 32 3) _ h in
+      let c = count_read x.number 0 32 3 _ _ f.2 in
       let (due, p, k, b) = counted f.0 0 f.1 f.3 in
-      (inr ((b.end, number-as (stages-are c c.least k b) c.read (rules-stand c c.least k b), b.last), start_is c c.least k b), good c c.least k b)
+      (inr ((b.end, number_as (stages_are c c.least k b) c.read (rules_stand c c.least k b), b.last), start_is c c.least k b), good c c.least k b)
 
-  long-read : (at : ℕ) → x.number 0 ≡ Number 0 at → withStart x at ≡ accepted g → Said × Wellformed g
-  long-read at z h =
-      let f = after-count (countAt x.number at 32 3) _ h in
-      let c = count-read x.number at 32 3 _ _ f.2 in
-      let s = after-count (field_at x.number f.1 f.0 6) _ f.3 in
-      let l = field-read x.number f.1 f.0 6 _ _ s.2 in
+  long_read : (at : ℕ) → x.number 0 ≡ Number 0 at → with_start x at ≡ accepted g → Said × Wellformed g
+  long_read at z h =
+      let f = after_count_lem (count_at x.number at 32 3) _ h in
+      let c = count_read x.number at 32 3 _ _ f.2 in
+      let s = after_count_lem (field_at x.number f.1 f.0 6) _ f.3 in
+      let l = field_read x.number f.1 f.0 6 _ _ s.2 in
       let (due, p, k, b) = counted f.0 s.0 s.1 s.3 in
-      let rest = number-as (start_is c l.below k b) l.read (rules-stand c l.below k b) in
-      (inl (b.end, one z (number-as (stages-are c l.below k b) c.read rest), b.last), good c l.below k b)
+      let rest = number_as (start_is c l.below k b) l.read (rules_stand c l.below k b) in
+      (inl (b.end, one z (number_as (stages_are c l.below k b) c.read rest), b.last), good c l.below k b)
 
-  said_read : grammarFrom x ≡ accepted g → Said × Wellformed g
-  unfolding grammarFrom
+  said_read : grammar_from x ≡ accepted g → Said × Wellformed g
+  unfolding grammar_from
   said_read h = go (x.number 0) refl h
     where
-      go : (r : NumberRead) → x.number 0 ≡ r → either r (withStart x) (withoutStart x) ≡ accepted g → Said × Wellformed g
+      go : (r : NumberRead) → x.number 0 ≡ r → either r (with_start x) (without_start x) ≡ accepted g → Said × Wellformed g
       go (Number n at) e q = zero_or (eqb n 0) refl q
         where
-          zero_or : (b : Bool) → eqb n 0 ≡ b → cond b (withStart x at) (withoutStart x) ≡ accepted g → Said × Wellformed g
-          zero_or true t k = long-read at (e ∙ ap (λ m. Number m at) (eqb-true n 0 t)) k
-          zero_or false t k = short-read k
-      go (NumberRefused d) e q = short-read q
+          zero_or : (b : Bool) → eqb n 0 ≡ b → cond b (with_start x at) (without_start x) ≡ accepted g → Said × Wellformed g
+          zero_or true t k = long_read at (e ∙ ap (λ m. Number m at) (eqb-true n 0 t)) k
+          zero_or false t k = short_read k
+      go (NumberRefused d) e q = short_read q
 
   module _ (w : Wellformed g) where
-    counted-reads : (start at end : ℕ) → start ≡ g.start → NumbersAt x.number at (length g.rules ∷ rulesNumbers g.rules) end → x.more end ≡ false
-        → countedFrom x at g.nonterminals start ≡ accepted g
-    counted-reads start at end e i last =
+    counted_reads : (start at end : ℕ) → start ≡ g.start → NumbersAt x.number at (length g.rules ∷ rules_numbers g.rules) end → x.more end ≡ false
+        → counted_from x at g.nonterminals start ≡ accepted g
+    counted_reads start at end e i last =
         let s = one_left i in
-        rw (e, count-reads x.number at 128 4 (length g.rules) s.0 s.1 w.rules-least w.rules-most)
-        (rules-reads x g.nonterminals g.start g.rules s.0 end [] s.2 last w.fits w.distinct
-        ∙ ap (λ (k : ℕ). accepted (record { nonterminals = g.nonterminals; well = k; start = g.start; rules = g.rules })) (sym w.well-all))
+        rw (e, count_reads x.number at 128 4 (length g.rules) s.0 s.1 w.rules_least w.rules_most)
+        (rules_reads x g.nonterminals g.start g.rules s.0 end [] s.2 last w.fits w.distinct
+        ∙ ap (λ (k : ℕ). accepted (record { nonterminals = g.nonterminals; well = k; start = g.start; rules = g.rules })) (sym w.well_all))
 
-    said-reads : Said → grammarFrom x ≡ accepted g
-    unfolding grammarFrom
-    said-reads (inl (end, i, last)) =
+    said_reads : Said → grammar_from x ≡ accepted g
+    unfolding grammar_from
+    said_reads (inl (end, i, last)) =
         let z = one_left i in
         let f = one_left z.2 in
         let s = one_left f.2 in
         rw (
           z.1,
-          count-reads x.number z.0 32 3 g.nonterminals f.0 f.1 w.nonterminals-least w.nonterminals-most,
-          field-reads x.number f.0 g.nonterminals 6 g.start s.0 s.1 w.start-below,
+          count_reads x.number z.0 32 3 g.nonterminals f.0 f.1 w.nonterminals_least w.nonterminals_most,
+          field_reads x.number f.0 g.nonterminals 6 g.start s.0 s.1 w.start_below,
         )
-        (counted-reads g.start s.0 end refl s.2 last)
-    said-reads (inr ((end, i, last), zero-start)) =
+        (counted_reads g.start s.0 end refl s.2 last)
+    said_reads (inr ((end, i, last), zero-start)) =
         let f = one_left i in
         rw (
           f.1,
-          ne_eqb g.nonterminals 0 (omega (arith, w.nonterminals-least)),
-          count-reads x.number 0 32 3 g.nonterminals f.0 f.1 w.nonterminals-least w.nonterminals-most,
+          ne_eqb g.nonterminals 0 (omega (arith, w.nonterminals_least)),
+          count_reads x.number 0 32 3 g.nonterminals f.0 f.1 w.nonterminals_least w.nonterminals_most,
         )
-        (counted-reads 0 f.0 end (sym zero-start) f.2 last)
+        (counted_reads 0 f.0 end (sym zero-start) f.2 last)
 
-  pub grammar-is : (grammarFrom x ≡ accepted g) ↔ (Said × Wellformed g)
-  grammar-is = (said_read, λ (s, w). said-reads w s)
+  pub grammar_is : (grammar_from x ≡ accepted g) ↔ (Said × Wellformed g)
+  grammar_is = (said_read, λ (s, w). said_reads w s)
 
-  pub grammar-wellformed : grammarFrom x ≡ accepted g → Wellformed g
-  grammar-wellformed h = (said_read h).1
+  pub grammar_wellformed : grammar_from x ≡ accepted g → Wellformed g
+  grammar_wellformed h = (said_read h).1

@@ -1,10 +1,10 @@
 // Reads a grammar file: its head and the rules as a table, or the number of the first fault in file order.
 ghost use Rattle.std.specs.Prelude.{◌≡◌, [], ◌≤◌, replicate};
 ghost use Rattle.numbers.specs.believed.Number.{number_at, bytes};
-ghost use Rattle.numbers.specs.believed.Field.{field_at, countAt};
+ghost use Rattle.numbers.specs.believed.Field.{field_at, count_at};
 ghost use Rattle.grammar_file.specs.believed.GrammarFile;
-ghost use Rattle.grammar_file.specs.believed.GrammarFile.{rulesFrom, countedFrom, withoutStart, withStart, grammarOf};
-ghost use Rattle.grammar_file.specs.GrammarTable.{grammarRead};
+ghost use Rattle.grammar_file.specs.believed.GrammarFile.{rules_from, counted_from, without_start, with_start, grammar_of};
+ghost use Rattle.grammar_file.specs.GrammarTable.{grammar_read};
 
 use numbers::{FieldRead, NumberRead};
 use rules::RuleRead;
@@ -24,7 +24,7 @@ pub enum GrammarAnswer {
 
 // A refused file: the table is cleared again.
 fn refused(table: &mut Table, e: u8) -> GrammarAnswer
-    ensures { (result, table.new) ≡ grammarRead (GrammarFile.refused e) }
+    ensures { (result, table.new) ≡ grammar_read (GrammarFile.refused e) }
 {
     *table = [0u16; 1412];
     GrammarAnswer::Refused(e)
@@ -33,7 +33,7 @@ fn refused(table: &mut Table, e: u8) -> GrammarAnswer
 // The rules that the head announces, from a place to the end, into a table of zeros.
 fn rules_at(s: &[u8], from: usize, head: Head, table: &mut Table) -> GrammarAnswer
     requires { (head.rules ≤ 128) × (head.well ≡ head.nonterminals) × (table.old ≡ replicate 1412 0) }
-    ensures { (result, table.new) ≡ grammarRead (rulesFrom (bytes s.now) head.nonterminals head.start head.rules from []) }
+    ensures { (result, table.new) ≡ grammar_read (rules_from (bytes s.now) head.nonterminals head.start head.rules from []) }
 {
     let count = head.rules;
     let mut keys = [0u32; 64];
@@ -61,7 +61,7 @@ fn rules_at(s: &[u8], from: usize, head: Head, table: &mut Table) -> GrammarAnsw
 
 // The stage count at a place.
 fn stages_at(s: &[u8], at: usize) -> FieldRead
-    ensures { result ≡ countAt (number_at s.now) at 32 3 }
+    ensures { result ≡ count_at (number_at s.now) at 32 3 }
 {
     numbers::count_at(s, at, NONTERMINALS, 3)
 }
@@ -82,7 +82,7 @@ fn counted_at(
     table: &mut Table,
 ) -> GrammarAnswer
     requires { table.old ≡ replicate 1412 0 }
-    ensures { (result, table.new) ≡ grammarRead (countedFrom (bytes s.now) at nonterminals start) }
+    ensures { (result, table.new) ≡ grammar_read (counted_from (bytes s.now) at nonterminals start) }
 {
     let count = numbers::count_at(s, at, RULES, 4);
     let FieldRead::Field(due, next) = count else {
@@ -101,7 +101,7 @@ fn counted_at(
 // A file that doesn't say its start, which is nonterminal 0.
 fn without_start(s: &[u8], table: &mut Table) -> GrammarAnswer
     requires { table.old ≡ replicate 1412 0 }
-    ensures { (result, table.new) ≡ grammarRead (withoutStart (bytes s.now)) }
+    ensures { (result, table.new) ≡ grammar_read (without_start (bytes s.now)) }
 {
     let count = stages_at(s, 0);
     let FieldRead::Field(nonterminals, next) = count else {
@@ -113,7 +113,7 @@ fn without_start(s: &[u8], table: &mut Table) -> GrammarAnswer
 // A file that says its start, from the place behind its leading 0.
 fn with_start(s: &[u8], at: usize, table: &mut Table) -> GrammarAnswer
     requires { table.old ≡ replicate 1412 0 }
-    ensures { (result, table.new) ≡ grammarRead (withStart (bytes s.now) at) }
+    ensures { (result, table.new) ≡ grammar_read (with_start (bytes s.now) at) }
 {
     let count = stages_at(s, at);
     let FieldRead::Field(nonterminals, next) = count else {
@@ -129,7 +129,7 @@ fn with_start(s: &[u8], at: usize, table: &mut Table) -> GrammarAnswer
 // Reads the file into a table of zeros that the caller lends; a refused file leaves zeros.
 pub fn read_grammar(s: &[u8], table: &mut Table) -> GrammarAnswer
     requires { table.old ≡ replicate 1412 0 }
-    ensures { (result, table.new) ≡ grammarRead (grammarOf s.now) }
+    ensures { (result, table.new) ≡ grammar_read (grammar_of s.now) }
 {
     let first = numbers::number_at(s, 0);
     let NumberRead::Number(n, next) = first else {

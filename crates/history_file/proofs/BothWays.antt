@@ -7,25 +7,25 @@ use native.Mathlib.Omega.{arith}
 use lib.ListN.{length}
 use Rattle.numbers.specs.believed.Number.{bytes}
 use Rattle.numbers.specs.Written.{AllBelow, written}
-use Rattle.numbers.proofs.Written.{holds-is}
-use Rattle.history_file.specs.believed.HistoryFile.{accepted, historyOf}
+use Rattle.numbers.proofs.Written.{holds_is}
+use Rattle.history_file.specs.believed.HistoryFile.{accepted, history_of}
 use Rattle.history_file.specs.Wellformed.{TokenNumber, Wellformed}
-use Rattle.history_file.proofs.Accepted.{history-is}
+use Rattle.history_file.proofs.Accepted.{history_is}
 
 -- every number of well-formed tokens has three bytes at most
-tokens-small : (ts : List ℕ) → ((t : ℕ) → Memᴰ t ts → TokenNumber t) → AllBelow 2097152 ts
-tokens-small [] h = tt
-tokens-small (t ∷ ts) h =
+tokens_small : (ts : List ℕ) → ((t : ℕ) → Memᴰ t ts → TokenNumber t) → AllBelow 2097152 ts
+tokens_small [] h = tt
+tokens_small (t ∷ ts) h =
     let k = h t (Memᴰ.head refl) in
-    (omega arith, tokens-small ts (λ u m. h u (Memᴰ.tail m)))
+    (omega arith, tokens_small ts (λ u m. h u (Memᴰ.tail m)))
 
-pub numbers-small : (ts : List ℕ) → Wellformed ts → AllBelow 2097152 (length ts ∷ ts)
-numbers-small ts w = (omega arith, tokens-small ts w.tokens)
+pub numbers_small : (ts : List ℕ) → Wellformed ts → AllBelow 2097152 (length ts ∷ ts)
+numbers_small ts w = (omega arith, tokens_small ts w.tokens)
 
-pub history-both-ways : (s : List ℕ) → AllBelow 256 s → (ts : List ℕ) → (historyOf s ≡ accepted ts) ↔ ((s ≡ written (length ts ∷ ts)) × Wellformed ts)
-history-both-ways s b ts = (
+pub history_both_ways : (s : List ℕ) → AllBelow 256 s → (ts : List ℕ) → (history_of s ≡ accepted ts) ↔ ((s ≡ written (length ts ∷ ts)) × Wellformed ts)
+history_both_ways s b ts = (
   λ h.
-      let a = (history-is (bytes s) ts).0 h in
-      ((holds-is s b (length ts ∷ ts) (numbers-small ts a.1)).0 a.0, a.1),
-  λ (e, w). (history-is (bytes s) ts).1 ((holds-is s b (length ts ∷ ts) (numbers-small ts w)).1 e, w),
+      let a = (history_is (bytes s) ts).0 h in
+      ((holds_is s b (length ts ∷ ts) (numbers_small ts a.1)).0 a.0, a.1),
+  λ (e, w). (history_is (bytes s) ts).1 ((holds_is s b (length ts ∷ ts) (numbers_small ts w)).1 e, w),
 )

@@ -11,10 +11,10 @@ use borrow.Author.Tests.{ltb-false, le-ltb, leb-false, lt-leb, eqb-false, eqb-tr
 use Rattle.numbers.specs.declared.NumberRead.{NumberRead}
 use Rattle.numbers.specs.declared.NumberRead.TheVariants.{Number, Refused as NumberRefused}
 use Rattle.numbers.specs.believed.Number.{Source}
-use Rattle.laws.proofs.Bools.{chose-second}
-use Rattle.laws.proofs.Lists.{one-due}
+use Rattle.laws.proofs.Bools.{chose_second}
+use Rattle.laws.proofs.Lists.{one_due}
 use Rattle.history_file.specs.declared.TokenRead.TheVariants.{Token as TokenIs, Refused as TokenRefused}
-use Rattle.history_file.specs.believed.HistoryFile.{kind, tokenJudged, judged, tokenAt, depthAfter, refused, tokensFrom}
+use Rattle.history_file.specs.believed.HistoryFile.{kind, token_judged, judged, token_at, depth_after, refused, tokens_from}
 
 -- the number at a place is the token t, which may stand where so many steps are open
 pub record Judged (r : NumberRead) (depth t next : ℕ) : Type 0 where
@@ -38,13 +38,13 @@ not-both false b h p = absurd (let z : ◌≡◌ {A = ℕ} 0 1 = cc in omega ari
 four : 0 < 4
 four = lit< tt
 
-pub judged-read : (r : NumberRead) (depth t next : ℕ) → judged r depth ≡ TokenIs t next → Judged r depth t next
-unfolding tokenJudged
-judged-read (NumberRefused e) depth t next h = absurd (let z : ◌≡◌ {A = ℕ} 0 1 = cc in omega arith)
-judged-read (Number u at) depth t next h =
-    let p = chose-second (ltb 65535 (u / 4) || eqb (kind u) 3) _ _ apart h in
-    let q = chose-second (eqb (kind u) 2 && eqb depth 0) _ _ apart p.1 in
-    let s = chose-second (eqb (kind u) 1 && leb 128 depth) _ _ apart q.1 in
+pub judged_read : (r : NumberRead) (depth t next : ℕ) → judged r depth ≡ TokenIs t next → Judged r depth t next
+unfolding token_judged
+judged_read (NumberRefused e) depth t next h = absurd (let z : ◌≡◌ {A = ℕ} 0 1 = cc in omega arith)
+judged_read (Number u at) depth t next h =
+    let p = chose_second (ltb 65535 (u / 4) || eqb (kind u) 3) _ _ apart h in
+    let q = chose_second (eqb (kind u) 2 && eqb depth 0) _ _ apart p.1 in
+    let s = chose_second (eqb (kind u) 1 && leb 128 depth) _ _ apart q.1 in
     let n = neither (ltb 65535 (u / 4)) (eqb (kind u) 3) p.0 in
     let ne = eqb-false (kind u) 3 n.1 in
     let z : u ≡ t = cc in
@@ -57,33 +57,33 @@ judged-read (Number u at) depth t next h =
       opens = λ k. leb-false 128 depth (not-both (eqb (kind u) 1) _ s.0 (eq-eqb _ _ k));
     })
 
-pub judged-reads : (r : NumberRead) {depth t next : ℕ} → Judged r depth t next → judged r depth ≡ TokenIs t next
-unfolding tokenJudged
-judged-reads r {depth} {t} {next} j =
+pub judged_reads : (r : NumberRead) {depth t next : ℕ} → Judged r depth t next → judged r depth ≡ TokenIs t next
+unfolding token_judged
+judged_reads r {depth} {t} {next} j =
     rw (
       j.read,
       le-ltb 65535 (t / 4) (omega (arith, j.small)),
       ne_eqb (kind t) 3 (omega (arith, j.kinds)),
-      neither-holds (eqb (kind t) 2) (eqb depth 0) (λ k. let l = j.closes (eqb-true _ _ k) in ne_eqb depth 0 (omega arith)),
-      neither-holds (eqb (kind t) 1) (leb 128 depth) (λ k. lt-leb 128 depth (j.opens (eqb-true _ _ k))),
+      neither_holds (eqb (kind t) 2) (eqb depth 0) (λ k. let l = j.closes (eqb-true _ _ k) in ne_eqb depth 0 (omega arith)),
+      neither_holds (eqb (kind t) 1) (leb 128 depth) (λ k. lt-leb 128 depth (j.opens (eqb-true _ _ k))),
     )
   where
-    neither-holds : (a b : Bool) → (a ≡ true → b ≡ false) → (a && b) ≡ false
-    neither-holds true b h = h refl
-    neither-holds false b h = refl
+    neither_holds : (a b : Bool) → (a ≡ true → b ≡ false) → (a && b) ≡ false
+    neither_holds true b h = h refl
+    neither_holds false b h = refl
 
-pub token-read : (number : ℕ → NumberRead) (at depth t next : ℕ) → tokenAt number at depth ≡ TokenIs t next → Judged (number at) depth t next
-unfolding tokenAt
-token-read number at depth t next h = judged-read (number at) depth t next h
+pub token_read : (number : ℕ → NumberRead) (at depth t next : ℕ) → token_at number at depth ≡ TokenIs t next → Judged (number at) depth t next
+unfolding token_at
+token_read number at depth t next h = judged_read (number at) depth t next h
 
-pub token-reads : (number : ℕ → NumberRead) (at depth t next : ℕ) → Judged (number at) depth t next → tokenAt number at depth ≡ TokenIs t next
-unfolding tokenAt
-token-reads number at depth t next j = judged-reads (number at) j
+pub token_reads : (number : ℕ → NumberRead) (at depth t next : ℕ) → Judged (number at) depth t next → token_at number at depth ≡ TokenIs t next
+unfolding token_at
+token_reads number at depth t next j = judged_reads (number at) j
 
 -- never more than 128 steps are open
-pub depth-most : (r : NumberRead) (depth t next : ℕ) → Judged r depth t next → depth ≤ 128 → depthAfter t depth ≤ 128
-unfolding depthAfter
-depth-most r depth t next j h = go (eqb (kind t) 1) refl (eqb (kind t) 2)
+pub depth_most : (r : NumberRead) (depth t next : ℕ) → Judged r depth t next → depth ≤ 128 → depth_after t depth ≤ 128
+unfolding depth_after
+depth_most r depth t next j h = go (eqb (kind t) 1) refl (eqb (kind t) 2)
   where
     go : (b : Bool) → eqb (kind t) 1 ≡ b → (d : Bool) → cond b (depth + 1) (cond d (depth - 1) depth) ≤ 128
     go true p d = let l = j.opens (eqb-true _ _ p) in omega arith
@@ -91,11 +91,11 @@ depth-most r depth t next j h = go (eqb (kind t) 1) refl (eqb (kind t) 2)
     go false p false = h
 
 module _ (x : Source) (n k at depth : ℕ) (ts : List ℕ) (more : k < n) where
-  pub turn-refused : (e : ℕ) → tokenAt x.number at depth ≡ TokenRefused e → tokensFrom x (n - k) at depth ts ≡ refused e
-  unfolding tokensFrom
-  turn-refused e h = rw (one-due n k more, h)
+  pub turn-refused : (e : ℕ) → token_at x.number at depth ≡ TokenRefused e → tokens_from x (n - k) at depth ts ≡ refused e
+  unfolding tokens_from
+  turn-refused e h = rw (one_due n k more, h)
 
-  pub turn-next : (t next : ℕ) → tokenAt x.number at depth ≡ TokenIs t next →
-      tokensFrom x (n - k) at depth ts ≡ tokensFrom x (n - (k + 1)) next (depthAfter t depth) (ts ++ (t ∷ []))
-  unfolding tokensFrom
-  turn-next t next h = rw (one-due n k more, h)
+  pub turn-next : (t next : ℕ) → token_at x.number at depth ≡ TokenIs t next →
+      tokens_from x (n - k) at depth ts ≡ tokens_from x (n - (k + 1)) next (depth_after t depth) (ts ++ (t ∷ []))
+  unfolding tokens_from
+  turn-next t next h = rw (one_due n k more, h)

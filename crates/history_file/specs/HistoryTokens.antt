@@ -1,5 +1,5 @@
 -- What `read_history` hands to the layers above: the count and the token numbers of a history file.
--- Law: history-accepted, history-refused (history_file/proofs/Answers.antt)
+-- Law: history_accepted, history_refused (history_file/proofs/Answers.antt)
 use Rattle.std.specs.Prelude.{ℕ, ◌-◌, ◌<◌, ◌≤◌, List, ◌++◌, length, replicate, get_or}
 use Rattle.history_file.specs.declared.HistoryAnswer.{HistoryAnswer}
 use Rattle.history_file.specs.declared.HistoryAnswer.TheVariants.{Accepted, Refused}
@@ -9,9 +9,9 @@ use Rattle.history_file.specs.believed.HistoryFile.{HistoryFile, accepted, refus
 abbrev pub padded : List ℕ → List ℕ
 padded ts = ts ++ replicate (1024 - length ts) 0
 
-abbrev pub historyRead : HistoryFile → HistoryAnswer × List ℕ
-historyRead (accepted ts) = (Accepted (length ts), padded ts)
-historyRead (refused e) = (Refused e, replicate 1024 0)
+abbrev pub history_read : HistoryFile → HistoryAnswer × List ℕ
+history_read (accepted ts) = (Accepted (length ts), padded ts)
+history_read (refused e) = (Refused e, replicate 1024 0)
 
 -- what the layers above may take for granted of token numbers: at most 1,024, and each name has 16 bits
 pub record Tokens (ts : List ℕ) : Type 0 where

@@ -4,6 +4,6 @@ use Rattle.std.specs.Prelude.{ℕ}
 use Rattle.history_file.specs.declared.TokenRead.{TokenRead}
 use Rattle.history_file.specs.declared.TokenRead.TheVariants.{Token as TokenIs, Refused as TokenRefused}
 
-abbrev pub refusalOfToken : TokenRead → ℕ
-refusalOfToken (TokenIs t next) = 0
-refusalOfToken (TokenRefused e) = e
+abbrev pub refusal_of_token : TokenRead → ℕ
+refusal_of_token (TokenIs t next) = 0
+refusal_of_token (TokenRefused e) = e

@@ -1,10 +1,10 @@
 // Reads a history file: the token numbers, or the number of the first fault in file order.
 ghost use Rattle.std.specs.Prelude.{◌≡◌, [], ◌≤◌, ◌<◌, ◌/◌, ◌%◌, replicate};
 ghost use Rattle.numbers.specs.believed.Number.{number_at, bytes};
-ghost use Rattle.history_file.specs.Refusals.{refusalOfToken};
+ghost use Rattle.history_file.specs.Refusals.{refusal_of_token};
 ghost use Rattle.history_file.specs.believed.HistoryFile;
-ghost use Rattle.history_file.specs.believed.HistoryFile.{tokenWith, tokenOf, tokenJudged, tokenAt, depthAfter, tokensFrom, historyOf};
-ghost use Rattle.history_file.specs.HistoryTokens.{historyRead};
+ghost use Rattle.history_file.specs.believed.HistoryFile.{token_with, token_of, token_judged, token_at, depth_after, tokens_from, history_of};
+ghost use Rattle.history_file.specs.HistoryTokens.{history_read};
 
 use numbers::{FieldRead, NumberRead};
 use vpg::{CloseName, MarkName, OpenName, Token};
@@ -26,7 +26,7 @@ pub enum TokenRead {
 
 // The token of a kind and a name.
 pub fn token_with(kind: u32, name: u16) -> Token
-    ensures { result ≡ tokenWith kind name }
+    ensures { result ≡ token_with kind name }
 {
     if kind == 0 {
         return Token::Mark(MarkName(name));
@@ -48,7 +48,7 @@ pub fn name_of(t: u32) -> u16
 // The token of a number.
 pub fn token_of(t: u32) -> Token
     requires { t < 262144 }
-    ensures { result ≡ tokenOf t }
+    ensures { result ≡ token_of t }
 {
     token_with(t % 4, name_of(t))
 }
@@ -66,7 +66,7 @@ pub enum HistoryAnswer {
 // A token number that was read, with so many steps open before it.
 fn token_judged(t: u32, next: usize, depth: u32) -> TokenRead
     requires { depth ≤ 128 }
-    ensures { result ≡ tokenJudged t next depth }
+    ensures { result ≡ token_judged t next depth }
 {
     if TOKEN_NUMBERS <= t {
         return TokenRead::Refused(11);
@@ -88,7 +88,7 @@ fn token_judged(t: u32, next: usize, depth: u32) -> TokenRead
 
 fn token_at(s: &[u8], at: usize, depth: u32) -> TokenRead
     requires { depth ≤ 128 }
-    ensures { result ≡ tokenAt (number_at s.now) at depth }
+    ensures { result ≡ token_at (number_at s.now) at depth }
 {
     let read = numbers::number_at(s, at);
     let NumberRead::Number(t, next) = read else {
@@ -98,7 +98,7 @@ fn token_at(s: &[u8], at: usize, depth: u32) -> TokenRead
 }
 
 fn token_refusal(r: TokenRead) -> u8
-    ensures { result ≡ refusalOfToken r }
+    ensures { result ≡ refusal_of_token r }
 {
     match r {
         TokenRead::Token(_, _) => 0,
@@ -109,7 +109,7 @@ fn token_refusal(r: TokenRead) -> u8
 // How many steps are open after a token that was let through.
 fn depth_after(t: u32, depth: u32) -> u32
     requires { (depth ≤ 128) × (t % 4 < 3) × (t % 4 ≡ 2 → 0 < depth) }
-    ensures { result ≡ depthAfter t depth }
+    ensures { result ≡ depth_after t depth }
 {
     let kind = t % 4;
     // A sum, since a branch by kind cost more where histories vary (docs/SPEED.md).
@@ -118,7 +118,7 @@ fn depth_after(t: u32, depth: u32) -> u32
 
 // A refused file: the token numbers are cleared again.
 fn refused(tokens: &mut TokenNumbers, e: u8) -> HistoryAnswer
-    ensures { (result, tokens.new) ≡ historyRead (HistoryFile.refused e) }
+    ensures { (result, tokens.new) ≡ history_read (HistoryFile.refused e) }
 {
     *tokens = [0u32; 1024];
     HistoryAnswer::Refused(e)
@@ -127,7 +127,7 @@ fn refused(tokens: &mut TokenNumbers, e: u8) -> HistoryAnswer
 // The tokens that are due, from a place to the end, into zeros.
 fn tokens_at(s: &[u8], from: usize, due: usize, tokens: &mut TokenNumbers) -> HistoryAnswer
     requires { (due ≤ 1024) × (tokens.old ≡ replicate 1024 0) }
-    ensures { (result, tokens.new) ≡ historyRead (tokensFrom (bytes s.now) due from 0 []) }
+    ensures { (result, tokens.new) ≡ history_read (tokens_from (bytes s.now) due from 0 []) }
 {
     let mut at = from;
     let mut depth: u32 = 0;
@@ -154,7 +154,7 @@ fn tokens_at(s: &[u8], from: usize, due: usize, tokens: &mut TokenNumbers) -> Hi
 // Reads the file into zeros that the caller lends, which stay behind the tokens; a refused file leaves zeros.
 pub fn read_history(s: &[u8], tokens: &mut TokenNumbers) -> HistoryAnswer
     requires { tokens.old ≡ replicate 1024 0 }
-    ensures { (result, tokens.new) ≡ historyRead (historyOf s.now) }
+    ensures { (result, tokens.new) ≡ history_read (history_of s.now) }
 {
     let count = numbers::field_at(s, 0, TOKENS + 1, 10);
     let FieldRead::Field(number, at) = count else {

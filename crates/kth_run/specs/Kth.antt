@@ -1,18 +1,18 @@
 -- Reading number k, as the core of its service gives it.
--- Law: kth-is, kth-above (kth_run/proofs/Whole.antt)
+-- Law: kth_is, kth_above (kth_run/proofs/Whole.antt)
 use Rattle.std.specs.Prelude.{ℕ, zero, suc, Bool, true, false, cond, List, ◌++◌, ltb, length, drop}
 use Rattle.listing_model.specs.believed.Listing.{entry}
 use Rattle.kth_run.specs.declared.KthAnswer.{KthAnswer}
 
-abbrev pub wasWritten : KthAnswer → Bool
-wasWritten KthAnswer.Written = true
-wasWritten KthAnswer.NoSuch = false
+abbrev pub was_written : KthAnswer → Bool
+was_written KthAnswer.Written = true
+was_written KthAnswer.NoSuch = false
 
 -- is there an entry of number k, from 1
-abbrev pub hasEntry : List (List ℕ) → ℕ → Bool
-hasEntry l zero = false
-hasEntry l (suc i) = ltb i (length l)
+abbrev pub has_entry : List (List ℕ) → ℕ → Bool
+has_entry l zero = false
+has_entry l (suc i) = ltb i (length l)
 
 -- entry k in the first n elements of a buffer, where there is one; else all is as it was
-abbrev pub kthWritten : List (List ℕ) → ℕ → ℕ → List ℕ → Bool × List ℕ
-kthWritten l k n buf = cond (hasEntry l k) (true, entry l k ++ drop n buf) (false, buf)
+abbrev pub kth_written : List (List ℕ) → ℕ → ℕ → List ℕ → Bool × List ℕ
+kth_written l k n buf = cond (has_entry l k) (true, entry l k ++ drop n buf) (false, buf)

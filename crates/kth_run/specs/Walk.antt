@@ -1,5 +1,5 @@
 -- The walk over the tokens: what is due behind each pending close.
--- Law: walking-next (kth_run/proofs/Walking.antt)
+-- Law: walking_next (kth_run/proofs/Walking.antt)
 use Rattle.std.specs.Prelude.{ℕ, suc, ◌*◌, ◌<◌, ◌≡◌, Bool, true, false, cond, List, [], ◌∷◌, ltb, length, drop, get_or}
 use Rattle.vpg.specs.declared.Rule.{Rule}
 use Rattle.vpg.specs.declared.Token.{Token}
@@ -19,10 +19,10 @@ use Rattle.kth_run.specs.declared.Found.{Found}
 
 -- what is due at the next position, where rule R is chosen. Behind the close of a step stand x M₂ derivations of its level's rest, each with all that
 -- is due behind that; old: what was due behind the close that ends the level there
-abbrev pub dueWith : Rule → Counts → ℕ → ℕ → ℕ
-dueWith (Rule.Empty M) x due old = old
-dueWith (Rule.Next M i M₁) x due old = due
-dueWith (Rule.Step M a M₁ b M₂) x due old = cap (x M₂ * due)
+abbrev pub due_with : Rule → Counts → ℕ → ℕ → ℕ
+due_with (Rule.Empty M) x due old = old
+due_with (Rule.Next M i M₁) x due old = due
+due_with (Rule.Step M a M₁ b M₂) x due old = cap (x M₂ * due)
 
 -- the rule that the run of a number has at position p, by arrays of counts of all runs, whatever stack is due, if its count is known
 abbrev pub Chosen : ℕ → Rules → List Token → List ℕ → ℕ → Sought → Found → Type 0
@@ -35,9 +35,9 @@ Chosen W g w rows p sought x =
 -- ── what is due behind the pending closes ──
 
 -- f: the nonterminal behind each close, C: the counts of each position; the product over the levels that are due below L
-abbrev pub dueProduct : ℕ → (ℕ → Counts) → (ℕ → ℕ) → Closes → ℕ → ℕ
-dueProduct W C f [] L = 1
-dueProduct W C f (d ∷ l) L = cond (ltb L W) (C (suc d.1) (f d.1) * dueProduct W C f l (f d.1)) 1
+abbrev pub due_product : ℕ → (ℕ → Counts) → (ℕ → ℕ) → Closes → ℕ → ℕ
+due_product W C f [] L = 1
+due_product W C f (d ∷ l) L = cond (ltb L W) (C (suc d.1) (f d.1) * due_product W C f l (f d.1)) 1
 
 abbrev pub IfTrue : Bool → Type 0 → Type 0
 IfTrue true P = P
@@ -46,11 +46,11 @@ IfTrue false P = Unit
 -- v has it, capped, for the first pending close and for each behind it that is due; at n there is none
 abbrev pub Dues : ℕ → (ℕ → Counts) → (ℕ → ℕ) → (ℕ → ℕ) → ℕ → Closes → ℕ → Type 0
 Dues W C f v n [] L = v n ≡ 1
-Dues W C f v n (d ∷ l) L = (v d.1 ≡ cap (dueProduct W C f (d ∷ l) L)) × IfTrue (ltb L W) (Dues W C f v n l (f d.1))
+Dues W C f v n (d ∷ l) L = (v d.1 ≡ cap (due_product W C f (d ∷ l) L)) × IfTrue (ltb L W) (Dues W C f v n l (f d.1))
 
 -- the values of counts in an array, and the numbers of another
-abbrev pub countIn : List Count → ℕ → ℕ
-countIn dues j = value (get_or dues j (Count.Exact 0))
+abbrev pub count_in : List Count → ℕ → ℕ
+count_in dues j = value (get_or dues j (Count.Exact 0))
 
 abbrev pub number_in : List ℕ → ℕ → ℕ
 number_in f j = get_or f j 0

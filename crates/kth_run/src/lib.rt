@@ -3,16 +3,16 @@ ghost use Rattle.std.specs.Prelude.{◌≡◌, false, ◌&&◌, List, ℕ, suc, 
 ghost use Rattle.vpg.specs.believed.Grammar.{Rules};
 ghost use Rattle.vpg.specs.Runs.{entries};
 ghost use Rattle.capped.specs.Capped.{cap, value};
-ghost use Rattle.tables.specs.Table.{ruleFrom, ruleIn};
-ghost use Rattle.tables.specs.Ready.{Below, grammarIn};
+ghost use Rattle.tables.specs.Table.{rule_from, rule_in};
+ghost use Rattle.tables.specs.Ready.{Below, grammar_in};
 ghost use Rattle.rule_index.specs.Index.{Indexed};
 ghost use Rattle.count_rows.specs.Rows.{value_at, parts_at};
-ghost use Rattle.history_file.specs.believed.HistoryFile.{tokensOf};
-ghost use Rattle.contexts.specs.Context.{mayEnd};
-ghost use Rattle.levels.specs.Levels.{Leveled, derivesAll, Setting};
+ghost use Rattle.history_file.specs.believed.HistoryFile.{tokens_of};
+ghost use Rattle.contexts.specs.Context.{may_end};
+ghost use Rattle.levels.specs.Levels.{Leveled, derives_all, Setting};
 ghost use Rattle.kth_run.specs.Search.{Finds};
-ghost use Rattle.kth_run.specs.Walk.{dueWith};
-ghost use Rattle.kth_run.specs.Kth.{wasWritten, kthWritten};
+ghost use Rattle.kth_run.specs.Walk.{due_with};
+ghost use Rattle.kth_run.specs.Kth.{was_written, kth_written};
 
 use capped::Count;
 use contexts::Context;
@@ -22,9 +22,9 @@ use tables::{Head, Six, Table};
 
 // How many readings have rule r at a position where it fits: any derivation of each of its parts, and any of what is due behind its level.
 fn size_of(table: &Table, r: usize, context: Context, due: Count, rows: &Rows) -> Count
-    requires r_bound { (r < 128) × Below 32 (ruleIn table.now r) }
+    requires r_bound { (r < 128) × Below 32 (rule_in table.now r) }
     requires position_bound { (context.position < 1025) × (context.closing < 1025) }
-    ensures { value result ≡ cap (parts_at rows.now context (ruleIn table.now r) * value due) }
+    ensures { value result ≡ cap (parts_at rows.now context (rule_in table.now r) * value due) }
 {
     let overs = count_rows::overs_behind(rows, context.position, context.closing);
     let parts = count_rows::parts_of(
@@ -55,7 +55,7 @@ pub struct Found {
 
 // Where the nonterminal can't only end: rule by rule of the token's class, past the readings of each.
 fn class_search(table: &Table, head: Head, sought: Sought, context: Context, rows: &Rows) -> Found
-    requires indexed { Indexed table.now head × (mayEnd head.well context sought.nonterminal ≡ false) }
+    requires indexed { Indexed table.now head × (may_end head.well context sought.nonterminal ≡ false) }
     requires position_bound { (context.position < 1025) × (context.closing < 1025) }
     ensures { Finds table.now head sought context rows.now result }
 {
@@ -97,8 +97,8 @@ fn search(table: &Table, head: Head, sought: Sought, context: Context, rows: &Ro
 // What is due at the next position: behind a token that is taken alone what was due at it, inside a step the derivations of its level's rest, each
 // with all that is due behind the step's level, and behind the end of a level what is due behind the next close.
 fn due_behind(rule: Six, close: usize, rows: &Rows, sought: Sought, old: Count) -> Count
-    requires { Below 32 (ruleFrom rule) × (close < 1025) }
-    ensures { value result ≡ dueWith (ruleFrom rule) (value_at rows.now (suc close)) (value sought.due) (value old) }
+    requires { Below 32 (rule_from rule) × (close < 1025) }
+    ensures { value result ≡ due_with (rule_from rule) (value_at rows.now (suc close)) (value sought.due) (value old) }
 {
     if rule.0 == 0 {
         return old;
@@ -133,7 +133,7 @@ pub enum KthAnswer {
 // Whether there may be a reading of number k: readings are counted from 1, and the start derives all tokens.
 fn may_have(masks: &Masks, head: Head, k: u64) -> bool
     requires { head.start < 32 }
-    ensures { (g : Rules) (ts : List ℕ) → Leveled head.well g (tokensOf ts) masks.now 0 → result ≡ (ltb 0 k && derivesAll head.well g (tokensOf ts) head.start) }
+    ensures { (g : Rules) (ts : List ℕ) → Leveled head.well g (tokens_of ts) masks.now 0 → result ≡ (ltb 0 k && derives_all head.well g (tokens_of ts) head.start) }
 {
     if 0 < k {
         return levels::derives_all(masks, head);
@@ -160,7 +160,7 @@ pub fn kth(
     out: &mut [u8],
 ) -> KthAnswer
     requires { Setting table.now head tokens.now closes.now masks.now × (length tokens.now < length out.old) }
-    ensures { (wasWritten result, out.new) ≡ kthWritten (entries (grammarIn table.now head) (tokensOf tokens.now)) k (length tokens.now + 1) out.old }
+    ensures { (was_written result, out.new) ≡ kth_written (entries (grammar_in table.now head) (tokens_of tokens.now)) k (length tokens.now + 1) out.old }
 {
     if may_have(masks, head, k) {
         let mut rows = [0u64; 33858];

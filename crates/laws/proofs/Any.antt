@@ -8,7 +8,7 @@ use mathlib.Core.Bool.{Bool, true, false, ◌||◌, false≢true, or-true, or-fa
 use mathlib.Core.List.{List, [], ◌∷◌, ◌++◌}
 use mathlib.Core.Option.{some, none-ne-some, some-injective}
 use lib.ListN.{get_elem?}
-use Rattle.laws.specs.Any.{any, anyBelow}
+use Rattle.laws.specs.Any.{any, any_below}
 
 pub record Some {A : Type 0} (p : A → Bool) (l : List A) : Type 0 where
   pub number : ℕ
@@ -38,23 +38,23 @@ pub record Below (n : ℕ) (p : ℕ → Bool) : Type 0 where
   pub small : number < n
   pub passes : p number ≡ true
 
-pub below-some : (n : ℕ) (p : ℕ → Bool) → anyBelow n p ≡ true → Below n p
-below-some zero p q = absurd (false≢true q)
-below-some (suc n) p q = go (p n) refl q (below-some n p)
+pub below_some : (n : ℕ) (p : ℕ → Bool) → any_below n p ≡ true → Below n p
+below_some zero p q = absurd (false≢true q)
+below_some (suc n) p q = go (p n) refl q (below_some n p)
   where
-    go : (b : Bool) → p n ≡ b → (b || anyBelow n p) ≡ true → (anyBelow n p ≡ true → Below n p) → Below (suc n) p
+    go : (b : Bool) → p n ≡ b → (b || any_below n p) ≡ true → (any_below n p ≡ true → Below n p) → Below (suc n) p
     go true e q rest = record { number = n; small = omega arith; passes = e }
     go false e q rest = let h = rest q in record { number = h.number; small = omega arith; passes = h.passes }
 
-pub some_below : (n : ℕ) (p : ℕ → Bool) (i : ℕ) → i < n → p i ≡ true → anyBelow n p ≡ true
+pub some_below : (n : ℕ) (p : ℕ → Bool) (i : ℕ) → i < n → p i ≡ true → any_below n p ≡ true
 some_below zero p i h q = absurd (not-suc-le-zero h)
 some_below (suc n) p i h q = go (dec_lt i n) (some_below n p i)
   where
-    go : Dec (i < n) → (i < n → p i ≡ true → anyBelow n p ≡ true) → (p n || anyBelow n p) ≡ true
+    go : Dec (i < n) → (i < n → p i ≡ true → any_below n p ≡ true) → (p n || any_below n p) ≡ true
     go (yes l) rest = rw (rest l q) (or-true (p n))
     go (no l) rest = let e : i ≡ n = omega arith in rw (rw e at q)
 
 -- two tests that agree below n
-pub below-same : (n : ℕ) (p p' : ℕ → Bool) → ((i : ℕ) → i < n → p i ≡ p' i) → anyBelow n p ≡ anyBelow n p'
-below-same zero p p' h = refl
-below-same (suc n) p p' h = rw (h n (omega arith), below-same n p p' (λ i l. h i (omega arith)))
+pub below_same : (n : ℕ) (p p' : ℕ → Bool) → ((i : ℕ) → i < n → p i ≡ p' i) → any_below n p ≡ any_below n p'
+below_same zero p p' h = refl
+below_same (suc n) p p' h = rw (h n (omega arith), below_same n p p' (λ i l. h i (omega arith)))

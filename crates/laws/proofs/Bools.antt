@@ -40,10 +40,10 @@ pub eqb_comm : (a b : ℕ) → eqb a b ≡ eqb b a
 eqb_comm a b = same_test (eqb a b) (eqb b a) (λ p. eq-eqb b a (sym (eqb-true a b p))) (λ p. eq-eqb a b (sym (eqb-true b a p)))
 
 -- what a test was, where what it chose is known
-pub chose-first : {A : Type 0} (b : Bool) (x y : A) {z : A} → y ≢ z → cond b x y ≡ z → (b ≡ true) × (x ≡ z)
-chose-first true x y other h = (refl, h)
-chose-first false x y other h = absurd (other h)
+pub chose_first : {A : Type 0} (b : Bool) (x y : A) {z : A} → y ≢ z → cond b x y ≡ z → (b ≡ true) × (x ≡ z)
+chose_first true x y other h = (refl, h)
+chose_first false x y other h = absurd (other h)
 
-pub chose-second : {A : Type 0} (b : Bool) (x y : A) {z : A} → x ≢ z → cond b x y ≡ z → (b ≡ false) × (y ≡ z)
-chose-second true x y other h = absurd (other h)
-chose-second false x y other h = (refl, h)
+pub chose_second : {A : Type 0} (b : Bool) (x y : A) {z : A} → x ≢ z → cond b x y ≡ z → (b ≡ false) × (y ≡ z)
+chose_second true x y other h = absurd (other h)
+chose_second false x y other h = (refl, h)

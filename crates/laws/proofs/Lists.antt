@@ -21,8 +21,8 @@ trichotomy x y = go (ltb x y) refl (ltb y x) refl
     go false p false q = inl (omega (arith, ltb-false))
 
 -- of n that are due, k are done
-pub one-due : (n k : ℕ) → k < n → n - k ≡ suc (n - (k + 1))
-one-due n k more = omega arith
+pub one_due : (n k : ℕ) → k < n → n - k ≡ suc (n - (k + 1))
+one_due n k more = omega arith
 
 module _ {A : Type 0} where
   pub heads : {a b : A} {s t : List A} → a ∷ s ≡ b ∷ t → a ≡ b
@@ -40,33 +40,33 @@ module _ {A : Type 0} where
   at_right [] t p = rw zero-add
   at_right (y ∷ s) t p = rw suc-add (at_right s t p)
 
-  pub at-cases : (x : A) (s t : List A) (p : ℕ) → get_elem? (s ++ t) p ≡ some x → (get_elem? s p ≡ some x) ⊎ ((k : ℕ) × (p ≡ length s + k) × (get_elem? t k ≡ some x))
-  at-cases x [] t p h = inr (p, omega arith, h)
-  at-cases x (y ∷ s) t zero h = inl h
-  at-cases x (y ∷ s) t (suc p) h = ⊎_elim inl (λ c. inr (c.0, omega arith, c.2)) (at-cases x s t p h)
+  pub at_cases : (x : A) (s t : List A) (p : ℕ) → get_elem? (s ++ t) p ≡ some x → (get_elem? s p ≡ some x) ⊎ ((k : ℕ) × (p ≡ length s + k) × (get_elem? t k ≡ some x))
+  at_cases x [] t p h = inr (p, omega arith, h)
+  at_cases x (y ∷ s) t zero h = inl h
+  at_cases x (y ∷ s) t (suc p) h = ⊎_elim inl (λ c. inr (c.0, omega arith, c.2)) (at_cases x s t p h)
 
   pub drop-left : {x : A} {r : List A} (s t : List A) (p : ℕ) → drop p s ≡ x ∷ r → drop p (s ++ t) ≡ x ∷ (r ++ t)
   drop-left s t zero h = rw h
   drop-left [] t (suc p) h = absurd (let z : ◌≡◌ {A = ℕ} 0 1 = cc in omega arith)
   drop-left (y ∷ s) t (suc p) h = drop-left s t p h
 
-  pub at-below : {x : A} (s : List A) (p : ℕ) → get_elem? s p ≡ some x → p < length s
-  at-below {x} [] p h = absurd (none-ne-some x h)
-  at-below (y ∷ s) zero h = omega arith
-  at-below (y ∷ s) (suc p) h = omega (arith, at-below s p h)
+  pub at_below : {x : A} (s : List A) (p : ℕ) → get_elem? s p ≡ some x → p < length s
+  at_below {x} [] p h = absurd (none-ne-some x h)
+  at_below (y ∷ s) zero h = omega arith
+  at_below (y ∷ s) (suc p) h = omega (arith, at_below s p h)
 
   pub at_some : (s : List A) (p : ℕ) → p < length s → (x : A) × (get_elem? s p ≡ some x)
   at_some [] p h = absurd (omega arith)
   at_some (y ∷ s) zero h = (y, refl)
   at_some (y ∷ s) (suc p) h = at_some s p (omega arith)
 
-  pub at-member : (s : List A) (p : ℕ) (d : A) → p < length s → Memᴰ (get_or s p d) s
-  at-member [] p d h = absurd (omega arith)
-  at-member (y ∷ s) zero d h = Memᴰ.head refl
-  at-member (y ∷ s) (suc p) d h = Memᴰ.tail (at-member s p d (omega arith))
+  pub at_member : (s : List A) (p : ℕ) (d : A) → p < length s → Memᴰ (get_or s p d) s
+  at_member [] p d h = absurd (omega arith)
+  at_member (y ∷ s) zero d h = Memᴰ.head refl
+  at_member (y ∷ s) (suc p) d h = Memᴰ.tail (at_member s p d (omega arith))
 
-  pub at-distinct : (s : List A) (p q : ℕ) (d : A) → Distinct s → p < q → q < length s → get_or s p d ≡ get_or s q d → ⊥
-  at-distinct [] p q d once less h e = omega arith
-  at-distinct (y ∷ s) p zero d once less h e = omega arith
-  at-distinct (y ∷ s) zero (suc q) d once less h e = once.0 (subst (λ (x : A). Memᴰ x s) (sym e) (at-member s q d (omega arith)))
-  at-distinct (y ∷ s) (suc p) (suc q) d once less h e = at-distinct s p q d once.1 (omega arith) (omega arith) e
+  pub at_distinct : (s : List A) (p q : ℕ) (d : A) → Distinct s → p < q → q < length s → get_or s p d ≡ get_or s q d → ⊥
+  at_distinct [] p q d once less h e = omega arith
+  at_distinct (y ∷ s) p zero d once less h e = omega arith
+  at_distinct (y ∷ s) zero (suc q) d once less h e = once.0 (subst (λ (x : A). Memᴰ x s) (sym e) (at_member s q d (omega arith)))
+  at_distinct (y ∷ s) (suc p) (suc q) d once less h e = at_distinct s p q d once.1 (omega arith) (omega arith) e

@@ -1,5 +1,5 @@
 -- Lists in which nothing stands twice.
--- Law: grammar-both-ways (grammar_file/proofs/BothWays.antt)
+-- Law: grammar_both_ways (grammar_file/proofs/BothWays.antt)
 use mathlib.Core.List.{List, [], ◌∷◌, Memᴰ}
 
 abbrev pub Distinct : {A : Type 0} → List A → Type 0

@@ -16,7 +16,7 @@ use Rattle.laws.proofs.Lists.{trichotomy}
 use Rattle.vpg.proofs.Take.{Move, moves, Taken, taken, take, Ended, ended, end}
 use Rattle.level_theory.specs.Masks.{applies, finishes, masks, Calm}
 use Rattle.level_theory.specs.Walk.{Run}
-use Rattle.level_theory.proofs.Alive.{Passes, goes-applies, calm-on, run_fits, ends-empty}
+use Rattle.level_theory.proofs.Alive.{Passes, goes_applies, calm_on, run_fits, ends_empty}
 
 -- no rule for L passes whose number P holds of
 abbrev pub None : (Rule → Bool) → Rules → ℕ → (ℕ → Type 0) → Type 0
@@ -33,13 +33,13 @@ one_way g {L} {s} {t} {R} {Q} e p q v v' =
 pub live : (W : ℕ) {g : Rules} {L : ℕ} {s : Stack} {t : Token} {w : List Token} {f : List ℕ} → General W g → Calm W L s → (k : Taken g L s t w f) → Passes (applies W (masks W g w) t) g L k.number
 live W {g} {w = w} ok c k =
     let h = ok k.number k.rule k.is in
-    let a = goes-applies W (masks W g w) h c k.goes (run_fits W g ok w k.nonterminal k.due (calm-on W h k.goes c) k.rest k.run) in
+    let a = goes_applies W (masks W g w) h c k.goes (run_fits W g ok w k.nonterminal k.due (calm_on W h k.goes c) k.rest k.run) in
     record { rule = k.rule; is = k.is; from = a.from; passes = a.applied }
 
 -- two lists with one head
-with-head : {r q : ℕ} {e d f : List ℕ} → f ≡ q ∷ d → r ≡ q → (e ≡ d) ⊎ Before e d → (r ∷ e ≡ f) ⊎ Before (r ∷ e) f
-with-head s q (inl p) = inl (cc (s))
-with-head s q (inr b) = inr (rw s (inr (q, b)))
+with_head : {r q : ℕ} {e d f : List ℕ} → f ≡ q ∷ d → r ≡ q → (e ≡ d) ⊎ Before e d → (r ∷ e ≡ f) ⊎ Before (r ∷ e) f
+with_head s q (inl p) = inl (cc (s))
+with_head s q (inr b) = inr (rw s (inr (q, b)))
 
 module _ (g : Rules) (L : ℕ) (s : Stack) (t : Token) (w : List Token) where
   -- rule number r leads to L' with s' due
@@ -53,15 +53,15 @@ module _ (g : Rules) (L : ℕ) (s : Stack) (t : Token) (w : List Token) where
   same_place v k q = rw (one_way g q v.is k.is v.goes k.goes) k.run
 
   -- the next run keeps the rule where what follows has a next run
-  pub next-keep : (r L' : ℕ) (s' : Stack) (e e' : List ℕ) → Leads r L' s' → Next (Run g (L', s') w) e e' → Next (Run g (L, s) (t ∷ w)) (r ∷ e) (r ∷ e')
-  next-keep r L' s' e e' v h = record {
+  pub next_keep : (r L' : ℕ) (s' : Stack) (e e' : List ℕ) → Leads r L' s' → Next (Run g (L', s') w) e e' → Next (Run g (L, s) (t ∷ w)) (r ∷ e) (r ∷ e')
+  next_keep r L' s' e e' v h = record {
     holds = (take g w v.is v.goes h.holds.0, inr (refl, h.holds.1));
     least = λ f m. let k = taken g L s t w f m.0 in go f k (rw k.shape at m.1);
   }
     where
       go : (f : List ℕ) (k : Taken g L s t w f) → (r < k.number) ⊎ ((r ≡ k.number) × Before e k.rest) → (r ∷ e' ≡ f) ⊎ Before (r ∷ e') f
       go f k (inl l) = inr (rw k.shape (inl l))
-      go f k (inr b) = with-head k.shape b.0 (h.least k.rest (same_place v k b.0, b.1))
+      go f k (inr b) = with_head k.shape b.0 (h.least k.rest (same_place v k b.0, b.1))
 
   module _ (W : ℕ) (ok : General W g) (calm : Calm W L s) where
     -- the first run takes the first rule that applies
@@ -72,7 +72,7 @@ module _ (g : Rules) (L : ℕ) (s : Stack) (t : Token) (w : List Token) where
     }
       where
         go : (f : List ℕ) (k : Taken g L s t w f) → (r ≡ k.number) ⊎ ((r < k.number) ⊎ (k.number < r)) → (r ∷ e ≡ f) ⊎ Before (r ∷ e) f
-        go f k (inl q) = with-head k.shape q (h.least k.rest (same_place v k q))
+        go f k (inl q) = with_head k.shape q (h.least k.rest (same_place v k q))
         go f k (inr (inl l)) = inr (rw k.shape (inl l))
         go f k (inr (inr l)) = absurd (d k.number l (live W ok calm k))
 
@@ -86,7 +86,7 @@ module _ (g : Rules) (L : ℕ) (s : Stack) (t : Token) (w : List Token) where
       where
         go : (f : List ℕ) (k : Taken g L s t w f) → (q ≡ k.number) ⊎ ((q < k.number) ⊎ (k.number < q)) →
             (r < k.number) ⊎ ((r ≡ k.number) × Before e k.rest) → (q ∷ e' ≡ f) ⊎ Before (q ∷ e') f
-        go f k (inl p) b = with-head k.shape p (h.least k.rest (same_place u k p))
+        go f k (inl p) b = with_head k.shape p (h.least k.rest (same_place u k p))
         go f k (inr (inl l)) b = inr (rw k.shape (inl l))
         go f k (inr (inr l)) (inl b) = absurd (d k.number (b, l) (live W ok calm k))
         go f k (inr (inr l)) (inr b) = absurd (last k.rest (same_place v k b.0) b.1)
@@ -104,8 +104,8 @@ module _ (g : Rules) (L : ℕ) where
   finished : {f : List ℕ} (k : Ended g L [] f) → Passes finishes g L k.number
   finished k = record { rule = Rule.Empty L; is = k.is; from = refl; passes = refl }
 
-  pub end-first : (r : ℕ) → Passes finishes g L r → None finishes g L (λ q. q < r) → Least (Run g (L, []) []) (r ∷ [])
-  end-first r p d = record { holds = end g (ends-empty g L r p); least = λ f m. let k = ended g L [] f m in go f k (trichotomy r k.number) }
+  pub end_first : (r : ℕ) → Passes finishes g L r → None finishes g L (λ q. q < r) → Least (Run g (L, []) []) (r ∷ [])
+  end_first r p d = record { holds = end g (ends_empty g L r p); least = λ f m. let k = ended g L [] f m in go f k (trichotomy r k.number) }
     where
       go : (f : List ℕ) (k : Ended g L [] f) → (r ≡ k.number) ⊎ ((r < k.number) ⊎ (k.number < r)) → (r ∷ [] ≡ f) ⊎ Before (r ∷ []) f
       go f k (inl q) = inl (cc k.shape)
@@ -113,9 +113,9 @@ module _ (g : Rules) (L : ℕ) where
       go f k (inr (inr l)) = absurd (d k.number l (finished k))
 
   -- the next run of one number
-  pub end-next : (r q : ℕ) → r < q → Passes finishes g L q → None finishes g L (λ p. (r < p) × (p < q)) → Next (Run g (L, []) []) (r ∷ []) (q ∷ [])
-  end-next r q lt p d = record {
-    holds = (end g (ends-empty g L q p), inl lt);
+  pub end_next : (r q : ℕ) → r < q → Passes finishes g L q → None finishes g L (λ p. (r < p) × (p < q)) → Next (Run g (L, []) []) (r ∷ []) (q ∷ [])
+  end_next r q lt p d = record {
+    holds = (end g (ends_empty g L q p), inl lt);
     least = λ f m. let k = ended g L [] f m.0 in go f k (trichotomy q k.number) (rw k.shape at m.1);
   }
     where
@@ -125,8 +125,8 @@ module _ (g : Rules) (L : ℕ) where
       go f k (inr (inr l)) (inl b) = absurd (d k.number (b, l) (finished k))
       go f k (inr (inr l)) (inr b) = absurd b.1
 
-  pub end-last : (r : ℕ) → None finishes g L (λ p. r < p) → Last (Run g (L, []) []) (r ∷ [])
-  end-last r d f m b = let k = ended g L [] f m in go k (rw k.shape at b)
+  pub end_last : (r : ℕ) → None finishes g L (λ p. r < p) → Last (Run g (L, []) []) (r ∷ [])
+  end_last r d f m b = let k = ended g L [] f m in go k (rw k.shape at b)
     where
       go : (k : Ended g L [] f) → (r < k.number) ⊎ ((r ≡ k.number) × ⊥) → ⊥
       go k (inl l) = d k.number l (finished k)

@@ -8,31 +8,31 @@ use Rattle.vpg.specs.declared.Rule.{Rule}
 use Rattle.vpg.specs.declared.Token.{Token}
 use Rattle.vpg.specs.believed.Grammar.{Rules, Grammar, left}
 use Rattle.vpg.specs.Runs.{Stack, move}
-use Rattle.vpg.specs.Parts.{onward, beyond, isIt}
+use Rattle.vpg.specs.Parts.{onward, beyond, is_it}
 use Rattle.level_theory.specs.Masks.{Nonterminals, masks, Fits}
-use Rattle.level_theory.specs.Pending.{Closes, pendingAt}
-use Rattle.level_theory.specs.Walk.{testAt}
+use Rattle.level_theory.specs.Pending.{Closes, pending_at}
+use Rattle.level_theory.specs.Walk.{test_at_lem}
 
 -- ── one rule ──
 
 -- is R kept before the tokens v, where the nonterminals F can stand
 abbrev pub keeps : ℕ → Rules → List Token → Nonterminals → Rule → Bool
-keeps W g v F R = F (left R) && testAt W g v R
+keeps W g v F R = F (left R) && test_at_lem W g v R
 
 -- does R go on with the nonterminal K
-abbrev pub goesTo : Rule → Nonterminals
-goesTo R = isIt (onward R)
+abbrev pub goes_to : Rule → Nonterminals
+goes_to R = is_it (onward R)
 
 -- does R go on with the nonterminal K behind its close
-abbrev pub returnsTo : Rule → Nonterminals
-returnsTo R = isIt (beyond R)
+abbrev pub returns_to : Rule → Nonterminals
+returns_to R = is_it (beyond R)
 
 -- those with which the kept rules go on, and those behind their close
 abbrev pub going : (Rule → Bool) → Rules → Nonterminals
-going k g K = any (λ R. k R && goesTo R K) g
+going k g K = any (λ R. k R && goes_to R K) g
 
 abbrev pub returning : (Rule → Bool) → Rules → Nonterminals
-returning k g K = any (λ R. k R && returnsTo R K) g
+returning k g K = any (λ R. k R && returns_to R K) g
 
 -- is there a rule, and does it pass
 abbrev pub passed : (Rule → Bool) → Option Rule → Bool
@@ -70,7 +70,7 @@ pub record Returns (W : ℕ) (g : Grammar) (w : List Token) (p j K : ℕ) : Type
   pub nonterminal : ℕ
   pub due : Stack
   pub reached : Reached W g w p nonterminal due
-  pub behind : Behind due (pendingAt w p) j K
+  pub behind : Behind due (pending_at w p) j K
 
 -- `here` are the nonterminals that can stand at position p, and `back j` those that can stand behind the close at position j
 pub record Front (W : ℕ) (g : Grammar) (w : List Token) (p : ℕ) (here : Nonterminals) (back : ℕ → Nonterminals) : Type 0 where

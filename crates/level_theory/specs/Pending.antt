@@ -14,27 +14,27 @@ rest [] = []
 rest (d ∷ l) = l
 
 -- what a token at position p makes of the pending closes behind it
-abbrev pub pendingOver : Token → ℕ → Closes → Closes
-pendingOver (Token.Mark c) p l = l
-pendingOver (Token.Open a) p l = rest l
-pendingOver (Token.Close b) p l = (b, p) ∷ l
+abbrev pub pending_over : Token → ℕ → Closes → Closes
+pending_over (Token.Mark c) p l = l
+pending_over (Token.Open a) p l = rest l
+pending_over (Token.Close b) p l = (b, p) ∷ l
 
 -- the closes among the tokens whose opens stand before them all; the first token's position is p
 unfoldable pub pending : List Token → ℕ → Closes
 pending [] p = []
-pending (t ∷ w) p = pendingOver t p (pending w (suc p))
+pending (t ∷ w) p = pending_over t p (pending w (suc p))
 
 -- those from position p of w on
-abbrev pub pendingAt : List Token → ℕ → Closes
-pendingAt w p = pending (drop p w) p
+abbrev pub pending_at : List Token → ℕ → Closes
+pending_at w p = pending (drop p w) p
 
 -- the position of the first of them, or n
-abbrev pub closeOf : Closes → ℕ → ℕ
-closeOf [] n = n
-closeOf (d ∷ l) n = d.1
+abbrev pub close_of_lem : Closes → ℕ → ℕ
+close_of_lem [] n = n
+close_of_lem (d ∷ l) n = d.1
 
 -- the stack that an array describes below the nonterminal L: behind the close at position j stands nonterminal f[j]; nothing is due where L is not a
--- well-matched one
+-- well_matched one
 abbrev pub due_at : ℕ → List ℕ → Closes → ℕ → Stack
 due_at W f [] L = []
 due_at W f (d ∷ l) L = cond (ltb L W) ((d.0, get_or f d.1 0) ∷ due_at W f l (get_or f d.1 0)) []

@@ -1,5 +1,5 @@
 -- Walking over the tokens by an array: which rules can stand at a position, and where they lead.
--- Law: level-test, placed (level_theory/proofs/Walk.antt)
+-- Law: level_test, placed (level_theory/proofs/Walk.antt)
 use Rattle.std.specs.Prelude.{ℕ, Bool}
 use Rattle.std.proofs.Math.Option.{get_or}
 use mathlib.Core.List.{List, [], ◌∷◌, Memᴰ}
@@ -15,9 +15,9 @@ abbrev pub Run : Rules → State → List Token → List ℕ → Type 0
 Run g s w e = Memᴰ e (runs g s w)
 
 -- can R stand before these tokens
-unfoldable pub testAt : ℕ → Rules → List Token → Rule → Bool
-testAt W g [] R = finishes R
-testAt W g (t ∷ v) R = applies W (masks W g v) t R
+unfoldable pub test_at_lem : ℕ → Rules → List Token → Rule → Bool
+test_at_lem W g [] R = finishes R
+test_at_lem W g (t ∷ v) R = applies W (masks W g v) t R
 
 -- the nonterminal at the next position; d: the one behind the close, where the token is a close
 abbrev pub inner : Rule → ℕ → ℕ

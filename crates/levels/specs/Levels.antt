@@ -1,31 +1,31 @@
 -- Arrays by position: the matching closes, and the nonterminals that derive the rest of each level.
--- Law: matched-turn, leveled-turn (levels/proofs/Levels.antt)
+-- Law: matched_turn, leveled_turn (levels/proofs/Levels.antt)
 use Rattle.std.specs.Prelude.{ℕ, suc, ◌<◌, ◌≤◌, ◌≡◌, Bool, false, cond, List, ltb, length, get_or, drop}
 use Rattle.bits.specs.Bit.{bit}
 use Rattle.vpg.specs.declared.Rule.{Rule}
 use Rattle.vpg.specs.declared.Token.{Token}
 use Rattle.vpg.specs.believed.Grammar.{Rules}
 use Rattle.level_theory.specs.Masks.{floor, onto, masks}
-use Rattle.level_theory.specs.Pending.{pendingAt, closeOf}
-use Rattle.level_theory.specs.Walk.{testAt}
+use Rattle.level_theory.specs.Pending.{pending_at, close_of_lem}
+use Rattle.level_theory.specs.Walk.{test_at_lem}
 use Rattle.contexts.specs.declared.Context.{Context}
-use Rattle.contexts.specs.Context.{appliesTo}
+use Rattle.contexts.specs.Context.{applies_to}
 use Rattle.tables.specs.declared.Head.{Head}
-use Rattle.tables.specs.Ready.{Below, rulesOf}
+use Rattle.tables.specs.Ready.{Below, rules_of}
 use Rattle.rule_index.specs.Goals.{goal}
 use Rattle.rule_index.specs.Index.{Indexed}
-use Rattle.history_file.specs.believed.HistoryFile.{tokensOf}
+use Rattle.history_file.specs.believed.HistoryFile.{tokens_of}
 use Rattle.history_file.specs.HistoryTokens.{Tokens}
 
 -- the first pending close from a token on; top: the first one behind the token, beyond: the one behind that
-abbrev pub nextTop : Token → ℕ → ℕ → ℕ → ℕ
-nextTop (Token.Mark c) i top beyond = top
-nextTop (Token.Open a) i top beyond = beyond
-nextTop (Token.Close b) i top beyond = i
+abbrev pub next_top : Token → ℕ → ℕ → ℕ → ℕ
+next_top (Token.Mark c) i top beyond = top
+next_top (Token.Open a) i top beyond = beyond
+next_top (Token.Close b) i top beyond = i
 
 -- from position p on, m has the first pending close behind each position (for an open, its own); the length where there is none
 abbrev pub Matched : List Token → List ℕ → ℕ → Type 0
-Matched w m p = (k : ℕ) → p ≤ k → k ≤ length w → get_or m k 0 ≡ closeOf (pendingAt w (suc k)) (length w)
+Matched w m p = (k : ℕ) → p ≤ k → k ≤ length w → get_or m k 0 ≡ close_of_lem (pending_at w (suc k)) (length w)
 
 -- from position p on, the digits of a position's word say which nonterminals derive what is ahead in their level, and which derive all that is left:
 -- of those below W, where a close is ahead that ends the level, none does
@@ -37,20 +37,20 @@ Leveled W g w mask p =
 -- that can stand before the tokens
 pub record Stands (W : ℕ) (w : List Token) (mask : List ℕ) (p : ℕ) (context : Context) : Type 0 where
   pub position : context.position ≡ p
-  pub closing : context.closing ≡ closeOf (pendingAt w (suc p)) (length w)
-  pub rules : (g : Rules) → Leveled W g w mask (suc p) → (R : Rule) → Below 32 R → appliesTo W R context ≡ testAt W g (drop p w) R
+  pub closing : context.closing ≡ close_of_lem (pending_at w (suc p)) (length w)
+  pub rules : (g : Rules) → Leveled W g w mask (suc p) → (R : Rule) → Below 32 R → applies_to W R context ≡ test_at_lem W g (drop p w) R
 
 -- the first nonterminal that derives all that is left: k is the first pending close, n the number of tokens
-abbrev pub floorOf : ℕ → ℕ → ℕ → ℕ
-floorOf k n W = cond (ltb k n) W 0
+abbrev pub floor_of : ℕ → ℕ → ℕ → ℕ
+floor_of k n W = cond (ltb k n) W 0
 
 -- does L derive all tokens: it derives what is ahead, and nothing is due behind that
-abbrev pub derivesAll : ℕ → Rules → List Token → ℕ → Bool
-derivesAll W g w L = onto false (floor W (masks W g w).1) (masks W g w).0 L
+abbrev pub derives_all : ℕ → Rules → List Token → ℕ → Bool
+derives_all W g w L = onto false (floor W (masks W g w).1) (masks W g w).0 L
 
 -- what a pass over the tokens may take for granted: the rules and their index, tokens, the matching closes and the levels
 pub record Setting (table : List ℕ) (head : Head) (ts closes masks : List ℕ) : Type 0 where
   pub indexed : Indexed table head
   pub tokens : Tokens ts
-  pub matched : Matched (tokensOf ts) closes 0
-  pub leveled : Leveled head.well (rulesOf table head) (tokensOf ts) masks 0
+  pub matched : Matched (tokens_of ts) closes 0
+  pub leveled : Leveled head.well (rules_of table head) (tokens_of ts) masks 0

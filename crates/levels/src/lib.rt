@@ -3,12 +3,12 @@ ghost use Rattle.std.specs.Prelude.{◌≡◌, Bool, ℕ, ◌/◌, ◌<◌, ◌�
 ghost use Rattle.bits.specs.Bit.{bit};
 ghost use Rattle.vpg.specs.believed.Grammar.{Rules};
 ghost use Rattle.level_theory.specs.Masks.{onto};
-ghost use Rattle.contexts.specs.Context.{endContext};
+ghost use Rattle.contexts.specs.Context.{end_context};
 ghost use Rattle.rule_index.specs.Goals.{goal};
 ghost use Rattle.rule_index.specs.Index.{Indexed};
-ghost use Rattle.history_file.specs.believed.HistoryFile.{tokenWith, tokensOf};
+ghost use Rattle.history_file.specs.believed.HistoryFile.{token_with, tokens_of};
 ghost use Rattle.history_file.specs.HistoryTokens.{Tokens};
-ghost use Rattle.levels.specs.Levels.{nextTop, Matched, Leveled, Stands, floorOf, derivesAll, Setting};
+ghost use Rattle.levels.specs.Levels.{next_top, Matched, Leveled, Stands, floor_of, derives_all, Setting};
 
 use contexts::Context;
 use tables::{Head, Table};
@@ -39,7 +39,7 @@ pub fn close_at(closes: &Closes, p: usize) -> usize
 // The first pending close from position i on, where a token of this kind and of any name stands; top is the first one behind
 // the token, beyond the one behind that.
 fn next_top(kind: u32, i: usize, top: usize, beyond: usize) -> usize
-    ensures { (name : ℕ) → result ≡ nextTop (tokenWith kind name) i top beyond }
+    ensures { (name : ℕ) → result ≡ next_top (token_with kind name) i top beyond }
 {
     // Two choices of a value, for fewer branches: those by kind cost more where histories vary (docs/SPEED.md).
     let inner = if kind == 1 { beyond } else { top };
@@ -47,7 +47,7 @@ fn next_top(kind: u32, i: usize, top: usize, beyond: usize) -> usize
 }
 
 fn end_context(n: usize) -> Context
-    ensures { result ≡ endContext n }
+    ensures { result ≡ end_context n }
 {
     let close = CloseName(0);
     Context {
@@ -65,7 +65,7 @@ fn end_context(n: usize) -> Context
 // and n the number of tokens: where there is a close, only the nonterminals that are not well matched derive all that is left.
 fn word_of(set: u32, k: usize, n: usize, well: u16) -> u64
     requires { well ≤ 32 }
-    ensures { (L : ℕ) → L < 32 → (low : Bool) → bit result (goal low L) ≡ onto low (floorOf k n well) (bit set) L }
+    ensures { (L : ℕ) → L < 32 → (low : Bool) → bit result (goal low L) ≡ onto low (floor_of k n well) (bit set) L }
 {
     if k < n {
         return bits::joined(set, bits::from(set, well as usize));
@@ -83,8 +83,8 @@ fn close_name(t: u32) -> CloseName
 // What stands at the token of position p, from the words of the positions behind it.
 fn context_in(tokens: &[u32], closes: &Closes, masks: &Masks, p: usize) -> Context
     requires tokens { Tokens tokens.now × (p < length tokens.now) }
-    requires cases { Matched (tokensOf tokens.now) closes.now p }
-    ensures { ((W : ℕ) → Stands W (tokensOf tokens.now) masks.now p result) × (result.kind < 4) }
+    requires cases { Matched (tokens_of tokens.now) closes.now p }
+    ensures { ((W : ℕ) → Stands W (tokens_of tokens.now) masks.now p result) × (result.kind < 4) }
 {
     let t = tokens[p];
     let kind = t % 4;
@@ -119,8 +119,8 @@ fn context_in(tokens: &[u32], closes: &Closes, masks: &Masks, p: usize) -> Conte
 // What stands at any position.
 pub fn context_at(tokens: &[u32], closes: &Closes, masks: &Masks, p: usize) -> Context
     requires tokens { Tokens tokens.now × (p ≤ length tokens.now) }
-    requires cases { Matched (tokensOf tokens.now) closes.now p }
-    ensures { (W : ℕ) → Stands W (tokensOf tokens.now) masks.now p result }
+    requires cases { Matched (tokens_of tokens.now) closes.now p }
+    ensures { (W : ℕ) → Stands W (tokens_of tokens.now) masks.now p result }
 {
     if p == tokens.len() {
         return end_context(p);
@@ -152,7 +152,7 @@ pub fn prepare(table: &Table, head: Head, tokens: &[u32], closes: &mut Closes, m
 // Whether the start derives all tokens.
 pub fn derives_all(masks: &Masks, head: Head) -> bool
     requires { head.start < 32 }
-    ensures { (g : Rules) (ts : List ℕ) → Leveled head.well g (tokensOf ts) masks.now 0 → result ≡ derivesAll head.well g (tokensOf ts) head.start }
+    ensures { (g : Rules) (ts : List ℕ) → Leveled head.well g (tokens_of ts) masks.now 0 → result ≡ derives_all head.well g (tokens_of ts) head.start }
 {
     bits::has_wide(masks[0], 32 + head.start as usize)
 }

@@ -23,12 +23,12 @@ pub record Laying (f : List ℕ → List ℕ) (out₀ : List ℕ) (at : Cursor) 
   pub so_far : laid (cursor, out) (f (drop i bytes)) ≡ laid (at, out₀) (f bytes)
 
 module _ (f : List ℕ → List ℕ) (s : ℕ → List ℕ) (nil : f [] ≡ []) (cons : (b : ℕ) (l : List ℕ) → f (b ∷ l) ≡ s b ++ f l) (out₀ : List ℕ) (at : Cursor) (bytes : List ℕ) where
-  pub laying-start : Laying f out₀ at bytes out₀ at 0
-  laying-start = record { most = omega arith; same = refl; so_far = refl }
+  pub laying_start : Laying f out₀ at bytes out₀ at 0
+  laying_start = record { most = omega arith; same = refl; so_far = refl }
 
-  pub laying-next : {out : List ℕ} {cursor : Cursor} {i : ℕ} → Laying f out₀ at bytes out cursor i → i < length bytes → (r : Cursor) (new : List ℕ) → length new ≡ length out →
+  pub laying_next : {out : List ℕ} {cursor : Cursor} {i : ℕ} → Laying f out₀ at bytes out cursor i → i < length bytes → (r : Cursor) (new : List ℕ) → length new ≡ length out →
       (r, new) ≡ laid (cursor, out) (s (get_or bytes i 0)) → Laying f out₀ at bytes new r (i + 1)
-  laying-next {out} {cursor} {i} k h r new size e =
+  laying_next {out} {cursor} {i} k h r new size e =
       rw (add-one i)
       (record {
         most = h;
@@ -37,8 +37,8 @@ module _ (f : List ℕ → List ℕ) (s : ℕ → List ℕ) (nil : f [] ≡ []) 
             ∙ ap (laid (cursor, out)) (sym (ap f (drop-cons bytes i 0 h) ∙ cons (get_or bytes i 0) (drop (suc i) bytes))) ∙ k.so_far;
       })
 
-  pub laying-end : {out : List ℕ} {cursor : Cursor} {i : ℕ} → Laying f out₀ at bytes out cursor i → i ≡ length bytes → (cursor, out) ≡ laid (at, out₀) (f bytes)
-  laying-end {out} {cursor} {i} k h =
+  pub laying_end : {out : List ℕ} {cursor : Cursor} {i : ℕ} → Laying f out₀ at bytes out cursor i → i ≡ length bytes → (cursor, out) ≡ laid (at, out₀) (f bytes)
+  laying_end {out} {cursor} {i} k h =
       sym (laid_none (cursor, out)) ∙ ap (laid (cursor, out)) (sym (ap f (drop_of_length-le bytes {i = i} (omega arith)) ∙ nil)) ∙ k.so_far
 
 -- two pieces, one behind the other

@@ -8,17 +8,17 @@ abbrev pub Laid : Type 0
 Laid = Cursor × List ℕ
 
 -- behind a full buffer of so many bytes
-abbrev pub behindFull : ℕ → ℕ → Cursor
-behindFull before size = record { before = (before + size) % 2 ^ 64; at = 0 }
+abbrev pub behind_full : ℕ → ℕ → Cursor
+behind_full before size = record { before = (before + size) % 2 ^ 64; at = 0 }
 
 -- one byte: the last one that has room, another one, or left out
-abbrev pub putIf : Bool → Bool → Cursor → List ℕ → ℕ → Laid
-putIf true true p out b = (behindFull p.before (length out), slice_set out p.at b)
-putIf true false p out b = (record { before = p.before; at = p.at + 1 }, slice_set out p.at b)
-putIf false y p out b = (p, out)
+abbrev pub put_if : Bool → Bool → Cursor → List ℕ → ℕ → Laid
+put_if true true p out b = (behind_full p.before (length out), slice_set out p.at b)
+put_if true false p out b = (record { before = p.before; at = p.at + 1 }, slice_set out p.at b)
+put_if false y p out b = (p, out)
 
 abbrev pub put : Laid → ℕ → Laid
-put w b = putIf (nat_lt w.0.at (length w.1)) (w.0.at + 1 == length w.1) w.0 w.1 b
+put w b = put_if (nat_lt w.0.at (length w.1)) (w.0.at + 1 == length w.1) w.0 w.1 b
 
 unfoldable pub laid : Laid → List ℕ → Laid
 laid w [] = w

@@ -1,7 +1,7 @@
 // The lines of a listing, written to a buffer; a full buffer goes out as a piece of the text. Each answers the place behind its line.
 ghost use Rattle.std.specs.Prelude.{◌≡◌, ◌+◌, [], ◌∷◌, ◌++◌, length};
-ghost use Rattle.lines.specs.Laid.{put, laid, behindFull};
-ghost use Rattle.lines.specs.believed.Text.{decimal, readingText, tokensLine, choicesLine, noneLine, readingLine, endLine, moreLine, refusedGrammarLine, refusedHistoryLine};
+ghost use Rattle.lines.specs.Laid.{put, laid, behind_full};
+ghost use Rattle.lines.specs.believed.Text.{decimal, reading_text, tokens_line, choices_line, none_line, reading_line, end_line, more_line, refused_grammar_line, refused_history_line};
 
 // How many bytes of the text went out before those in the buffer, and where in the buffer the next one goes.
 #[derive(Drop)]
@@ -12,7 +12,7 @@ pub struct Cursor {
 
 // Writes a full buffer to standard output; the next byte goes to its start.
 fn piece_out(out: &[u8], before: usize) -> Cursor
-    ensures { result ≡ behindFull before (length out.now) }
+    ensures { result ≡ behind_full before (length out.now) }
 {
     io::write_all(libc::STDOUT_FILENO, out);
     Cursor {
@@ -70,49 +70,49 @@ fn number_line(out: &mut [u8], p: Cursor, word: &[u8], n: u64) -> Cursor
 
 // How many tokens the history has.
 pub fn tokens_line(out: &mut [u8], p: Cursor, n: u64) -> Cursor
-    ensures { (result, out.new) ≡ laid (p, out.old) (tokensLine n) }
+    ensures { (result, out.new) ≡ laid (p, out.old) (tokens_line n) }
 {
     number_line(out, p, b"tokens ", n)
 }
 
 // How many positions are choices.
 pub fn choices_line(out: &mut [u8], p: Cursor, count: u64) -> Cursor
-    ensures { (result, out.new) ≡ laid (p, out.old) (choicesLine count) }
+    ensures { (result, out.new) ≡ laid (p, out.old) (choices_line count) }
 {
     number_line(out, p, b"choices ", count)
 }
 
 // There is no reading.
 pub fn none_line(out: &mut [u8], p: Cursor) -> Cursor
-    ensures { (result, out.new) ≡ laid (p, out.old) noneLine }
+    ensures { (result, out.new) ≡ laid (p, out.old) none_line }
 {
     put_bytes(out, p, b"none\n")
 }
 
 // All k readings were listed.
 pub fn end_line(out: &mut [u8], p: Cursor, k: u64) -> Cursor
-    ensures { (result, out.new) ≡ laid (p, out.old) (endLine k) }
+    ensures { (result, out.new) ≡ laid (p, out.old) (end_line k) }
 {
     number_line(out, p, b"end ", k)
 }
 
 // k readings were listed, and another follows.
 pub fn more_line(out: &mut [u8], p: Cursor, k: u64) -> Cursor
-    ensures { (result, out.new) ≡ laid (p, out.old) (moreLine k) }
+    ensures { (result, out.new) ≡ laid (p, out.old) (more_line k) }
 {
     number_line(out, p, b"more ", k)
 }
 
 // The grammar file is refused by the number k.
 pub fn refused_grammar_line(out: &mut [u8], p: Cursor, k: u64) -> Cursor
-    ensures { (result, out.new) ≡ laid (p, out.old) (refusedGrammarLine k) }
+    ensures { (result, out.new) ≡ laid (p, out.old) (refused_grammar_line k) }
 {
     number_line(out, p, b"refused grammar ", k)
 }
 
 // The history file is refused by the number k.
 pub fn refused_history_line(out: &mut [u8], p: Cursor, k: u64) -> Cursor
-    ensures { (result, out.new) ≡ laid (p, out.old) (refusedHistoryLine k) }
+    ensures { (result, out.new) ≡ laid (p, out.old) (refused_history_line k) }
 {
     number_line(out, p, b"refused history ", k)
 }
@@ -127,7 +127,7 @@ fn put_rule(out: &mut [u8], p: Cursor, x: u8) -> Cursor
 
 // The rule numbers of a reading, each with a blank before it.
 fn put_rules(out: &mut [u8], p: Cursor, reading: &[u8]) -> Cursor
-    ensures { (result, out.new) ≡ laid (p, out.old) (readingText reading.now) }
+    ensures { (result, out.new) ≡ laid (p, out.old) (reading_text reading.now) }
 {
     let mut cursor = p;
     let mut i: usize = 0;
@@ -140,7 +140,7 @@ fn put_rules(out: &mut [u8], p: Cursor, reading: &[u8]) -> Cursor
 
 // The reading number k.
 pub fn reading_line(out: &mut [u8], p: Cursor, k: u64, reading: &[u8]) -> Cursor
-    ensures { (result, out.new) ≡ laid (p, out.old) (readingLine k reading.now) }
+    ensures { (result, out.new) ≡ laid (p, out.old) (reading_line k reading.now) }
 {
     let behind = put_number(out, p, k);
     let colon = put_byte(out, behind, 58);

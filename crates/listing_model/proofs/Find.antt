@@ -9,11 +9,11 @@ use mathlib.Core.Option.{Option, none, some, none-ne-some}
 use borrow.Author.Tests.{eqb-true, eq-eqb}
 use lib.Dec.{eqb}
 use lib.ListN.{get_or, length}
-use Rattle.laws.proofs.Lists.{at-member}
+use Rattle.laws.proofs.Lists.{at_member}
 use Rattle.vpg.specs.believed.Order.{Ascending}
 use Rattle.listing_model.specs.believed.Listing.{same, found, find}
 use Rattle.laws.proofs.Bools.{and_left, and_right}
-use Rattle.vpg.proofs.Order.{before-irreflexive}
+use Rattle.vpg.proofs.Order.{before_irreflexive}
 
 pub same-eq : (e f : List ℕ) → same e f ≡ true → e ≡ f
 same-eq [] [] p = refl
@@ -36,7 +36,7 @@ pub find_at : (l : List (List ℕ)) (j : ℕ) → Ascending l → j < length l �
 find_at [] j p h = absurd (not-suc-le-zero h)
 find_at (e ∷ l) zero p h = rw (same_refl e)
 find_at (e ∷ l) (suc j) p h =
-    let ne = same-ne (get_or l j []) e (λ q. before-irreflexive e (rw q at (p.0 (get_or l j []) (at-member l j [] (le_of_suc-le-suc h))))) in
+    let ne = same-ne (get_or l j []) e (λ q. before_irreflexive e (rw q at (p.0 (get_or l j []) (at_member l j [] (le_of_suc-le-suc h))))) in
     rw (ne, find_at l j p.1 (le_of_suc-le-suc h))
 
 -- e is the entry number k

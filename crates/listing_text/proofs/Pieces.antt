@@ -11,7 +11,7 @@ use lib.ListN.{length, take, drop, length-append, length-take, length-drop, drop
 use lib.Seq.{drop-drop}
 use Rattle.lines.specs.believed.Window.{shown, window}
 use Rattle.listing_text.specs.declared.Piece.{Piece}
-use Rattle.listing_text.specs.believed.Pieces.{goesOn, piece_of, pieceAfter}
+use Rattle.listing_text.specs.believed.Pieces.{goes_on_lem, piece_of, piece_after}
 use Rattle.listing_text.specs.believed.Written.{Pieces, none, one_more, Written}
 
 -- what is shown, and the rest
@@ -26,19 +26,19 @@ shown-length start size text = length-take size (drop start text) ∙ ap (min si
 -- ── how far a piece goes ──
 
 -- behind a piece with none to follow nothing is left, if there is room for a byte
-last-reaches : (start size : ℕ) (text : List ℕ) → 0 < size → goesOn (length (shown start size text)) size ≡ false → length text ≤ start + length (shown start size text)
-last-reaches start size text room = go (length (shown start size text)) (shown-length start size text)
+last_reaches : (start size : ℕ) (text : List ℕ) → 0 < size → goes_on_lem (length (shown start size text)) size ≡ false → length text ≤ start + length (shown start size text)
+last_reaches start size text room = go (length (shown start size text)) (shown-length start size text)
   where
-    go : (n : ℕ) → n ≡ min size (length text - start) → goesOn n size ≡ false → length text ≤ start + n
-    go n is e = by-test (eqb n size) (ltb 0 n) refl refl e
+    go : (n : ℕ) → n ≡ min size (length text - start) → goes_on_lem n size ≡ false → length text ≤ start + n
+    go n is e = by_test (eqb n size) (ltb 0 n) refl refl e
       where
-        by-test : (a b : Bool) → eqb n size ≡ a → ltb 0 n ≡ b → (a && b) ≡ false → length text ≤ start + n
-        by-test true true same more e = absurd (false≢true (sym e))
-        by-test true false same more e = omega (arith, eqb-true n size same, ltb-false 0 n more)
-        by-test false b other more e = let d : n ≢ size = eqb-false n size other in omega (arith, is, d)
+        by_test : (a b : Bool) → eqb n size ≡ a → ltb 0 n ≡ b → (a && b) ≡ false → length text ≤ start + n
+        by_test true true same more e = absurd (false≢true (sym e))
+        by_test true false same more e = omega (arith, eqb-true n size same, ltb-false 0 n more)
+        by_test false b other more e = let d : n ≢ size = eqb-false n size other in omega (arith, is, d)
 
-pub piece_is : (p : Piece) (out text : List ℕ) (n : ℕ) (new : List ℕ) (more : Bool) → (n, new) ≡ window p.end out text → more ≡ goesOn n (length out) →
-    (record { end = p.end + n; length = n; more = more }, new) ≡ pieceAfter p out text
+pub piece_is : (p : Piece) (out text : List ℕ) (n : ℕ) (new : List ℕ) (more : Bool) → (n, new) ≡ window p.end out text → more ≡ goes_on_lem n (length out) →
+    (record { end = p.end + n; length = n; more = more }, new) ≡ piece_after p out text
 piece_is p out text n new more e goes = rw goes (ap (piece_of p.end (length out)) e)
 
 -- ── all pieces ──
@@ -66,7 +66,7 @@ so_far {text} {out₀} (one_more p out all before more) =
       rest = append_assoc all s (drop (p.end + length s) text) ∙ ap (λ (l : List ℕ). all ++ (s ++ l)) behind
           ∙ ap (λ (l : List ℕ). all ++ l) (shown_rest (length out) (drop p.end text)) ∙ k.rest;
       same = filled p.end out text ∙ k.same;
-      done = λ room e. last-reaches p.end (length out) text (omega (arith, k.same, room)) e;
+      done = λ room e. last_reaches p.end (length out) text (omega (arith, k.same, room)) e;
       within = omega (arith, shown-length p.end (length out) text, k.within);
       fits = omega (arith, shown-length p.end (length out) text, filled p.end out text);
     }
@@ -79,7 +79,7 @@ written-whole {text} {out₀} {p} {out} room w =
 
 -- ── from piece to piece ──
 
-module _ (text : List ℕ) (p : Piece) (out : List ℕ) (q : Piece) (new : List ℕ) (is : ◌≡◌ {A = Piece × List ℕ} (q, new) (pieceAfter p out text)) where
+module _ (text : List ℕ) (p : Piece) (out : List ℕ) (q : Piece) (new : List ℕ) (is : ◌≡◌ {A = Piece × List ℕ} (q, new) (piece_after p out text)) where
   pub piece_added : {out₀ all : List ℕ} → Pieces text out₀ p out all → p.more ≡ true → (every : List ℕ) × Pieces text out₀ q new every
   piece_added {out₀} {all} k more =
       let every = all ++ shown p.end (length out) text in

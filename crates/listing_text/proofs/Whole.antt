@@ -10,24 +10,24 @@ use lib.ListN.{length, take, drop, get_or, replicate, length-replicate}
 use lib.Seq.{take_at}
 use Rattle.vpg.specs.believed.Grammar.{Grammar}
 use Rattle.vpg.specs.Runs.{entries}
-use Rattle.sets_theory.specs.believed.Sets.{choiceCount}
-use Rattle.listing_model.specs.believed.Listing.{Answer, Subject, over, first, overEntries}
-use Rattle.listing_model.specs.Calls.{callOn}
+use Rattle.sets_theory.specs.believed.Sets.{choice_count}
+use Rattle.listing_model.specs.believed.Listing.{Answer, Subject, over, first, over_entries}
+use Rattle.listing_model.specs.Calls.{call_on}
 use Rattle.listing_model.proofs.Listing.{Proper}
 use Rattle.grammar_file.specs.believed.GrammarFile.{GrammarFile}
 use Rattle.grammar_file.specs.believed.GrammarFile
-use Rattle.history_file.specs.believed.HistoryFile.{HistoryFile, tokensOf}
+use Rattle.history_file.specs.believed.HistoryFile.{HistoryFile, tokens_of}
 use Rattle.history_file.specs.believed.HistoryFile
 use Rattle.files.specs.believed.Files.{accepted, refused, files_of}
-use Rattle.files.specs.believed.Checks.{grammarSaid, grammarDue}
+use Rattle.files.specs.believed.Checks.{grammar_said, grammar_due}
 use Rattle.files.specs.believed.Checks as checks
 use Rattle.files.specs.declared.GrammarCheck.{GrammarCheck}
 use Rattle.lines.specs.Laid.{Laid, laid}
 use Rattle.lines.proofs.Laying.{laid_both}
-use Rattle.lines.specs.believed.Text.{tokensLine, choicesLine, noneLine, refusedGrammarLine, refusedHistoryLine}
-use Rattle.listing_text.specs.believed.Listing.{listedFrom, mostListed, readingsListed, filesListed}
+use Rattle.lines.specs.believed.Text.{tokens_line, choices_line, none_line, refused_grammar_line, refused_history_line}
+use Rattle.listing_text.specs.believed.Listing.{listed_from, most_listed, readings_listed, files_listed}
 use Rattle.listing_text.specs.Passing.{Begun, is_written}
-use Rattle.listing_text.proofs.Turns.{told, entries-are, entries-in-order}
+use Rattle.listing_text.proofs.Turns.{told, entries_are, entries_in_order}
 
 -- ── the first reading ──
 
@@ -35,7 +35,7 @@ abbrev Started : List (List ℕ) → ℕ → Bool → List ℕ → Type 0
 Started l n true new = (0 < length l) × (take (suc n) new ≡ get_or l 0 [])
 Started l n false new = l ≡ []
 
-started : (l : List (List ℕ)) (n : ℕ) → Proper (over l (suc n)) → (buf : List ℕ) (b : Bool) (new : List ℕ) → (b, new) ≡ told (callOn (over l (suc n)) first buf) → Started l n b new
+started : (l : List (List ℕ)) (n : ℕ) → Proper (over l (suc n)) → (buf : List ℕ) (b : Bool) (new : List ℕ) → (b, new) ≡ told (call_on (over l (suc n)) first buf) → Started l n b new
 started [] n p buf b new q = go b (ap (λ (x : Bool × List ℕ). x.0) q)
   where
     go : (b : Bool) → b ≡ false → Started [] n b new
@@ -49,35 +49,35 @@ started (e ∷ l) n p buf b new q = go b (ap (λ (x : Bool × List ℕ). x.0) q)
 
 module _ (g : Grammar) (ts : List ℕ) where
   abbrev L : List (List ℕ)
-  L = entries g (tokensOf ts)
+  L = entries g (tokens_of ts)
 
   abbrev n : ℕ
   n = length ts
 
-  first-started : (buf : List ℕ) (a : Answer) (new : List ℕ) → (a, new) ≡ callOn (overEntries g (tokensOf ts)) first buf → Started L n (is_written a) new
-  first-started buf a new q =
-      started L n (entries-in-order g ts) buf (is_written a) new (ap told (q ∙ ap (λ (x : Subject). callOn x first buf) (entries-are g ts)))
+  first_started : (buf : List ℕ) (a : Answer) (new : List ℕ) → (a, new) ≡ call_on (over_entries g (tokens_of ts)) first buf → Started L n (is_written a) new
+  first_started buf a new q =
+      started L n (entries_in_order g ts) buf (is_written a) new (ap told (q ∙ ap (λ (x : Subject). call_on x first buf) (entries_are g ts)))
 
-  pub first-begun : (buf : List ℕ) → n < length buf → (a : Answer) (new : List ℕ) → is_written a ≡ true → length new ≡ length buf → (a, new) ≡ callOn (overEntries g (tokensOf ts)) first buf → Begun L n new
-  first-begun buf h a new is size q =
-      let s : (0 < length L) × (take (suc n) new ≡ get_or L 0 []) = subst (λ (x : Bool). Started L n x new) is (first-started buf a new q) in
+  pub first_begun : (buf : List ℕ) → n < length buf → (a : Answer) (new : List ℕ) → is_written a ≡ true → length new ≡ length buf → (a, new) ≡ call_on (over_entries g (tokens_of ts)) first buf → Begun L n new
+  first_begun buf h a new is size q =
+      let s : (0 < length L) × (take (suc n) new ≡ get_or L 0 []) = subst (λ (x : Bool). Started L n x new) is (first_started buf a new q) in
       record { some_one = s.0; room = omega (arith, size); holds = rw (add-one n) s.1 }
 
-  pub first-none : (buf : List ℕ) (a : Answer) (new : List ℕ) → is_written a ≡ false → (a, new) ≡ callOn (overEntries g (tokensOf ts)) first buf → L ≡ []
-  first-none buf a new is q = subst (λ (x : Bool). Started L n x new) is (first-started buf a new q)
+  pub first-none : (buf : List ℕ) (a : Answer) (new : List ℕ) → is_written a ≡ false → (a, new) ≡ call_on (over_entries g (tokens_of ts)) first buf → L ≡ []
+  first-none buf a new is q = subst (λ (x : Bool). Started L n x new) is (first_started buf a new q)
 
 -- ── the text ──
 
-pub none-listed : (t : List ℕ) (d : ℕ) (l : List (List ℕ)) → l ≡ [] → t ++ noneLine ≡ t ++ readingsListed d l
-none-listed t d l h = ap (λ (m : List (List ℕ)). t ++ readingsListed d m) (sym h)
+pub none-listed : (t : List ℕ) (d : ℕ) (l : List (List ℕ)) → l ≡ [] → t ++ none_line ≡ t ++ readings_listed d l
+none-listed t d l h = ap (λ (m : List (List ℕ)). t ++ readings_listed d m) (sym h)
 
-pub some-listed : (t : List ℕ) (d : ℕ) (l : List (List ℕ)) → 0 < length l → (t ++ choicesLine d) ++ listedFrom mostListed 0 l ≡ t ++ readingsListed d l
+pub some-listed : (t : List ℕ) (d : ℕ) (l : List (List ℕ)) → 0 < length l → (t ++ choices_line d) ++ listed_from most_listed 0 l ≡ t ++ readings_listed d l
 some-listed t d [] h = absurd (omega arith)
-some-listed t d (e ∷ l) h = append_assoc t (choicesLine d) (listedFrom mostListed 0 (e ∷ l))
+some-listed t d (e ∷ l) h = append_assoc t (choices_line d) (listed_from most_listed 0 (e ∷ l))
 
 -- the readings behind the two counts
-pub behind-counts : (p q r : Laid) (t : List ℕ) (d due : ℕ) (y : List ℕ) → d ≡ due → q ≡ laid p (t ++ choicesLine d) → r ≡ laid q y → r ≡ laid p ((t ++ choicesLine due) ++ y)
-behind-counts p q r t d due y i e f = laid_both p q r (t ++ choicesLine due) y (e ∙ ap (λ (x : ℕ). laid p (t ++ choicesLine x)) i) f
+pub behind-counts : (p q r : Laid) (t : List ℕ) (d due : ℕ) (y : List ℕ) → d ≡ due → q ≡ laid p (t ++ choices_line d) → r ≡ laid q y → r ≡ laid p ((t ++ choices_line due) ++ y)
+behind-counts p q r t d due y i e f = laid_both p q r (t ++ choices_line due) y (e ∙ ap (λ (x : ℕ). laid p (t ++ choices_line x)) i) f
 
 -- zeros for the longest reading
 abbrev pub zeros : List ℕ
@@ -88,17 +88,17 @@ enough n h = subst (λ (x : ℕ). n < x) (sym (length-replicate {A = ℕ} 1025 0
 
 -- ── both files ──
 
-pub grammar-refused : (f : GrammarFile) (k e : ℕ) → grammarSaid (GrammarCheck.Refused k) ≡ grammarDue f → (h : HistoryFile) → files_of f h ≡ refused e → refusedGrammarLine e ≡ filesListed f h
-grammar-refused (GrammarFile.accepted g) k e q h i = absurd (let z : ◌≡◌ {A = ℕ} 0 1 = cc in omega arith)
-grammar-refused (GrammarFile.refused d) k e q h i = let z : e ≡ d = cc in ap refusedGrammarLine z
+pub grammar_refused : (f : GrammarFile) (k e : ℕ) → grammar_said (GrammarCheck.Refused k) ≡ grammar_due f → (h : HistoryFile) → files_of f h ≡ refused e → refused_grammar_line e ≡ files_listed f h
+grammar_refused (GrammarFile.accepted g) k e q h i = absurd (let z : ◌≡◌ {A = ℕ} 0 1 = cc in omega arith)
+grammar_refused (GrammarFile.refused d) k e q h i = let z : e ≡ d = cc in ap refused_grammar_line z
 
-pub history-refused : (f : GrammarFile) (s r e : ℕ) → grammarSaid (GrammarCheck.Accepted s r) ≡ grammarDue f → (h : HistoryFile) → files_of f h ≡ refused e → refusedHistoryLine e ≡ filesListed f h
-history-refused (GrammarFile.refused d) s r e q h i = absurd (let z : ◌≡◌ {A = ℕ} 0 1 = cc in omega arith)
-history-refused (GrammarFile.accepted g) s r e q (HistoryFile.refused d) i = let z : e ≡ d = cc in ap refusedHistoryLine z
-history-refused (GrammarFile.accepted g) s r e q (HistoryFile.accepted ts) i = absurd (let z : ◌≡◌ {A = ℕ} 0 1 = cc in omega arith)
+pub history_refused : (f : GrammarFile) (s r e : ℕ) → grammar_said (GrammarCheck.Accepted s r) ≡ grammar_due f → (h : HistoryFile) → files_of f h ≡ refused e → refused_history_line e ≡ files_listed f h
+history_refused (GrammarFile.refused d) s r e q h i = absurd (let z : ◌≡◌ {A = ℕ} 0 1 = cc in omega arith)
+history_refused (GrammarFile.accepted g) s r e q (HistoryFile.refused d) i = let z : e ≡ d = cc in ap refused_history_line z
+history_refused (GrammarFile.accepted g) s r e q (HistoryFile.accepted ts) i = absurd (let z : ◌≡◌ {A = ℕ} 0 1 = cc in omega arith)
 
-pub both-accepted : (f : GrammarFile) (h : HistoryFile) (g : Grammar) (ts : List ℕ) → files_of f h ≡ accepted g ts →
-    filesListed f h ≡ tokensLine (length ts) ++ readingsListed (choiceCount g (tokensOf ts)) (entries g (tokensOf ts))
-both-accepted (GrammarFile.refused d) h g ts i = absurd (let z : ◌≡◌ {A = ℕ} 0 1 = cc in omega arith)
-both-accepted (GrammarFile.accepted x) (HistoryFile.refused d) g ts i = absurd (let z : ◌≡◌ {A = ℕ} 0 1 = cc in omega arith)
-both-accepted (GrammarFile.accepted x) (HistoryFile.accepted y) g ts i = let a : x ≡ g = cc in let b : y ≡ ts = cc in rw (a, b)
+pub both_accepted : (f : GrammarFile) (h : HistoryFile) (g : Grammar) (ts : List ℕ) → files_of f h ≡ accepted g ts →
+    files_listed f h ≡ tokens_line (length ts) ++ readings_listed (choice_count g (tokens_of ts)) (entries g (tokens_of ts))
+both_accepted (GrammarFile.refused d) h g ts i = absurd (let z : ◌≡◌ {A = ℕ} 0 1 = cc in omega arith)
+both_accepted (GrammarFile.accepted x) (HistoryFile.refused d) g ts i = absurd (let z : ◌≡◌ {A = ℕ} 0 1 = cc in omega arith)
+both_accepted (GrammarFile.accepted x) (HistoryFile.accepted y) g ts i = let a : x ≡ g = cc in let b : y ≡ ts = cc in rw (a, b)

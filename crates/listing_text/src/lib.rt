@@ -1,18 +1,18 @@
 // The listing of two files as text: the files are read once, the levels worked out once, and each reading made from the one before it.
 ghost use Rattle.std.specs.Prelude.{◌≡◌, ◌++◌, length};
 ghost use Rattle.vpg.specs.Runs.{entries};
-ghost use Rattle.sets_theory.specs.believed.Sets.{choiceCount};
-ghost use Rattle.tables.specs.Ready.{grammarIn};
+ghost use Rattle.sets_theory.specs.believed.Sets.{choice_count};
+ghost use Rattle.tables.specs.Ready.{grammar_in};
 ghost use Rattle.rule_index.specs.Index.{Indexed};
-ghost use Rattle.grammar_file.specs.believed.GrammarFile.{grammarOf};
-ghost use Rattle.history_file.specs.believed.HistoryFile.{HistoryFile, tokensOf};
+ghost use Rattle.grammar_file.specs.believed.GrammarFile.{grammar_of};
+ghost use Rattle.history_file.specs.believed.HistoryFile.{HistoryFile, tokens_of};
 ghost use Rattle.history_file.specs.HistoryTokens.{Tokens};
 ghost use Rattle.files.specs.believed.Files.{refused, files_of};
 ghost use Rattle.levels.specs.Levels.{Setting};
-ghost use Rattle.next_run.specs.Next.{nextSaid};
+ghost use Rattle.next_run.specs.Next.{next_said};
 ghost use Rattle.lines.specs.Laid.{laid};
-ghost use Rattle.lines.specs.believed.Text.{tokensLine, noneLine, choicesLine};
-ghost use Rattle.listing_text.specs.believed.Listing.{listedFrom, mostListed, readingsListed, filesListed, listing};
+ghost use Rattle.lines.specs.believed.Text.{tokens_line, none_line, choices_line};
+ghost use Rattle.listing_text.specs.believed.Listing.{listed_from, most_listed, readings_listed, files_listed, listing};
 ghost use Rattle.listing_text.specs.Passing.{Begun, is_written, at_start};
 
 use files::GrammarCheck;
@@ -39,7 +39,7 @@ fn at_start() -> Cursor
 }
 
 fn is_written(answer: NextAnswer) -> bool
-    ensures { result ≡ is_written (nextSaid answer) }
+    ensures { result ≡ is_written (next_said answer) }
 {
     match answer {
         NextAnswer::Written => true,
@@ -50,7 +50,7 @@ fn is_written(answer: NextAnswer) -> bool
 
 // The text where there is no reading.
 fn list_none(text: &mut [u8], n: u64) -> Cursor
-    ensures { (result, text.new) ≡ laid (at_start, text.old) (tokensLine n ++ noneLine) }
+    ensures { (result, text.new) ≡ laid (at_start, text.old) (tokens_line n ++ none_line) }
 {
     let at = lines::tokens_line(text, at_start(), n);
     lines::none_line(text, at)
@@ -58,7 +58,7 @@ fn list_none(text: &mut [u8], n: u64) -> Cursor
 
 // The lines before the first reading.
 fn list_counts(text: &mut [u8], n: u64, choices: u64) -> Cursor
-    ensures { (result, text.new) ≡ laid (at_start, text.old) (tokensLine n ++ choicesLine choices) }
+    ensures { (result, text.new) ≡ laid (at_start, text.old) (tokens_line n ++ choices_line choices) }
 {
     let at = lines::tokens_line(text, at_start(), n);
     lines::choices_line(text, at, choices)
@@ -75,8 +75,8 @@ fn list_readings(
     text: &mut [u8],
 ) -> Cursor
     requires setting { Setting table.now head tokens.now closes.now masks.now }
-    requires begun { Begun (entries (grammarIn table.now head) (tokensOf tokens.now)) (length tokens.now) reading.old }
-    ensures { (result, text.new) ≡ laid (at_start, text.old) ((tokensLine (length tokens.now) ++ choicesLine (choiceCount (grammarIn table.now head) (tokensOf tokens.now))) ++ listedFrom mostListed 0 (entries (grammarIn table.now head) (tokensOf tokens.now))) }
+    requires begun { Begun (entries (grammar_in table.now head) (tokens_of tokens.now)) (length tokens.now) reading.old }
+    ensures { (result, text.new) ≡ laid (at_start, text.old) ((tokens_line (length tokens.now) ++ choices_line (choice_count (grammar_in table.now head) (tokens_of tokens.now))) ++ listed_from most_listed 0 (entries (grammar_in table.now head) (tokens_of tokens.now))) }
 {
     let n = tokens.len();
     let choices = sets_core::choices(table, head, tokens, closes, masks);
@@ -97,7 +97,7 @@ fn list_readings(
 fn list_accepted(table: &Table, head: Head, tokens: &[u32], text: &mut [u8]) -> Cursor
     requires indexed { Indexed table.now head }
     requires tokens { Tokens tokens.now }
-    ensures { (result, text.new) ≡ laid (at_start, text.old) (tokensLine (length tokens.now) ++ readingsListed (choiceCount (grammarIn table.now head) (tokensOf tokens.now)) (entries (grammarIn table.now head) (tokensOf tokens.now))) }
+    ensures { (result, text.new) ≡ laid (at_start, text.old) (tokens_line (length tokens.now) ++ readings_listed (choice_count (grammar_in table.now head) (tokens_of tokens.now)) (entries (grammar_in table.now head) (tokens_of tokens.now))) }
 {
     let mut closes = [0u16; 1025];
     let mut masks = [0u64; 1025];
@@ -114,7 +114,7 @@ fn list_accepted(table: &Table, head: Head, tokens: &[u32], text: &mut [u8]) -> 
 
 // The text where a file is refused: by the same number, whichever it is.
 fn list_refused(grammar: &[u8], e: u8, text: &mut [u8]) -> Cursor
-    ensures { (h : HistoryFile) → files_of (grammarOf grammar.now) h ≡ refused e → (result, text.new) ≡ laid (at_start, text.old) (filesListed (grammarOf grammar.now) h) }
+    ensures { (h : HistoryFile) → files_of (grammar_of grammar.now) h ≡ refused e → (result, text.new) ≡ laid (at_start, text.old) (files_listed (grammar_of grammar.now) h) }
 {
     let check = files::grammar_check(grammar);
     match check {

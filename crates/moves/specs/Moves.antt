@@ -1,19 +1,19 @@
 -- Which rules for a nonterminal can stand at a position, and the smallest of them.
--- Law: empty-smallest (moves/proofs/Walking.antt)
+-- Law: empty_smallest (moves/proofs/Walking.antt)
 use Rattle.std.specs.Prelude.{ℕ, ◌<◌, ◌≤◌, ◌≡◌, Bool, true, false, ◌&&◌, List, eqb}
 use Rattle.vpg.specs.declared.Rule.{Rule}
 use Rattle.vpg.specs.believed.Grammar.{left}
 use Rattle.contexts.specs.declared.Context.{Context}
-use Rattle.contexts.specs.Context.{appliesTo}
+use Rattle.contexts.specs.Context.{applies_to}
 use Rattle.tables.specs.declared.Head.{Head}
-use Rattle.tables.specs.Table.{ruleIn}
+use Rattle.tables.specs.Table.{rule_in}
 
--- the rule is for L and can stand here; the nonterminals below W are the well-matched ones
-abbrev pub ruleFits : ℕ → Rule → ℕ → Context → Bool
-ruleFits W R L context = eqb (left R) L && appliesTo W R context
+-- the rule is for L and can stand here; the nonterminals below W are the well_matched ones
+abbrev pub rule_fits_lem : ℕ → Rule → ℕ → Context → Bool
+rule_fits_lem W R L context = eqb (left R) L && applies_to W R context
 
 -- r is the smallest rule that is for L and can stand here; where there is none, it is the number of rules
 pub record Smallest (t : List ℕ) (head : Head) (L : ℕ) (context : Context) (r : ℕ) : Type 0 where
   pub most : r ≤ head.rules
-  pub found : r < head.rules → ruleFits head.well (ruleIn t r) L context ≡ true
-  pub least : (q : ℕ) → q < r → ruleFits head.well (ruleIn t q) L context ≡ false
+  pub found : r < head.rules → rule_fits_lem head.well (rule_in t r) L context ≡ true
+  pub least : (q : ℕ) → q < r → rule_fits_lem head.well (rule_in t q) L context ≡ false

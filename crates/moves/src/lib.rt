@@ -1,10 +1,10 @@
 // Over one position: whether a rule for a nonterminal can stand there, the smallest that can, and where a rule leads.
 ghost use Rattle.std.specs.Prelude.{◌≡◌, ◌<◌, length, get_or, set};
 ghost use Rattle.level_theory.specs.Walk.{inner, later};
-ghost use Rattle.tables.specs.Table.{ruleFrom, ruleIn};
+ghost use Rattle.tables.specs.Table.{rule_from, rule_in};
 ghost use Rattle.rule_index.specs.Index.{FirstEmpty, Indexed};
 ghost use Rattle.contexts.specs.Context.{AtKind};
-ghost use Rattle.moves.specs.Moves.{ruleFits, Smallest};
+ghost use Rattle.moves.specs.Moves.{rule_fits_lem, Smallest};
 
 use contexts::Context;
 use levels::Nonterminals;
@@ -13,7 +13,7 @@ use tables::{Head, Six, Table};
 // Whether the rule of number r, any rule, is for the nonterminal and can stand here.
 pub fn fits(table: &Table, head: Head, r: usize, nonterminal: u16, context: Context) -> bool
     requires { Indexed table.now head × (r < head.rules) }
-    ensures { result ≡ ruleFits head.well (ruleIn table.now r) nonterminal context }
+    ensures { result ≡ rule_fits_lem head.well (rule_in table.now r) nonterminal context }
 {
     if tables::left_in(table, r) == nonterminal {
         contexts::applies(table, head, r, context)
@@ -24,8 +24,8 @@ pub fn fits(table: &Table, head: Head, r: usize, nonterminal: u16, context: Cont
 
 // The same for a rule that stands at tokens of this kind.
 pub fn takes(table: &Table, head: Head, r: usize, l: u16, context: Context) -> bool
-    requires { Indexed table.now head × (r < head.rules) × AtKind (ruleIn table.now r) context.kind }
-    ensures { result ≡ ruleFits head.well (ruleIn table.now r) l context }
+    requires { Indexed table.now head × (r < head.rules) × AtKind (rule_in table.now r) context.kind }
+    ensures { result ≡ rule_fits_lem head.well (rule_in table.now r) l context }
 {
     if tables::left_in(table, r) == l {
         contexts::takes(table, head, r, context)
@@ -67,7 +67,7 @@ pub fn smallest(table: &Table, head: Head, nonterminal: u16, context: Context) -
 
 // The nonterminal at the next position; d is the one behind the close, where the token is a close.
 pub fn inner_of(rule: Six, d: u16) -> u16
-    ensures { result ≡ inner (ruleFrom rule) d }
+    ensures { result ≡ inner (rule_from rule) d }
 {
     if rule.0 == 0 {
         return d;
@@ -78,7 +78,7 @@ pub fn inner_of(rule: Six, d: u16) -> u16
 // Stores at position j the nonterminal behind the close of a step; any other rule leaves all as it is.
 pub fn store_later(behind: &mut Nonterminals, j: usize, rule: Six)
     requires { (length behind.old ≡ 1025) × (j < 1025) }
-    ensures { behind.new ≡ set behind.old j (later (ruleFrom rule) (get_or behind.old j 0)) }
+    ensures { behind.new ≡ set behind.old j (later (rule_from rule) (get_or behind.old j 0)) }
 {
     if rule.0 == 2 {
         behind[j] = rule.5;

@@ -11,20 +11,20 @@ use Rattle.vpg.specs.Extremes.{Least}
 use Rattle.vpg.specs.Runs.{State}
 use Rattle.level_theory.specs.Walk.{Run}
 use Rattle.tables.specs.declared.Head.{Head}
-use Rattle.tables.specs.Ready.{rulesOf}
+use Rattle.tables.specs.Ready.{rules_of}
 use Rattle.first_run.specs.Fill.{state_of, Filled}
 use Rattle.next_run.specs.declared.Branch.{Branch}
 use Rattle.next_run.specs.Next.{Follows, onward, Rewritten}
 
 module _ (t : List ℕ) (head : Head) (w : List Token) (closes : List ℕ) (b : Branch) (old : List ℕ) (long : length w < length old) where
   abbrev G : Rules
-  G = rulesOf t head
+  G = rules_of t head
 
   abbrev S : State
   S = state_of head.well w (onward t closes b)
 
-  pub rewritten-on : (u : Token) (new : List ℕ) → b.position < length w → drop b.position w ≡ u ∷ drop (suc b.position) w → Filled head.well G w (onward t closes b) (set old b.position b.rule) new → Rewritten t head w closes b old new
-  rewritten-on u new h e k = record {
+  pub rewritten_on : (u : Token) (new : List ℕ) → b.position < length w → drop b.position w ≡ u ∷ drop (suc b.position) w → Filled head.well G w (onward t closes b) (set old b.position b.rule) new → Rewritten t head w closes b old new
+  rewritten_on u new h e k = record {
     rest = k.run;
     follows = following (drop b.position w) e k.least;
     written = k.written ∙ rw (take-suc-set old b.position b.rule (omega arith), append_assoc);
@@ -34,8 +34,8 @@ module _ (t : List ℕ) (head : Head) (w : List Token) (closes : List ℕ) (b : 
       following : (v : List Token) → v ≡ u ∷ drop (suc b.position) w → Least (Run G S (drop (suc b.position) w)) k.run → Follows G S v k.run
       following v q x = rw q x
 
-  pub rewritten-end : b.position ≡ length w → Rewritten t head w closes b old (set old b.position b.rule)
-  rewritten-end e = record {
+  pub rewritten_end : b.position ≡ length w → Rewritten t head w closes b old (set old b.position b.rule)
+  rewritten_end e = record {
     rest = [];
     follows = ended (drop b.position w) (drop_of_length-le w {i = b.position} (omega arith));
     written = rw (← e) (take-suc-set old b.position b.rule (omega arith));

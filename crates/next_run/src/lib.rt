@@ -1,12 +1,12 @@
 // The next reading: backward the last position at which a larger rule still leads to a reading, then forward the first run from there.
 ghost use Rattle.std.specs.Prelude.{◌≡◌, ◌<◌, ◌≤◌, length};
-ghost use Rattle.listing_model.specs.believed.Listing.{next, overEntries};
-ghost use Rattle.listing_model.specs.Calls.{callOn};
-ghost use Rattle.tables.specs.Ready.{rulesOf, grammarIn};
-ghost use Rattle.history_file.specs.believed.HistoryFile.{tokensOf};
+ghost use Rattle.listing_model.specs.believed.Listing.{next, over_entries};
+ghost use Rattle.listing_model.specs.Calls.{call_on};
+ghost use Rattle.tables.specs.Ready.{rules_of, grammar_in};
+ghost use Rattle.history_file.specs.believed.HistoryFile.{tokens_of};
 ghost use Rattle.levels.specs.Levels.{Setting};
 ghost use Rattle.first_run.specs.Fill.{Derives};
-ghost use Rattle.next_run.specs.Next.{EachFits, LastPosition, onward, Rewritten, nextSaid};
+ghost use Rattle.next_run.specs.Next.{EachFits, LastPosition, onward, Rewritten, next_said};
 
 use first_run::Configuration;
 use levels::{Closes, Masks, Nonterminals};
@@ -32,8 +32,8 @@ pub fn last_position(
 ) -> Found
     requires setting { Setting table.now head tokens.now closes.now masks.now }
     requires tokens_in_bounds { length tokens.now < length reading.now }
-    requires each_fits { EachFits table.now head (tokensOf tokens.now) at.now reading.now }
-    ensures { LastPosition table.now head (tokensOf tokens.now) at.now reading.now result }
+    requires each_fits { EachFits table.now head (tokens_of tokens.now) at.now reading.now }
+    ensures { LastPosition table.now head (tokens_of tokens.now) at.now reading.now result }
 {
     let count = head.rules;
     let mut p = tokens.len() + 1;
@@ -76,8 +76,8 @@ fn rewrite(
 )
     requires setting { Setting table.now head tokens.now closes.now masks.now }
     requires position_in_bounds { (branch.position ≤ length tokens.now) × (branch.rule < head.rules) × (length branch.behind ≡ 1025) × (length tokens.now < length reading.old) }
-    requires derives { branch.position < length tokens.now → Derives head.well (rulesOf table.now head) (tokensOf tokens.now) (onward table.now closes.now branch) }
-    ensures { Rewritten table.now head (tokensOf tokens.now) closes.now branch reading.old reading.new }
+    requires derives { branch.position < length tokens.now → Derives head.well (rules_of table.now head) (tokens_of tokens.now) (onward table.now closes.now branch) }
+    ensures { Rewritten table.now head (tokens_of tokens.now) closes.now branch reading.old reading.new }
 {
     let p = branch.position;
     let r = branch.rule;
@@ -117,7 +117,7 @@ pub fn next(
 ) -> NextAnswer
     requires setting { Setting table.now head tokens.now closes.now masks.now }
     requires tokens_in_bounds { length tokens.now < length reading.old }
-    ensures { (nextSaid result, reading.new) ≡ callOn (overEntries (grammarIn table.now head) (tokensOf tokens.now)) next reading.old }
+    ensures { (next_said result, reading.new) ≡ call_on (over_entries (grammar_in table.now head) (tokens_of tokens.now)) next reading.old }
 {
     let replayed = replay::replay(table, head, tokens, closes, masks, reading);
     if replayed.ok {

@@ -6,10 +6,10 @@ use Rattle.numbers.specs.declared.NumberRead.TheVariants.{Number, Refused as Num
 use Rattle.numbers.specs.declared.FieldRead.{FieldRead}
 use Rattle.numbers.specs.declared.FieldRead.TheVariants.{Field, Refused as FieldRefused}
 
-abbrev pub refusalOfNumber : NumberRead → ℕ
-refusalOfNumber (Number n p) = 0
-refusalOfNumber (NumberRefused e) = e
+abbrev pub refusal_of_number : NumberRead → ℕ
+refusal_of_number (Number n p) = 0
+refusal_of_number (NumberRefused e) = e
 
-abbrev pub refusalOfField : FieldRead → ℕ
-refusalOfField (Field n p) = 0
-refusalOfField (FieldRefused e) = e
+abbrev pub refusal_of_field : FieldRead → ℕ
+refusal_of_field (Field n p) = 0
+refusal_of_field (FieldRefused e) = e

@@ -1,5 +1,5 @@
 -- How numbers are written as bytes, and what it is that numbers stand in a file (document 01, "The two files"; document 02, 2.4).
--- Law: numbers-read, numbers-reads (numbers/proofs/Written.antt)
+-- Law: numbers_read, numbers_reads (numbers/proofs/Written.antt)
 use Rattle.std.specs.Prelude.{ℕ, zero, suc, ◌+◌, ◌<◌, ◌/◌, ◌%◌, ◌≡◌, false, cond, List, [], ◌∷◌, ◌++◌, ltb}
 use Rattle.numbers.specs.declared.NumberRead.{NumberRead}
 use Rattle.numbers.specs.declared.NumberRead.TheVariants.{Number}
@@ -12,13 +12,13 @@ AllBelow limit (n ∷ ns) = (n < limit) × AllBelow limit ns
 
 -- "groups of seven bits, lowest group first. Each byte but the last has its top bit (128) set. Shortest form only": with so many bytes at
 -- most behind the first
-unfoldable pub shortestWith : ℕ → ℕ → List ℕ
-shortestWith zero n = n ∷ []
-shortestWith (suc more) n = cond (ltb n 128) (n ∷ []) ((n % 128 + 128) ∷ shortestWith more (n / 128))
+unfoldable pub shortest_with : ℕ → ℕ → List ℕ
+shortest_with zero n = n ∷ []
+shortest_with (suc more) n = cond (ltb n 128) (n ∷ []) ((n % 128 + 128) ∷ shortest_with more (n / 128))
 
 -- "three bytes": the bytes of a number below 128 × 128 × 128
 unfoldable pub shortest : ℕ → List ℕ
-shortest n = shortestWith 2 n
+shortest n = shortest_with 2 n
 
 -- the bytes of numbers, one after another
 unfoldable pub written : List ℕ → List ℕ

@@ -1,9 +1,9 @@
 // Bytes to numbers: one number at a place of a file, of three bytes at most, and a number that must stay below a limit.
 ghost use Rattle.std.specs.Prelude.{◌≡◌, ◌<◌, ◌≤◌, ◌/◌, ◌%◌, length};
-ghost use Rattle.numbers.specs.believed.Number.{withGroup, numberWithin, number_at};
+ghost use Rattle.numbers.specs.believed.Number.{with_group, number_within, number_at};
 ghost use Rattle.numbers.specs.Written.{shortest};
-ghost use Rattle.numbers.specs.Refusals.{refusalOfNumber, refusalOfField};
-ghost use Rattle.numbers.specs.believed.Field.{field_at, countAt};
+ghost use Rattle.numbers.specs.Refusals.{refusal_of_number, refusal_of_field};
+ghost use Rattle.numbers.specs.believed.Field.{field_at, count_at};
 
 // What reading a number finds: the number and the place after it, or document 01's number of the refusal.
 #[derive(Drop)]
@@ -35,7 +35,7 @@ pub fn size_of(n: u32) -> usize
 // The third byte of a number, behind two groups that are worth `low`. It is the last that is allowed.
 fn third_at(s: &[u8], last: usize, low: u32) -> NumberRead
     requires { low < 16384 }
-    ensures { result ≡ withGroup (low % 128) (withGroup (low / 128) (numberWithin 1 s.now last)) }
+    ensures { result ≡ with_group (low % 128) (with_group (low / 128) (number_within 1 s.now last)) }
 {
     if s.len() <= last {
         return NumberRead::Refused(1);
@@ -53,7 +53,7 @@ fn third_at(s: &[u8], last: usize, low: u32) -> NumberRead
 // The second byte of a number, behind one group, and a third where there is one.
 fn second_at(s: &[u8], next: usize, low: u32) -> NumberRead
     requires { low < 128 }
-    ensures { result ≡ withGroup low (numberWithin 2 s.now next) }
+    ensures { result ≡ with_group low (number_within 2 s.now next) }
 {
     if s.len() <= next {
         return NumberRead::Refused(1);
@@ -85,7 +85,7 @@ pub fn number_at(s: &[u8], at: usize) -> NumberRead
 
 // The number of the refusal; 0 where there is none.
 pub fn number_refusal(r: NumberRead) -> u8
-    ensures { result ≡ refusalOfNumber r }
+    ensures { result ≡ refusal_of_number r }
 {
     match r {
         NumberRead::Number(_, _) => 0,
@@ -94,7 +94,7 @@ pub fn number_refusal(r: NumberRead) -> u8
 }
 
 pub fn field_refusal(r: FieldRead) -> u8
-    ensures { result ≡ refusalOfField r }
+    ensures { result ≡ refusal_of_field r }
 {
     match r {
         FieldRead::Field(_, _) => 0,
@@ -129,7 +129,7 @@ pub fn field_at(s: &[u8], at: usize, limit: u32, refusal: u8) -> FieldRead
 // The number at a place, which must be from 1 to the most.
 pub fn count_at(s: &[u8], at: usize, most: u32, refusal: u8) -> FieldRead
     requires { most ≤ 65535 }
-    ensures { result ≡ countAt (number_at s.now) at most refusal }
+    ensures { result ≡ count_at (number_at s.now) at most refusal }
 {
     let read = field_at(s, at, most + 1, refusal);
     let FieldRead::Field(n, _) = read else {

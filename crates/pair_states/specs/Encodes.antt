@@ -1,5 +1,5 @@
 -- Which state 32 words are.
--- Law: single-encodes, token-encodes, close-encodes (pair_states/proofs/Derivatives.antt)
+-- Law: single_encodes, token_encodes, close_encodes (pair_states/proofs/Derivatives.antt)
 use Rattle.std.specs.Prelude.{ℕ, ◌<◌, ◌≡◌, List, get_or}
 use Rattle.bits.specs.Bit.{bit}
 use Rattle.pair_theory.specs.Pairs.{PairState}

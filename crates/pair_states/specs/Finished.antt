@@ -1,15 +1,15 @@
 -- The contexts whose level may be finished, as the digits of a word.
--- Law: finished-members, finished-some (pair_states/proofs/Finished.antt)
+-- Law: finished_members, finished-some (pair_states/proofs/Finished.antt)
 use Rattle.std.specs.Prelude.{ℕ, zero, suc, Bool, cond, List, get_or}
 use Rattle.std.specs.Int.Bits.{bit_or}
 use Rattle.bits.specs.Bit.{bit}
-use Rattle.laws.specs.Any.{anyBelow}
+use Rattle.laws.specs.Any.{any_below}
 
 -- the contexts in which a nonterminal below n that may end is current; empties: the nonterminals that have an empty rule
-unfoldable pub finishedOf : List ℕ → ℕ → ℕ → ℕ
-finishedOf words empties zero = 0
-finishedOf words empties (suc n) = cond (bit empties n) (bit_or (finishedOf words empties n) (get_or words n 0)) (finishedOf words empties n)
+unfoldable pub finished_of_lem : List ℕ → ℕ → ℕ → ℕ
+finished_of_lem words empties zero = 0
+finished_of_lem words empties (suc n) = cond (bit empties n) (bit_or (finished_of_lem words empties n) (get_or words n 0)) (finished_of_lem words empties n)
 
 -- some context may be finished
-abbrev pub mayEnd : List ℕ → ℕ → Bool
-mayEnd words empties = anyBelow 32 (bit (finishedOf words empties 32))
+abbrev pub may_end : List ℕ → ℕ → Bool
+may_end words empties = any_below 32 (bit (finished_of_lem words empties 32))

@@ -3,7 +3,7 @@
 use Rattle.std.specs.Prelude.{List, ℕ}
 use Rattle.vpg.specs.believed.Grammar.{Grammar}
 use Rattle.tables.specs.declared.Head.{Head}
-use Rattle.tables.specs.Ready.{rulesOf}
+use Rattle.tables.specs.Ready.{rules_of}
 
-abbrev pub wideGrammar : List ℕ → Head → Grammar
-wideGrammar table head = record { nonterminals = 32; well = head.well; start = head.start; rules = rulesOf table head }
+abbrev pub wide_grammar : List ℕ → Head → Grammar
+wide_grammar table head = record { nonterminals = 32; well = head.well; start = head.start; rules = rules_of table head }

@@ -2,11 +2,11 @@
 // Digit L1 of word L2 is 1 where the pair (L1, L2), of context and current nonterminal, is in the state.
 ghost use Rattle.std.specs.Prelude.{◌≡◌, cond, [], ◌<◌};
 ghost use Rattle.std.specs.Int.Bits.{bit_or};
-ghost use Rattle.pair_theory.specs.Pairs.{PairState, single, overReturn, derivative};
+ghost use Rattle.pair_theory.specs.Pairs.{PairState, single, over_return, derivative};
 ghost use Rattle.rule_index.specs.Index.{Indexed};
 ghost use Rattle.pair_states.specs.Encodes.{Encodes};
-ghost use Rattle.pair_states.specs.Finished.{finishedOf, mayEnd};
-ghost use Rattle.pair_states.specs.Wide.{wideGrammar};
+ghost use Rattle.pair_states.specs.Finished.{finished_of_lem, may_end};
+ghost use Rattle.pair_states.specs.Wide.{wide_grammar};
 
 use pair_words::Words;
 use tables::{Head, Table};
@@ -23,7 +23,7 @@ fn join_if(set: u32, word: u32, yes: bool) -> u32
 
 // The contexts whose level may be finished: a current nonterminal has an empty rule.
 pub fn finished_of(words: &Words, empties: u32) -> u32
-    ensures { result ≡ finishedOf words.now empties 32 }
+    ensures { result ≡ finished_of_lem words.now empties 32 }
 {
     let mut set: u32 = 0;
     let mut k: usize = 0;
@@ -36,7 +36,7 @@ pub fn finished_of(words: &Words, empties: u32) -> u32
 
 // Whether the level of some context may be finished.
 pub fn may_end(words: &Words, empties: u32) -> bool
-    ensures { result ≡ mayEnd words.now empties }
+    ensures { result ≡ may_end words.now empties }
 {
     pair_words::some(finished_of(words, empties))
 }
@@ -55,7 +55,7 @@ pub fn begin(start: u16) -> Words
 // Definition 4.2 (1) and (2), and a close with no open before it: puts the words of the derivative by the token into out.
 pub fn after_token(table: &Table, head: Head, token: Token, words: &Words, out: &mut Words)
     requires { Indexed table.now head }
-    ensures { (S : PairState) → Encodes words.now S → Encodes out.new (derivative (wideGrammar table.now head) token (S, [])).0 }
+    ensures { (S : PairState) → Encodes words.now S → Encodes out.new (derivative (wide_grammar table.now head) token (S, [])).0 }
 {
     pair_words::words_after(table, head, token, words, out);
 }
@@ -71,7 +71,7 @@ pub fn after_close(
     out: &mut Words,
 )
     requires { Indexed table.now head }
-    ensures { (S S₁ : PairState) → Encodes words.now S → Encodes saved.now S₁ → Encodes out.new (overReturn (wideGrammar table.now head) b S S₁ a) }
+    ensures { (S S₁ : PairState) → Encodes words.now S → Encodes saved.now S₁ → Encodes out.new (over_return (wide_grammar table.now head) b S S₁ a) }
 {
     let close = Token::Close(b);
     pair_words::words_after(table, head, close, words, out);

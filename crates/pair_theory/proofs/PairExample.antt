@@ -30,6 +30,6 @@ abbrev b : Token
 b = Token.Close (record { 0 = 0 })
 
 -- {(L₀, L₁)}, then {(L₂, L₂)}, then {(L₀, L₃)}
-pub example-states : (has (c ∷ []) 0 1 ≡ true) × (has (c ∷ []) 0 3 ≡ false) × (has (c ∷ a ∷ []) 2 2 ≡ true) × (has (c ∷ a ∷ []) 0 2 ≡ false) × (has (c ∷ a ∷ b ∷ []) 0 3 ≡ true)
+pub example_states : (has (c ∷ []) 0 1 ≡ true) × (has (c ∷ []) 0 3 ≡ false) × (has (c ∷ a ∷ []) 2 2 ≡ true) × (has (c ∷ a ∷ []) 0 2 ≡ false) × (has (c ∷ a ∷ b ∷ []) 0 3 ≡ true)
 unfolding after
-example-states = (refl, refl, refl, refl, refl)
+example_states = (refl, refl, refl, refl, refl)

@@ -9,25 +9,25 @@ use lib.Bits.{bit_or}
 use lib.Dec.{eqb}
 use lib.ListN.{length, get_or, length-set}
 use lib.Seq.{get_or-set_same, get_or-set_other}
-use Rattle.laws.specs.Any.{any, anyBelow}
-use Rattle.laws.proofs.Any.{below-some, some_below, any_snoc}
+use Rattle.laws.specs.Any.{any, any_below}
+use Rattle.laws.proofs.Any.{below_some, some_below, any_snoc}
 use Rattle.bits.specs.Bit.{bit}
 use Rattle.bits.proofs.Bits.{bit-zero, bit-or, no_member}
 use Rattle.vpg.specs.declared.Rule.{Rule}
 use Rattle.tables.specs.Ready.{Below}
-use Rattle.tables.specs.Table.{ruleIn, rulesIn}
-use Rattle.pair_words.specs.Words.{Gives, joined, wordsBy}
+use Rattle.tables.specs.Table.{rule_in, rules_in}
+use Rattle.pair_words.specs.Words.{Gives, joined, words_by}
 use Rattle.pair_words.proofs.Below.{Fits}
 
 -- ── one set ──
 
 -- a set of a width has a member where it isn't 0
-pub some-member : (k m : ℕ) → m < 2 ^ k → not (eqb m 0) ≡ anyBelow k (bit m)
-some-member k m h = go (anyBelow k (bit m)) refl
+pub some_member : (k m : ℕ) → m < 2 ^ k → not (eqb m 0) ≡ any_below k (bit m)
+some_member k m h = go (any_below k (bit m)) refl
   where
-    go : (b : Bool) → anyBelow k (bit m) ≡ b → not (eqb m 0) ≡ b
+    go : (b : Bool) → any_below k (bit m) ≡ b → not (eqb m 0) ≡ b
     go true q =
-        let s = below-some k (bit m) q in
+        let s = below_some k (bit m) q in
         rw (ne_eqb m 0 (λ e. false≢true (sym (bit-zero s.number) ∙ ap (λ (x : ℕ). bit x s.number) (sym e) ∙ s.passes)))
     go false q = rw (eq-eqb m 0 (no_member k m h (λ b l. none b l (bit m b) refl)))
       where
@@ -53,27 +53,27 @@ abbrev pub adds : Gives → ℕ → ℕ → Rule → Bool
 adds p L K R = p.matches R && (eqb (p.follows R) L && bit (p.contexts R) K)
 
 module _ (p : Gives) (base : List ℕ) (long : length base ≡ 32) (t : List ℕ) where
-  pub words_size : (n : ℕ) → length (wordsBy p base t n) ≡ 32
-  unfolding wordsBy
+  pub words_size : (n : ℕ) → length (words_by p base t n) ≡ 32
+  unfolding words_by
   words_size zero = long
-  words_size (suc n) = go (p.matches (ruleIn t n)) (wordsBy p base t n) _ _ (words_size n)
+  words_size (suc n) = go (p.matches (rule_in t n)) (words_by p base t n) _ _ (words_size n)
     where
       go : (b : Bool) (out : List ℕ) (M m : ℕ) → length out ≡ 32 → length (cond b (joined out M m) out) ≡ 32
       go true out M m e = length-set out M (bit_or (get_or out M 0) m) ∙ e
       go false out M m e = e
 
   -- K is a context of L exactly where it was one, or some rule says so
-  pub bit-words : Fits p → (n : ℕ) → ((r : ℕ) → r < n → Below 32 (ruleIn t r)) → (L K : ℕ) → L < 32 →
-      bit (get_or (wordsBy p base t n) L 0) K ≡ (bit (get_or base L 0) K || any (adds p L K) (rulesIn t n))
-  unfolding wordsBy rulesIn
-  bit-words fits zero h L K l = sym (or-false (bit (get_or base L 0) K))
-  bit-words fits (suc n) h L K l =
-      let R = ruleIn t n in
-      let out = wordsBy p base t n in
+  pub bit_words : Fits p → (n : ℕ) → ((r : ℕ) → r < n → Below 32 (rule_in t r)) → (L K : ℕ) → L < 32 →
+      bit (get_or (words_by p base t n) L 0) K ≡ (bit (get_or base L 0) K || any (adds p L K) (rules_in t n))
+  unfolding words_by rules_in
+  bit_words fits zero h L K l = sym (or-false (bit (get_or base L 0) K))
+  bit_words fits (suc n) h L K l =
+      let R = rule_in t n in
+      let out = words_by p base t n in
       go (p.matches R) out (p.follows R) (p.contexts R) (omega (arith, words_size n, fits R (h n (omega arith))))
-      ∙ ap (λ (b : Bool). b || adds p L K R) (bit-words fits n (λ r m. h r (omega arith)) L K l)
-      ∙ or_assoc (bit (get_or base L 0) K) (any (adds p L K) (rulesIn t n)) (adds p L K R)
-      ∙ ap (λ (b : Bool). bit (get_or base L 0) K || b) (sym (any_snoc (adds p L K) (rulesIn t n) R))
+      ∙ ap (λ (b : Bool). b || adds p L K R) (bit_words fits n (λ r m. h r (omega arith)) L K l)
+      ∙ or_assoc (bit (get_or base L 0) K) (any (adds p L K) (rules_in t n)) (adds p L K R)
+      ∙ ap (λ (b : Bool). bit (get_or base L 0) K || b) (sym (any_snoc (adds p L K) (rules_in t n) R))
     where
       go : (b : Bool) (out : List ℕ) (M m : ℕ) → M < length out →
           bit (get_or (cond b (joined out M m) out) L 0) K ≡ (bit (get_or out L 0) K || (b && (eqb M L && bit m K)))

@@ -15,20 +15,20 @@ use Rattle.vpg.specs.declared.Rule.{Rule}
 use Rattle.vpg.specs.declared.Token.{Token}
 use Rattle.vpg.specs.believed.Grammar.{left}
 use Rattle.vpg.specs.Parts.{onward}
-use Rattle.vpg.specs.Tests.{sameToken}
+use Rattle.vpg.specs.Tests.{same_token}
 use Rattle.tables.specs.declared.Six.{Six}
 use Rattle.tables.specs.Ready.{Below}
 use Rattle.vpg.specs.Forms.{name_of}
-use Rattle.tables.specs.Table.{tokenBy, sixIn, ruleIn}
-use Rattle.tables.proofs.Tables.{rule-empty, rule-next, rule-step}
+use Rattle.tables.specs.Table.{token_by, six_in, rule_in}
+use Rattle.tables.proofs.Tables.{rule_empty, rule_next, rule_step}
 use Rattle.rule_index.specs.Classes.{class_at, class_of}
 use Rattle.laws.proofs.Bools.{and_left, and_right}
 use Rattle.pair_words.proofs.Below.{at-fits}
-use Rattle.pair_words.specs.Words.{or_else, begins, contextsIn, contextsBy, givesAt, givesBehind, joined, gained}
+use Rattle.pair_words.specs.Words.{or_else, begins, contexts_in, contexts_by, gives_at, gives_behind, joined, gained}
 
 -- ── tokens of one class ──
 
-named : (f n : ℕ) → name_of (tokenBy f n) ≡ n
+named : (f n : ℕ) → name_of (token_by f n) ≡ n
 named f n = go (eqb f 3) (eqb f 4)
   where
     go : (a b : Bool) → name_of (cond a (Token.Open (record { 0 = n })) (cond b (Token.Close (record { 0 = n })) (Token.Mark (record { 0 = n })))) ≡ n
@@ -37,21 +37,21 @@ named f n = go (eqb f 3) (eqb f 4)
     go false false = refl
 
 -- tokens of one class are of one kind
-same-named : (i t : Token) → class_at i ≡ class_at t → sameToken i t ≡ eqb (name_of i) (name_of t)
-same-named (Token.Mark c) (Token.Mark c') e = refl
-same-named (Token.Mark c) (Token.Open a) e = absurd (omega arith)
-same-named (Token.Mark c) (Token.Close b) e = absurd (omega arith)
-same-named (Token.Open a) (Token.Mark c) e = absurd (omega arith)
-same-named (Token.Open a) (Token.Open a') e = refl
-same-named (Token.Open a) (Token.Close b) e = absurd (omega arith)
-same-named (Token.Close b) (Token.Mark c) e = absurd (omega arith)
-same-named (Token.Close b) (Token.Open a) e = absurd (omega arith)
-same-named (Token.Close b) (Token.Close b') e = refl
+same_named : (i t : Token) → class_at i ≡ class_at t → same_token i t ≡ eqb (name_of i) (name_of t)
+same_named (Token.Mark c) (Token.Mark c') e = refl
+same_named (Token.Mark c) (Token.Open a) e = absurd (omega arith)
+same_named (Token.Mark c) (Token.Close b) e = absurd (omega arith)
+same_named (Token.Open a) (Token.Mark c) e = absurd (omega arith)
+same_named (Token.Open a) (Token.Open a') e = refl
+same_named (Token.Open a) (Token.Close b) e = absurd (omega arith)
+same_named (Token.Close b) (Token.Mark c) e = absurd (omega arith)
+same_named (Token.Close b) (Token.Open a) e = absurd (omega arith)
+same_named (Token.Close b) (Token.Close b') e = refl
 
-empty-apart : (L : ℕ) (t : Token) → class_of (Rule.Empty L) ≡ class_at t → ⊥
-empty-apart L (Token.Mark c) e = omega arith
-empty-apart L (Token.Open a) e = omega arith
-empty-apart L (Token.Close b) e = omega arith
+empty_apart : (L : ℕ) (t : Token) → class_of (Rule.Empty L) ≡ class_at t → ⊥
+empty_apart L (Token.Mark c) e = omega arith
+empty_apart L (Token.Open a) e = omega arith
+empty_apart L (Token.Close b) e = omega arith
 
 -- ── behind a token ──
 
@@ -60,91 +60,91 @@ pub record Numbers (t : Token) (v : Six) (R : Rule) : Type 0 where
   pub starts : begins t R ≡ eqb v.2 (name_of t)
   pub own : left R ≡ v.1
   pub next : or_else (left R) (onward R) ≡ v.3
-  pub contexts : (own : ℕ) → contextsIn own R ≡ contextsBy v.0 own v.3
+  pub contexts : (own : ℕ) → contexts_in own R ≡ contexts_by v.0 own v.3
 
-next-numbers : (t : Token) (v : Six) → v.0 ≢ 2 → class_at (tokenBy v.0 v.2) ≡ class_at t → Numbers t v (Rule.Next v.1 (tokenBy v.0 v.2) v.3)
-next-numbers t v z e = record {
-  starts = same-named (tokenBy v.0 v.2) t e ∙ ap (λ (n : ℕ). eqb n (name_of t)) (named v.0 v.2);
+next_numbers : (t : Token) (v : Six) → v.0 ≢ 2 → class_at (token_by v.0 v.2) ≡ class_at t → Numbers t v (Rule.Next v.1 (token_by v.0 v.2) v.3)
+next_numbers t v z e = record {
+  starts = same_named (token_by v.0 v.2) t e ∙ ap (λ (n : ℕ). eqb n (name_of t)) (named v.0 v.2);
   own = refl;
   next = refl;
   contexts = λ own. rw (ne_eqb v.0 2 z);
 }
 
-step-numbers : (t : Token) (v : Six) → v.0 ≡ 2 → class_of (Rule.Step v.1 (record { 0 = v.2 }) v.3 (record { 0 = v.4 }) v.5) ≡ class_at t →
+step_numbers : (t : Token) (v : Six) → v.0 ≡ 2 → class_of (Rule.Step v.1 (record { 0 = v.2 }) v.3 (record { 0 = v.4 }) v.5) ≡ class_at t →
     Numbers t v (Rule.Step v.1 (record { 0 = v.2 }) v.3 (record { 0 = v.4 }) v.5)
-step-numbers t v z e = record {
-  starts = same-named (Token.Open (record { 0 = v.2 })) t e;
+step_numbers t v z e = record {
+  starts = same_named (Token.Open (record { 0 = v.2 })) t e;
   own = refl;
   next = refl;
   contexts = λ own. rw z;
 }
 
-pub numbers : (table : List ℕ) (k : ℕ) (t : Token) (v : Six) → v ≡ sixIn table (k * 6) → class_of (ruleIn table k) ≡ class_at t → Numbers t v (ruleIn table k)
+pub numbers : (table : List ℕ) (k : ℕ) (t : Token) (v : Six) → v ≡ six_in table (k * 6) → class_of (rule_in table k) ≡ class_at t → Numbers t v (rule_in table k)
 numbers table k t v e c = go (eqb v.0 0) refl (eqb v.0 2) refl
   where
-    go : (empty : Bool) → eqb v.0 0 ≡ empty → (step : Bool) → eqb v.0 2 ≡ step → Numbers t v (ruleIn table k)
-    go true p step q = absurd (empty-apart v.1 t (rw (rule-empty table k v e (eqb-true v.0 0 p)) at c))
+    go : (empty : Bool) → eqb v.0 0 ≡ empty → (step : Bool) → eqb v.0 2 ≡ step → Numbers t v (rule_in table k)
+    go true p step q = absurd (empty_apart v.1 t (rw (rule_empty table k v e (eqb-true v.0 0 p)) at c))
     go false p true q =
-        let is = rule-step table k v e (eqb-true v.0 2 q) in
-        rw is (step-numbers t v (eqb-true v.0 2 q) (rw is at c))
+        let is = rule_step table k v e (eqb-true v.0 2 q) in
+        rw is (step_numbers t v (eqb-true v.0 2 q) (rw is at c))
     go false p false q =
-        let is = rule-next table k v e (eqb-false v.0 0 p) (eqb-false v.0 2 q) in
-        rw is (next-numbers t v (eqb-false v.0 2 q) (rw is at c))
+        let is = rule_next table k v e (eqb-false v.0 0 p) (eqb-false v.0 2 q) in
+        rw is (next_numbers t v (eqb-false v.0 2 q) (rw is at c))
 
-module _ (table : List ℕ) (k : ℕ) (t : Token) (v : Six) (is : v ≡ sixIn table (k * 6)) (class : class_of (ruleIn table k) ≡ class_at t) where
-  pub begins-below : Below 32 (ruleIn table k) → (v.1 < 32) × (v.3 < 32)
-  begins-below h =
+module _ (table : List ℕ) (k : ℕ) (t : Token) (v : Six) (is : v ≡ six_in table (k * 6)) (class : class_of (rule_in table k) ≡ class_at t) where
+  pub begins_below : Below 32 (rule_in table k) → (v.1 < 32) × (v.3 < 32)
+  begins_below h =
       let x = numbers table k t v is class in
-      (rw x.own at h.0, rw x.next at (at-fits t [] (ruleIn table k) h))
+      (rw x.own at h.0, rw x.next at (at-fits t [] (rule_in table k) h))
 
   module _ (from out : List ℕ) where
     -- the name is the token's, and a word gains the contexts
-    pub gains : (own next m : ℕ) → v.2 ≡ name_of t → own ≡ v.1 → next ≡ v.3 → m ≡ contextsBy v.0 (get_or from own 0) next → joined out next m ≡ gained (givesAt t from) out (ruleIn table k)
+    pub gains : (own next m : ℕ) → v.2 ≡ name_of t → own ≡ v.1 → next ≡ v.3 → m ≡ contexts_by v.0 (get_or from own 0) next → joined out next m ≡ gained (gives_at t from) out (rule_in table k)
     gains own next m q e f z =
         let x = numbers table k t v is class in
         rw (x.starts, eq-eqb v.2 (name_of t) q, x.next, x.own, x.contexts, z, f, e)
 
-    pub gains-none : v.2 ≢ name_of t → out ≡ gained (givesAt t from) out (ruleIn table k)
-    gains-none q = rw ((numbers table k t v is class).starts, ne_eqb v.2 (name_of t) q)
+    pub gains_none : v.2 ≢ name_of t → out ≡ gained (gives_at t from) out (rule_in table k)
+    gains_none q = rw ((numbers table k t v is class).starts, ne_eqb v.2 (name_of t) q)
 
 -- ── behind the close of a step ──
 
 -- are the numbers those of a step with these names
-abbrev stepNamed : OpenName → CloseName → Six → Bool
-stepNamed a b v = eqb v.2 a.0 && (eqb v.4 b.0 && eqb v.0 2)
+abbrev step_named : OpenName → CloseName → Six → Bool
+step_named a b v = eqb v.2 a.0 && (eqb v.4 b.0 && eqb v.0 2)
 
-module _ (table : List ℕ) (k : ℕ) (a : OpenName) (b : CloseName) (v : Six) (is : v ≡ sixIn table (k * 6)) where
-  step_is : stepNamed a b v ≡ true → ruleIn table k ≡ Rule.Step v.1 (record { 0 = v.2 }) v.3 (record { 0 = v.4 }) v.5
-  step_is q = rule-step table k v is (eqb-true v.0 2 (and_right (eqb v.4 b.0) _ (and_right (eqb v.2 a.0) _ q)))
+module _ (table : List ℕ) (k : ℕ) (a : OpenName) (b : CloseName) (v : Six) (is : v ≡ six_in table (k * 6)) where
+  step_is : step_named a b v ≡ true → rule_in table k ≡ Rule.Step v.1 (record { 0 = v.2 }) v.3 (record { 0 = v.4 }) v.5
+  step_is q = rule_step table k v is (eqb-true v.0 2 (and_right (eqb v.4 b.0) _ (and_right (eqb v.2 a.0) _ q)))
 
-  pub step-below : stepNamed a b v ≡ true → Below 32 (ruleIn table k) → (v.1 < 32) × (v.3 < 32) × (v.5 < 32)
-  step-below q h = rw (step_is q) at h
+  pub step_below : step_named a b v ≡ true → Below 32 (rule_in table k) → (v.1 < 32) × (v.3 < 32) × (v.5 < 32)
+  step_below q h = rw (step_is q) at h
 
   -- one test at the end in the place of another
   last : (x y z d : Bool) → (x && (y && z)) ≡ true → (x && (y && d)) ≡ d
   last x y z d q = rw (and_left x _ q, and_left y _ (and_right x _ q))
 
   module _ (done : ℕ) (from out : List ℕ) where
-    named-last : stepNamed a b v ≡ true → (eqb v.2 a.0 && (eqb v.4 b.0 && bit done v.3)) ≡ bit done v.3
-    named-last q = last (eqb v.2 a.0) (eqb v.4 b.0) (eqb v.0 2) (bit done v.3) q
+    named_last : step_named a b v ≡ true → (eqb v.2 a.0 && (eqb v.4 b.0 && bit done v.3)) ≡ bit done v.3
+    named_last q = last (eqb v.2 a.0) (eqb v.4 b.0) (eqb v.0 2) (bit done v.3) q
 
     -- the names are the step's, and its inside may be finished
-    pub gains-behind : (own next : ℕ) → stepNamed a b v ≡ true → bit done v.3 ≡ true → own ≡ v.1 → next ≡ v.5 →
-        joined out next (get_or from own 0) ≡ gained (givesBehind a b done from) out (ruleIn table k)
-    gains-behind own next q d e f = rw (step_is q, named-last q, d, f, e)
+    pub gains_behind : (own next : ℕ) → step_named a b v ≡ true → bit done v.3 ≡ true → own ≡ v.1 → next ≡ v.5 →
+        joined out next (get_or from own 0) ≡ gained (gives_behind a b done from) out (rule_in table k)
+    gains_behind own next q d e f = rw (step_is q, named_last q, d, f, e)
 
-    pub gains-unfinished : stepNamed a b v ≡ true → bit done v.3 ≡ false → out ≡ gained (givesBehind a b done from) out (ruleIn table k)
-    gains-unfinished q d = rw (step_is q, named-last q, d)
+    pub gains_unfinished : step_named a b v ≡ true → bit done v.3 ≡ false → out ≡ gained (gives_behind a b done from) out (rule_in table k)
+    gains_unfinished q d = rw (step_is q, named_last q, d)
 
-    pub gains-unlike : stepNamed a b v ≡ false → out ≡ gained (givesBehind a b done from) out (ruleIn table k)
-    gains-unlike q = go (eqb v.0 0) refl (eqb v.0 2) refl
+    pub gains_unlike : step_named a b v ≡ false → out ≡ gained (gives_behind a b done from) out (rule_in table k)
+    gains_unlike q = go (eqb v.0 0) refl (eqb v.0 2) refl
       where
         none : (x y z d : Bool) → (x && (y && z)) ≡ false → z ≡ true → (x && (y && d)) ≡ false
         none false y z d h e = refl
         none true false z d h e = refl
         none true true z d h e = absurd (false≢true (sym h ∙ e))
 
-        go : (empty : Bool) → eqb v.0 0 ≡ empty → (step : Bool) → eqb v.0 2 ≡ step → out ≡ gained (givesBehind a b done from) out (ruleIn table k)
-        go true p step s = rw (rule-empty table k v is (eqb-true v.0 0 p))
-        go false p true s = rw (rule-step table k v is (eqb-true v.0 2 s), none (eqb v.2 a.0) (eqb v.4 b.0) (eqb v.0 2) (bit done v.3) q s)
-        go false p false s = rw (rule-next table k v is (eqb-false v.0 0 p) (eqb-false v.0 2 s))
+        go : (empty : Bool) → eqb v.0 0 ≡ empty → (step : Bool) → eqb v.0 2 ≡ step → out ≡ gained (gives_behind a b done from) out (rule_in table k)
+        go true p step s = rw (rule_empty table k v is (eqb-true v.0 0 p))
+        go false p true s = rw (rule_step table k v is (eqb-true v.0 2 s), none (eqb v.2 a.0) (eqb v.4 b.0) (eqb v.0 2) (bit done v.3) q s)
+        go false p false s = rw (rule_next table k v is (eqb-false v.0 0 p) (eqb-false v.0 2 s))

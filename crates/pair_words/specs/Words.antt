@@ -1,18 +1,18 @@
 -- Which rules a token or the close of a step allows, and the words of a state behind it: word L is the set of the contexts in which L is current.
--- Law: bit-words (pair_words/proofs/Digits.antt)
+-- Law: bit_words (pair_words/proofs/Digits.antt)
 use Rattle.std.specs.Prelude.{ℕ, zero, suc, Bool, false, cond, ◌&&◌, List, eqb, get_or, set}
 use Rattle.std.proofs.Math.Option.{Option, none, some}
 use Rattle.std.specs.Int.Bits.{bit_or}
-use Rattle.bits.specs.Bit.{bit, addBit}
-use Rattle.laws.specs.Any.{anyBelow}
+use Rattle.bits.specs.Bit.{bit, add_bit}
+use Rattle.laws.specs.Any.{any_below}
 use Rattle.vpg.specs.declared.OpenName.{OpenName}
 use Rattle.vpg.specs.declared.CloseName.{CloseName}
 use Rattle.vpg.specs.declared.Rule.{Rule}
 use Rattle.vpg.specs.declared.Token.{Token}
 use Rattle.vpg.specs.believed.Grammar.{left}
-use Rattle.vpg.specs.Tests.{isOpen, sameToken, ifStep}
+use Rattle.vpg.specs.Tests.{is_open_lem, same_token, if_step}
 use Rattle.vpg.specs.Parts.{onward, beyond}
-use Rattle.tables.specs.Table.{ruleIn}
+use Rattle.tables.specs.Table.{rule_in}
 
 -- ── one rule ──
 
@@ -30,31 +30,31 @@ or_else L (some M) = M
 -- is the token the first one of what the rule becomes
 abbrev pub begins : Token → Rule → Bool
 begins t (Rule.Empty L) = false
-begins t (Rule.Next L i L₁) = sameToken i t
-begins t (Rule.Step L a L₁ b L₂) = isOpen a t
+begins t (Rule.Next L i L₁) = same_token i t
+begins t (Rule.Step L a L₁ b L₂) = is_open_lem a t
 
 -- itself alone as context, where own, the contexts of the rule's own nonterminal, has any
-abbrev pub itselfOf : ℕ → ℕ → ℕ
-itselfOf own next = cond (anyBelow 32 (bit own)) (addBit 0 next) 0
+abbrev pub itself_of : ℕ → ℕ → ℕ
+itself_of own next = cond (any_below 32 (bit own)) (add_bit 0 next) 0
 
 -- the contexts of the nonterminal behind the first token: those of the rule's own; inside a step itself alone
-abbrev pub contextsIn : ℕ → Rule → ℕ
-contextsIn own (Rule.Empty L) = own
-contextsIn own (Rule.Next L i L₁) = own
-contextsIn own (Rule.Step L a L₁ b L₂) = itselfOf own L₁
+abbrev pub contexts_in : ℕ → Rule → ℕ
+contexts_in own (Rule.Empty L) = own
+contexts_in own (Rule.Next L i L₁) = own
+contexts_in own (Rule.Step L a L₁ b L₂) = itself_of own L₁
 
 -- the same by the form of the rule
-abbrev pub contextsBy : ℕ → ℕ → ℕ → ℕ
-contextsBy form own next = cond (eqb form 2) (itselfOf own next) own
+abbrev pub contexts_by : ℕ → ℕ → ℕ → ℕ
+contexts_by form own next = cond (eqb form 2) (itself_of own next) own
 
 -- behind a token that a rule takes alone, or that opens its step; from: the words before the token
-abbrev pub givesAt : Token → List ℕ → Gives
-givesAt t from = record { matches = begins t; follows = λ R. or_else (left R) (onward R); contexts = λ R. contextsIn (get_or from (left R) 0) R }
+abbrev pub gives_at : Token → List ℕ → Gives
+gives_at t from = record { matches = begins t; follows = λ R. or_else (left R) (onward R); contexts = λ R. contexts_in (get_or from (left R) 0) R }
 
 -- behind the close of a step; from: the words before its open; done: the nonterminals with which its inside may begin
-abbrev pub givesBehind : OpenName → CloseName → ℕ → List ℕ → Gives
-givesBehind a b done from = record {
-  matches = ifStep (λ L a' L₁ b' L₂. eqb a'.0 a.0 && (eqb b'.0 b.0 && bit done L₁));
+abbrev pub gives_behind : OpenName → CloseName → ℕ → List ℕ → Gives
+gives_behind a b done from = record {
+  matches = if_step (λ L a' L₁ b' L₂. eqb a'.0 a.0 && (eqb b'.0 b.0 && bit done L₁));
   follows = λ R. or_else (left R) (beyond R);
   contexts = λ R. get_or from (left R) 0;
 }
@@ -70,6 +70,6 @@ abbrev pub gained : Gives → List ℕ → Rule → List ℕ
 gained p out R = cond (p.matches R) (joined out (p.follows R) (p.contexts R)) out
 
 -- what the first n rules of a table give; base: what there is besides
-unfoldable pub wordsBy : Gives → List ℕ → List ℕ → ℕ → List ℕ
-wordsBy p base t zero = base
-wordsBy p base t (suc n) = gained p (wordsBy p base t n) (ruleIn t n)
+unfoldable pub words_by : Gives → List ℕ → List ℕ → ℕ → List ℕ
+words_by p base t zero = base
+words_by p base t (suc n) = gained p (words_by p base t n) (rule_in t n)

@@ -2,12 +2,12 @@
 // Only the rules of the token's class are looked at, once each; a rule of another name in the class is passed over.
 ghost use Rattle.std.specs.Prelude.{◌≡◌, ◌&&◌, ◌<◌, eqb, length, replicate};
 ghost use Rattle.bits.specs.Bit.{bit};
-ghost use Rattle.laws.specs.Any.{anyBelow};
-ghost use Rattle.tables.specs.Table.{ruleIn};
+ghost use Rattle.laws.specs.Any.{any_below};
+ghost use Rattle.tables.specs.Table.{rule_in};
 ghost use Rattle.tables.specs.Ready.{Below};
 ghost use Rattle.rule_index.specs.Classes.{class_at, class_of};
 ghost use Rattle.rule_index.specs.Index.{Indexed};
-ghost use Rattle.pair_words.specs.Words.{itselfOf, contextsBy, givesAt, givesBehind, gained, wordsBy};
+ghost use Rattle.pair_words.specs.Words.{itself_of, contexts_by, gives_at, gives_behind, gained, words_by};
 
 use tables::{Head, Six, Table};
 use vpg::{CloseName, OpenName, Token};
@@ -24,7 +24,7 @@ pub fn wide(nonterminal: u16) -> usize
 
 // Whether a set has a member.
 pub fn some(set: u32) -> bool
-    ensures { result ≡ anyBelow 32 (bit set) }
+    ensures { result ≡ any_below 32 (bit set) }
 {
     set != 0
 }
@@ -32,7 +32,7 @@ pub fn some(set: u32) -> bool
 // Inside a step the first nonterminal has itself alone as context; from a nonterminal that is current in no context, none.
 fn itself(own: u32, next: usize) -> u32
     requires { next < 32 }
-    ensures { result ≡ itselfOf own next }
+    ensures { result ≡ itself_of own next }
 {
     if some(own) {
         return bits::with(0, next);
@@ -43,7 +43,7 @@ fn itself(own: u32, next: usize) -> u32
 // The contexts of the nonterminal behind the first token of a rule of this form; own has those of the rule's own nonterminal.
 fn contexts(form: u16, own: u32, next: usize) -> u32
     requires { next < 32 }
-    ensures { result ≡ contextsBy form own next }
+    ensures { result ≡ contexts_by form own next }
 {
     if form == 2 {
         return itself(own, next);
@@ -53,9 +53,9 @@ fn contexts(form: u16, own: u32, next: usize) -> u32
 
 // Adds what rule k gives behind the token. It is of the token's class, so the name alone is asked for.
 fn gain(token: Token, from: &Words, out: &mut Words, table: &Table, k: usize)
-    requires k_bound { (k < 128) × Below 32 (ruleIn table.now k) × (class_of (ruleIn table.now k) ≡ class_at token) }
+    requires k_bound { (k < 128) × Below 32 (rule_in table.now k) × (class_of (rule_in table.now k) ≡ class_at token) }
     requires out_len { length out.old ≡ 32 }
-    ensures { out.new ≡ gained (givesAt token from.now) out.old (ruleIn table.now k) }
+    ensures { out.new ≡ gained (gives_at token from.now) out.old (rule_in table.now k) }
 {
     let v = tables::six_in(table, k);
     if v.2 == tables::name_of(token) {
@@ -69,7 +69,7 @@ fn gain(token: Token, from: &Words, out: &mut Words, table: &Table, k: usize)
 // the caller lends: words that are handed back by value would be copied at every token.
 pub fn words_after(table: &Table, head: Head, token: Token, from: &Words, out: &mut Words)
     requires { Indexed table.now head }
-    ensures { out.new ≡ wordsBy (givesAt token from.now) (replicate 32 0) table.now head.rules }
+    ensures { out.new ≡ words_by (gives_at token from.now) (replicate 32 0) table.now head.rules }
 {
     let count = head.rules;
     *out = [0u32; 32];
@@ -100,9 +100,9 @@ fn gain_behind(
     table: &Table,
     k: usize,
 )
-    requires k_bound { (k < 128) × Below 32 (ruleIn table.now k) }
+    requires k_bound { (k < 128) × Below 32 (rule_in table.now k) }
     requires out_len { length out.old ≡ 32 }
-    ensures { out.new ≡ gained (givesBehind a b done from.now) out.old (ruleIn table.now k) }
+    ensures { out.new ≡ gained (gives_behind a b done from.now) out.old (rule_in table.now k) }
 {
     let v = tables::six_in(table, k);
     if is_step(v, a, b) {
@@ -126,7 +126,7 @@ pub fn words_behind(
 )
     requires indexed { Indexed table.now head }
     requires out_len { length out.old ≡ 32 }
-    ensures { out.new ≡ wordsBy (givesBehind a b done from.now) out.old table.now head.rules }
+    ensures { out.new ≡ words_by (gives_behind a b done from.now) out.old table.now head.rules }
 {
     let count = head.rules;
     let mut k = rule_index::first_of(table, rule_index::class_by(1, a.0));

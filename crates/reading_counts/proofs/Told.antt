@@ -10,20 +10,20 @@ use lib.ListN.{length}
 use Rattle.vpg.specs.believed.Grammar.{Grammar}
 use Rattle.vpg.specs.Runs.{entries}
 use Rattle.capped.specs.Capped.{limit, cap}
-use Rattle.capped.proofs.Capped.{cap-small, cap-big}
-use Rattle.count_theory.specs.believed.CountAt.{tally, countAt}
-use Rattle.count_theory.specs.Allowed.{passes, aloneAt}
-use Rattle.count_theory.proofs.Places.{with-rule, with-any}
-use Rattle.history_file.specs.believed.HistoryFile.{tokensOf}
-use Rattle.levels.proofs.Levels.{tokens-length}
+use Rattle.capped.proofs.Capped.{cap_small, cap_big}
+use Rattle.count_theory.specs.believed.CountAt.{tally, count_at}
+use Rattle.count_theory.specs.Allowed.{passes, alone_at}
+use Rattle.count_theory.proofs.Places.{with_rule, with-any}
+use Rattle.history_file.specs.believed.HistoryFile.{tokens_of}
+use Rattle.levels.proofs.Levels.{tokens_length}
 use Rattle.files.specs.believed.Files.{accepted}
-use Rattle.kth_run.specs.Kth.{kthWritten}
+use Rattle.kth_run.specs.Kth.{kth_written}
 use Rattle.service.specs.believed.Given.{Given, given, written, untouched}
-use Rattle.service.specs.believed.Opened.{filesIn}
-use Rattle.reading_counts.specs.believed.Numbered.{exact, over, told, readingsDue, readingsAtDue, numbered}
+use Rattle.service.specs.believed.Opened.{files_in}
+use Rattle.reading_counts.specs.believed.Numbered.{exact, over, told, readings_due, readings_at_due, numbered}
 
-pub told-exact : (n : ℕ) → n < limit → exact n ≡ told n
-told-exact n h = rw (lt-ltb n limit h)
+pub told_exact : (n : ℕ) → n < limit → exact n ≡ told n
+told_exact n h = rw (lt-ltb n limit h)
 
 pub told_over : (n : ℕ) → limit ≤ n → over ≡ told n
 told_over n h = rw (le-ltb n limit h)
@@ -33,32 +33,32 @@ pub told-cap : (m : ℕ) → told (cap m) ≡ told m
 told-cap m = go (ltb m limit) refl
   where
     go : (b : Bool) → ltb m limit ≡ b → told (cap m) ≡ told m
-    go true e = ap told (cap-small m (ltb-true m limit e))
-    go false e = rw (cap-big m (ltb-false m limit e)) (told_over m (ltb-false m limit e))
+    go true e = ap told (cap_small m (ltb-true m limit e))
+    go false e = rw (cap_big m (ltb-false m limit e)) (told_over m (ltb-false m limit e))
 
 -- on two files that pass
-module _ (grammar history : List ℕ) {g : Grammar} {ts : List ℕ} (passed : filesIn grammar history ≡ accepted g ts) (p r : ℕ) {v : ℕ} (is : v ≡ cap (tally (passes (aloneAt p r) 0) (entries g (tokensOf ts)))) where
-  counted : (n : ℕ) → tally (passes (aloneAt p r) 0) (entries g (tokensOf ts)) ≡ n → told v ≡ told n
-  counted n e = ap told is ∙ told-cap (tally (passes (aloneAt p r) 0) (entries g (tokensOf ts))) ∙ ap told e
+module _ (grammar history : List ℕ) {g : Grammar} {ts : List ℕ} (passed : files_in grammar history ≡ accepted g ts) (p r : ℕ) {v : ℕ} (is : v ≡ cap (tally (passes (alone_at p r) 0) (entries g (tokens_of ts)))) where
+  counted : (n : ℕ) → tally (passes (alone_at p r) 0) (entries g (tokens_of ts)) ≡ n → told v ≡ told n
+  counted n e = ap told is ∙ told-cap (tally (passes (alone_at p r) 0) (entries g (tokens_of ts))) ∙ ap told e
 
   -- what the pass counts where its position is behind the last one: all readings
-  pub all-due : length ts < p → given (told v) ≡ readingsDue grammar history
-  all-due h = rw passed (ap given (counted (length (entries g (tokensOf ts))) (with-any g (tokensOf ts) p r (rw tokens-length h))))
+  pub all_due : length ts < p → given (told v) ≡ readings_due grammar history
+  all_due h = rw passed (ap given (counted (length (entries g (tokens_of ts))) (with-any g (tokens_of ts) p r (rw tokens_length h))))
 
   -- elsewhere: those that have the rule there
-  pub at-due : p ≤ length ts → given (told v) ≡ readingsAtDue grammar history p r
-  at-due h =
-      let k : p ≤ length (tokensOf ts) = rw tokens-length h in
-      rw (passed, le-ltb (length (tokensOf ts)) p k) (ap given (counted (countAt (entries g (tokensOf ts)) p r) (with-rule g (tokensOf ts) p r k)))
+  pub at_due : p ≤ length ts → given (told v) ≡ readings_at_due grammar history p r
+  at_due h =
+      let k : p ≤ length (tokens_of ts) = rw tokens_length h in
+      rw (passed, le-ltb (length (tokens_of ts)) p k) (ap given (counted (count_at (entries g (tokens_of ts)) p r) (with_rule g (tokens_of ts) p r k)))
 
 -- the k-th search's answer as the service has it
-abbrev pub kthSaid : Bool × List ℕ → Given Unit × List ℕ
-kthSaid p = cond p.0 (written, p.1) (untouched p.1 18)
+abbrev pub kth_said : Bool × List ℕ → Given Unit × List ℕ
+kth_said p = cond p.0 (written, p.1) (untouched p.1 18)
 
-pub kth-numbered : (l : List (List ℕ)) (k n : ℕ) (buf : List ℕ) → kthSaid (kthWritten l k n buf) ≡ numbered l k n buf
+pub kth-numbered : (l : List (List ℕ)) (k n : ℕ) (buf : List ℕ) → kth_said (kth_written l k n buf) ≡ numbered l k n buf
 kth-numbered l zero n buf = refl
 kth-numbered l (suc i) n buf = go (ltb i (length l)) refl
   where
-    go : (b : Bool) → ltb i (length l) ≡ b → kthSaid (kthWritten l (suc i) n buf) ≡ numbered l (suc i) n buf
+    go : (b : Bool) → ltb i (length l) ≡ b → kth_said (kth_written l (suc i) n buf) ≡ numbered l (suc i) n buf
     go true e = rw (e, ne_eqb (suc i) 0 (λ d. omega (arith, d)), le-ltb (length l) (suc i) (ltb-true i (length l) e)) refl
     go false e = rw (e, ne_eqb (suc i) 0 (λ d. omega (arith, d)), lt-ltb (length l) (suc i) (let h = ltb-false i (length l) e in omega arith)) refl

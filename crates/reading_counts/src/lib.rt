@@ -3,13 +3,13 @@ ghost use Rattle.std.specs.Prelude.{◌≡◌, ◌+◌, ◌<◌, length};
 ghost use Rattle.vpg.specs.Runs.{entries};
 ghost use Rattle.capped.specs.Capped.{cap, value};
 ghost use Rattle.count_theory.specs.believed.CountAt.{tally};
-ghost use Rattle.count_theory.specs.Allowed.{passes, aloneAt};
-ghost use Rattle.tables.specs.Ready.{grammarIn};
+ghost use Rattle.count_theory.specs.Allowed.{passes, alone_at};
+ghost use Rattle.tables.specs.Ready.{grammar_in};
 ghost use Rattle.rule_index.specs.Index.{Indexed};
-ghost use Rattle.history_file.specs.believed.HistoryFile.{tokensOf};
+ghost use Rattle.history_file.specs.believed.HistoryFile.{tokens_of};
 ghost use Rattle.history_file.specs.HistoryTokens.{Tokens};
-ghost use Rattle.service.specs.believed.Given.{given, outcomeSaid};
-ghost use Rattle.reading_counts.specs.believed.Numbered.{told, readingsSaid, readingsDue, readingsAtDue, numbered, readingDue};
+ghost use Rattle.service.specs.believed.Given.{given, outcome_said};
+ghost use Rattle.reading_counts.specs.believed.Numbered.{told, readings_said, readings_due, readings_at_due, numbered, reading_due};
 
 use capped::Count;
 use count_rows::Alone;
@@ -27,7 +27,7 @@ pub enum ReadingCount {
 
 // A count as a service answers it.
 fn counted(count: Count) -> ReadingCount
-    ensures { readingsSaid result ≡ given (told (value count)) }
+    ensures { readings_said result ≡ given (told (value count)) }
 {
     match count {
         Count::Exact(n) => ReadingCount::Exact(n),
@@ -38,7 +38,7 @@ fn counted(count: Count) -> ReadingCount
 fn count_on(table: &Table, head: Head, tokens: &[u32], alone: Alone) -> Count
     requires indexed { Indexed table.now head }
     requires tokens { Tokens tokens.now }
-    ensures { value result ≡ cap (tally (passes (aloneAt alone.position alone.rule) 0) (entries (grammarIn table.now head) (tokensOf tokens.now))) }
+    ensures { value result ≡ cap (tally (passes (alone_at alone.position alone.rule) 0) (entries (grammar_in table.now head) (tokens_of tokens.now))) }
 {
     let mut closes = [0u16; 1025];
     let mut masks = [0u64; 1025];
@@ -50,7 +50,7 @@ fn kth_on(table: &Table, head: Head, tokens: &[u32], k: u64, reading: &mut [u8])
     requires indexed { Indexed table.now head }
     requires tokens { Tokens tokens.now }
     requires tokens_in_bounds { length tokens.now < length reading.old }
-    ensures { (outcomeSaid result, reading.new) ≡ numbered (entries (grammarIn table.now head) (tokensOf tokens.now)) k (length tokens.now + 1) reading.old }
+    ensures { (outcome_said result, reading.new) ≡ numbered (entries (grammar_in table.now head) (tokens_of tokens.now)) k (length tokens.now + 1) reading.old }
 {
     let mut closes = [0u16; 1025];
     let mut masks = [0u64; 1025];
@@ -64,7 +64,7 @@ fn kth_on(table: &Table, head: Head, tokens: &[u32], k: u64, reading: &mut [u8])
 
 // How many readings there are.
 pub fn reading_count(grammar: &[u8], history: &[u8]) -> ReadingCount
-    ensures { readingsSaid result ≡ readingsDue grammar.now history.now }
+    ensures { readings_said result ≡ readings_due grammar.now history.now }
 {
     let mut table = [0u16; 1412];
     let mut tokens = [0u32; 1024];
@@ -82,7 +82,7 @@ pub fn reading_count_at(
     position: usize,
     rule: usize,
 ) -> ReadingCount
-    ensures { readingsSaid result ≡ readingsAtDue grammar.now history.now position rule }
+    ensures { readings_said result ≡ readings_at_due grammar.now history.now position rule }
 {
     let mut table = [0u16; 1412];
     let mut tokens = [0u32; 1024];
@@ -99,7 +99,7 @@ pub fn reading_count_at(
 
 // Writes reading k, counted from 1: n + 1 rule numbers for a history of n tokens.
 pub fn reading_at(grammar: &[u8], history: &[u8], k: u64, reading: &mut [u8]) -> Outcome
-    ensures { (outcomeSaid result, reading.new) ≡ readingDue grammar.now history.now k reading.old }
+    ensures { (outcome_said result, reading.new) ≡ reading_due grammar.now history.now k reading.old }
 {
     let mut table = [0u16; 1412];
     let mut tokens = [0u32; 1024];

@@ -1,12 +1,12 @@
 // The services first reading and next reading, over the two files as bytes.
 ghost use Rattle.std.specs.Prelude.{◌≡◌, ◌<◌, length};
-ghost use Rattle.listing_model.specs.believed.Listing.{first, next, overEntries};
-ghost use Rattle.listing_model.specs.Calls.{callOn};
-ghost use Rattle.tables.specs.Ready.{grammarIn};
+ghost use Rattle.listing_model.specs.believed.Listing.{first, next, over_entries};
+ghost use Rattle.listing_model.specs.Calls.{call_on};
+ghost use Rattle.tables.specs.Ready.{grammar_in};
 ghost use Rattle.rule_index.specs.Index.{Indexed};
-ghost use Rattle.history_file.specs.believed.HistoryFile.{tokensOf};
+ghost use Rattle.history_file.specs.believed.HistoryFile.{tokens_of};
 ghost use Rattle.history_file.specs.HistoryTokens.{Tokens};
-ghost use Rattle.service.specs.Opening.{refusalOf};
+ghost use Rattle.service.specs.Opening.{refusal_of};
 ghost use Rattle.readings.specs.declared.Answer.{Answer};
 ghost use Rattle.readings.specs.believed.Answers.{said, subject};
 
@@ -27,7 +27,7 @@ pub enum Answer {
 
 // A refusal of the opening, as an answer.
 fn refused(opened: Opened) -> Answer
-    ensures { result ≡ Answer.Refused (refusalOf opened) }
+    ensures { result ≡ Answer.Refused (refusal_of opened) }
 {
     Answer::Refused(service::refusal_of(opened))
 }
@@ -36,7 +36,7 @@ fn first_on(table: &Table, head: Head, tokens: &[u32], reading: &mut [u8]) -> An
     requires indexed { Indexed table.now head }
     requires tokens { Tokens tokens.now }
     requires tokens_in_bounds { length tokens.now < length reading.old }
-    ensures { (said result, reading.new) ≡ callOn (overEntries (grammarIn table.now head) (tokensOf tokens.now)) first reading.old }
+    ensures { (said result, reading.new) ≡ call_on (over_entries (grammar_in table.now head) (tokens_of tokens.now)) first reading.old }
 {
     let mut closes = [0u16; 1025];
     let mut masks = [0u64; 1025];
@@ -52,7 +52,7 @@ fn next_on(table: &Table, head: Head, tokens: &[u32], reading: &mut [u8]) -> Ans
     requires indexed { Indexed table.now head }
     requires tokens { Tokens tokens.now }
     requires tokens_in_bounds { length tokens.now < length reading.old }
-    ensures { (said result, reading.new) ≡ callOn (overEntries (grammarIn table.now head) (tokensOf tokens.now)) next reading.old }
+    ensures { (said result, reading.new) ≡ call_on (over_entries (grammar_in table.now head) (tokens_of tokens.now)) next reading.old }
 {
     let mut closes = [0u16; 1025];
     let mut masks = [0u64; 1025];
@@ -67,7 +67,7 @@ fn next_on(table: &Table, head: Head, tokens: &[u32], reading: &mut [u8]) -> Ans
 
 // Writes the first reading: n + 1 rule numbers for a history of n tokens.
 pub fn first_reading(grammar: &[u8], history: &[u8], reading: &mut [u8]) -> Answer
-    ensures { (said result, reading.new) ≡ callOn (subject grammar.now history.now (length reading.old)) first reading.old }
+    ensures { (said result, reading.new) ≡ call_on (subject grammar.now history.now (length reading.old)) first reading.old }
 {
     let mut table = [0u16; 1412];
     let mut tokens = [0u32; 1024];
@@ -80,7 +80,7 @@ pub fn first_reading(grammar: &[u8], history: &[u8], reading: &mut [u8]) -> Answ
 
 // Overwrites the reading in the buffer by the next one.
 pub fn next_reading(grammar: &[u8], history: &[u8], reading: &mut [u8]) -> Answer
-    ensures { (said result, reading.new) ≡ callOn (subject grammar.now history.now (length reading.old)) next reading.old }
+    ensures { (said result, reading.new) ≡ call_on (subject grammar.now history.now (length reading.old)) next reading.old }
 {
     let mut table = [0u16; 1412];
     let mut tokens = [0u32; 1024];

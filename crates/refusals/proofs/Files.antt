@@ -8,17 +8,17 @@ use mathlib.Core.List.{List}
 use borrow.Author.Tests.{ne_eqb}
 use lib.Dec.{ltb}
 use lib.ListN.{length}
-use Rattle.grammar_file.specs.believed.GrammarFile.{GrammarFile, grammarOf}
+use Rattle.grammar_file.specs.believed.GrammarFile.{GrammarFile, grammar_of}
 use Rattle.grammar_file.specs.believed.GrammarFile as grammar-file
-use Rattle.history_file.specs.believed.HistoryFile.{HistoryFile, historyOf}
+use Rattle.history_file.specs.believed.HistoryFile.{HistoryFile, history_of}
 use Rattle.history_file.specs.believed.HistoryFile as history-file
 use Rattle.files.specs.believed.Files.{Files, accepted, refused, files_of}
 use Rattle.service.specs.believed.Given.{Given, given}
 use Rattle.service.specs.believed.Given as service
-use Rattle.service.specs.believed.Opened.{filesIn, opened}
-use Rattle.replies.specs.believed.Wire.{outcomeCode}
-use Rattle.refusals.specs.Codes.{outcomeOf}
-use Rattle.refusals.proofs.Readers.{OfGrammar, OfHistory, grammar-of, history-of}
+use Rattle.service.specs.believed.Opened.{files_in, opened}
+use Rattle.replies.specs.believed.Wire.{outcome_code}
+use Rattle.refusals.specs.Codes.{outcome_of}
+use Rattle.refusals.proofs.Readers.{OfGrammar, OfHistory, grammar_of_lem, history_of_lem}
 
 module _ (P : ℕ → Type 0) where
   abbrev pub OfFiles : Files → Type 0
@@ -30,10 +30,10 @@ module _ (P : ℕ → Type 0) where
   OfGiven (given x) = Unit
   OfGiven (service.refused k) = P k
 
-  pub files-of : ((e : ℕ) → 1 ≤ e → e ≤ 14 → P e) → (grammar history : List ℕ) → OfFiles (filesIn grammar history)
-  files-of h grammar history =
-      go (grammarOf grammar) (grammar-of P (p 1 (omega arith)) (p 2 (omega arith)) (p 3 (omega arith)) (p 4 (omega arith)) (p 5 (omega arith)) (p 6 (omega arith)) (p 7 (omega arith)) (p 8 (omega arith)) (p 9 (omega arith)) grammar)
-      (historyOf history) (history-of P (p 1 (omega arith)) (p 2 (omega arith)) (p 9 (omega arith)) (p 10 (omega arith)) (p 11 (omega arith)) (p 12 (omega arith)) (p 13 (omega arith)) (p 14 (omega arith)) history)
+  pub files_of_lem : ((e : ℕ) → 1 ≤ e → e ≤ 14 → P e) → (grammar history : List ℕ) → OfFiles (files_in grammar history)
+  files_of_lem h grammar history =
+      go (grammar_of grammar) (grammar_of_lem P (p 1 (omega arith)) (p 2 (omega arith)) (p 3 (omega arith)) (p 4 (omega arith)) (p 5 (omega arith)) (p 6 (omega arith)) (p 7 (omega arith)) (p 8 (omega arith)) (p 9 (omega arith)) grammar)
+      (history_of history) (history_of_lem P (p 1 (omega arith)) (p 2 (omega arith)) (p 9 (omega arith)) (p 10 (omega arith)) (p 11 (omega arith)) (p 12 (omega arith)) (p 13 (omega arith)) (p 14 (omega arith)) history)
     where
       p : (e : ℕ) → (1 ≤ e) × (e ≤ 14) → P e
       p e k = h e k.0 k.1
@@ -52,6 +52,6 @@ module _ (P : ℕ → Type 0) where
       go false = tt
 
   -- an answer of a service that only writes, from its code
-  pub outcome-back : ((k : ℕ) → P k → k ≢ 0) → (o : Given Unit) → OfGiven o → outcomeOf (outcomeCode o) ≡ o
-  outcome-back nonzero (given x) h = refl
-  outcome-back nonzero (service.refused k) h = rw (ne_eqb k 0 (nonzero k h))
+  pub outcome_back : ((k : ℕ) → P k → k ≢ 0) → (o : Given Unit) → OfGiven o → outcome_of (outcome_code o) ≡ o
+  outcome_back nonzero (given x) h = refl
+  outcome_back nonzero (service.refused k) h = rw (ne_eqb k 0 (nonzero k h))

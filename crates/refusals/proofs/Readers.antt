@@ -9,19 +9,19 @@ use Rattle.numbers.specs.declared.NumberRead.{NumberRead}
 use Rattle.numbers.specs.declared.NumberRead.TheVariants.{Number, Refused as NumberRefused}
 use Rattle.numbers.specs.declared.FieldRead.{FieldRead}
 use Rattle.numbers.specs.declared.FieldRead.TheVariants.{Field, Refused as FieldRefused}
-use Rattle.numbers.specs.believed.Number.{withGroup, numberWithin, number_at, Source, bytes}
-use Rattle.numbers.specs.believed.Field.{limited, field_at, positive, countAt}
+use Rattle.numbers.specs.believed.Number.{with_group, number_within, number_at, Source, bytes}
+use Rattle.numbers.specs.believed.Field.{limited, field_at, positive, count_at}
 use Rattle.rules.specs.declared.PairRead.{PairRead}
 use Rattle.rules.specs.declared.PairRead.TheVariants.{Pair, Refused as PairRefused}
 use Rattle.rules.specs.declared.RuleRead.{RuleRead}
 use Rattle.rules.specs.declared.RuleRead.TheVariants.{Read, Refused as RuleRefused}
-use Rattle.rules.specs.believed.Rule.{names, forms, first, second, pair_at, after, stepAt, body_at, ruleAt}
+use Rattle.rules.specs.believed.Rule.{names, forms, first, second, pair_at, after, step_at, body_at, rule_at}
 use Rattle.tables.specs.Table.{earlier}
-use Rattle.grammar_file.specs.believed.GrammarFile.{GrammarFile, afterRule, rulesFrom, afterCount, countedFrom, withoutStart, withStart, either, grammarFrom, grammarOf}
+use Rattle.grammar_file.specs.believed.GrammarFile.{GrammarFile, after_rule, rules_from, after_count, counted_from, without_start, with_start, either, grammar_from, grammar_of}
 use Rattle.grammar_file.specs.believed.GrammarFile as grammar
 use Rattle.history_file.specs.declared.TokenRead.{TokenRead}
 use Rattle.history_file.specs.declared.TokenRead.TheVariants.{Token as TokenIs, Refused as TokenRefused}
-use Rattle.history_file.specs.believed.HistoryFile.{HistoryFile, kind, tokenJudged, judged, tokenAt, depthAfter, afterToken, tokensFrom, historyFrom, historyOf}
+use Rattle.history_file.specs.believed.HistoryFile.{HistoryFile, kind, token_judged, judged, token_at, depth_after, after_token, tokens_from, history_from, history_of}
 use Rattle.history_file.specs.believed.HistoryFile as history
 
 -- what holds of both holds of the one chosen
@@ -60,17 +60,17 @@ module _ (P : ℕ → Type 0) where
 
   -- ── numbers ──
 
-  group_of : (low : ℕ) (r : NumberRead) → P 2 → OfNumber r → OfNumber (withGroup low r)
+  group_of : (low : ℕ) (r : NumberRead) → P 2 → OfNumber r → OfNumber (with_group low r)
   group_of low (Number high next) two h = chosen OfNumber (eqb high 0) two tt
   group_of low (NumberRefused e) two h = h
 
-  within_of : P 1 → P 2 → (most : ℕ) (s : List ℕ) (at : ℕ) → OfNumber (numberWithin most s at)
-  unfolding numberWithin
+  within_of : P 1 → P 2 → (most : ℕ) (s : List ℕ) (at : ℕ) → OfNumber (number_within most s at)
+  unfolding number_within
   within_of one two zero s at = two
   within_of one two (suc most) s at =
       chosen OfNumber (ltb at (length s))
       (chosen OfNumber (ltb (get_or s at 0) 128) tt
-      (group_of (get_or s at 0 - 128) (numberWithin most s (at + 1)) two (within_of one two most s (at + 1))))
+      (group_of (get_or s at 0 - 128) (number_within most s (at + 1)) two (within_of one two most s (at + 1))))
       one
 
   number_of : P 1 → P 2 → (s : List ℕ) (at : ℕ) → OfNumber (number_at s at)
@@ -78,20 +78,20 @@ module _ (P : ℕ → Type 0) where
   number_of one two s at = within_of one two 3 s at
 
   module _ (number : ℕ → NumberRead) (of : (at : ℕ) → OfNumber (number at)) where
-    limited-of : (r : NumberRead) → OfNumber r → (limit k : ℕ) → P k → OfField (limited r limit k)
-    limited-of (Number n p) h limit k q = chosen OfField (ltb n limit) tt q
-    limited-of (NumberRefused e) h limit k q = h
+    limited_of : (r : NumberRead) → OfNumber r → (limit k : ℕ) → P k → OfField (limited r limit k)
+    limited_of (Number n p) h limit k q = chosen OfField (ltb n limit) tt q
+    limited_of (NumberRefused e) h limit k q = h
 
     field_of : (at limit k : ℕ) → P k → OfField (field_at number at limit k)
     unfolding field_at
-    field_of at limit k q = limited-of (number at) (of at) limit k q
+    field_of at limit k q = limited_of (number at) (of at) limit k q
 
     positive_of : (r : FieldRead) → OfField r → (k : ℕ) → P k → OfField (positive r k)
     positive_of (Field n p) h k q = chosen OfField (eqb n 0) q tt
     positive_of (FieldRefused e) h k q = h
 
-    count_of : (at most k : ℕ) → P k → OfField (countAt number at most k)
-    unfolding countAt
+    count_of : (at most k : ℕ) → P k → OfField (count_at number at most k)
+    unfolding count_at
     count_of at most k q = positive_of (field_at number at (most + 1) k) (field_of at (most + 1) k q) k q
 
     -- ── rules ──
@@ -100,117 +100,117 @@ module _ (P : ℕ → Type 0) where
     first_of (Field a p) h rest k = k a p
     first_of (FieldRefused e) h rest k = h
 
-    second-of : (a : ℕ) (r : FieldRead) → OfField r → OfPair (second a r)
-    second-of a (Field b p) h = tt
-    second-of a (FieldRefused e) h = h
+    second_of : (a : ℕ) (r : FieldRead) → OfField r → OfPair (second a r)
+    second_of a (Field b p) h = tt
+    second_of a (FieldRefused e) h = h
 
     pair_of : P 6 → (at limit k nonterminals : ℕ) → P k → OfPair (pair_at number at limit k nonterminals)
     unfolding pair_at
-    pair_of six at limit k nonterminals q = first_of (field_at number at limit k) (field_of at limit k q) _ (λ a next. second-of a (field_at number next nonterminals 6) (field_of next nonterminals 6 six))
+    pair_of six at limit k nonterminals q = first_of (field_at number at limit k) (field_of at limit k q) _ (λ a next. second_of a (field_at number next nonterminals 6) (field_of next nonterminals 6 six))
 
-    after-of : (r : PairRead) → OfPair r → (rest : ℕ → ℕ → ℕ → RuleRead) → ((a b p : ℕ) → OfRule (rest a b p)) → OfRule (after r rest)
-    after-of (Pair a b p) h rest k = k a b p
-    after-of (PairRefused e) h rest k = h
+    after_of : (r : PairRead) → OfPair r → (rest : ℕ → ℕ → ℕ → RuleRead) → ((a b p : ℕ) → OfRule (rest a b p)) → OfRule (after r rest)
+    after_of (Pair a b p) h rest k = k a b p
+    after_of (PairRefused e) h rest k = h
 
-    step_of : P 6 → P 7 → (at nonterminals from name to : ℕ) → OfRule (stepAt number at nonterminals from name to)
-    unfolding stepAt
-    step_of six seven at nonterminals from name to = after-of (pair_at number at names 7 nonterminals) (pair_of six at names 7 nonterminals seven) _ (λ close last next. tt)
+    step_of : P 6 → P 7 → (at nonterminals from name to : ℕ) → OfRule (step_at number at nonterminals from name to)
+    unfolding step_at
+    step_of six seven at nonterminals from name to = after_of (pair_at number at names 7 nonterminals) (pair_of six at names 7 nonterminals seven) _ (λ close last next. tt)
 
     body_of : P 6 → P 7 → (at nonterminals form from : ℕ) → OfRule (body_at number at nonterminals form from)
     unfolding body_at
     body_of six seven at nonterminals form from =
-        after-of (pair_at number at names 7 nonterminals) (pair_of six at names 7 nonterminals seven) _
+        after_of (pair_at number at names 7 nonterminals) (pair_of six at names 7 nonterminals seven) _
         (λ name to next. chosen OfRule (eqb form 1) tt (step_of six seven next nonterminals from name to))
 
-    rule-of : P 5 → P 6 → P 7 → (at nonterminals : ℕ) → OfRule (ruleAt number at nonterminals)
-    unfolding ruleAt
-    rule-of five six seven at nonterminals =
-        after-of (pair_at number at forms 5 nonterminals) (pair_of six at forms 5 nonterminals five) _
+    rule_of : P 5 → P 6 → P 7 → (at nonterminals : ℕ) → OfRule (rule_at number at nonterminals)
+    unfolding rule_at
+    rule_of five six seven at nonterminals =
+        after_of (pair_at number at forms 5 nonterminals) (pair_of six at forms 5 nonterminals five) _
         (λ form from next. chosen OfRule (eqb form 0) tt (body_of six seven next nonterminals form from))
 
     -- ── tokens ──
 
-    judged-of : P 11 → P 12 → P 14 → (r : NumberRead) → OfNumber r → (depth : ℕ) → OfToken (judged r depth)
-    unfolding tokenJudged
-    judged-of eleven twelve fourteen (Number t next) h depth =
+    judged_of : P 11 → P 12 → P 14 → (r : NumberRead) → OfNumber r → (depth : ℕ) → OfToken (judged r depth)
+    unfolding token_judged
+    judged_of eleven twelve fourteen (Number t next) h depth =
         chosen OfToken (ltb 65535 (t / 4) || eqb (kind t) 3) eleven
         (chosen OfToken (eqb (kind t) 2 && eqb depth 0) twelve
         (chosen OfToken (eqb (kind t) 1 && leb 128 depth) fourteen tt))
-    judged-of eleven twelve fourteen (NumberRefused e) h depth = h
+    judged_of eleven twelve fourteen (NumberRefused e) h depth = h
 
-    token-of : P 11 → P 12 → P 14 → (at depth : ℕ) → OfToken (tokenAt number at depth)
-    unfolding tokenAt
-    token-of eleven twelve fourteen at depth = judged-of eleven twelve fourteen (number at) (of at) depth
+    token_of_lem : P 11 → P 12 → P 14 → (at depth : ℕ) → OfToken (token_at number at depth)
+    unfolding token_at
+    token_of_lem eleven twelve fourteen at depth = judged_of eleven twelve fourteen (number at) (of at) depth
 
   -- ── the two files ──
 
   module _ (x : Source) (of : (at : ℕ) → OfNumber (x.number at)) where
-    after-rule-of : (r : RuleRead) → OfRule r → (rest : Rule → ℕ → GrammarFile) → ((R : Rule) (p : ℕ) → OfGrammar (rest R p)) → OfGrammar (afterRule r rest)
-    after-rule-of (Read R p) h rest k = k R p
-    after-rule-of (RuleRefused e) h rest k = h
+    after_rule_of : (r : RuleRead) → OfRule r → (rest : Rule → ℕ → GrammarFile) → ((R : Rule) (p : ℕ) → OfGrammar (rest R p)) → OfGrammar (after_rule r rest)
+    after_rule_of (Read R p) h rest k = k R p
+    after_rule_of (RuleRefused e) h rest k = h
 
-    rules-of : P 5 → P 6 → P 7 → P 8 → P 9 → (nonterminals start due at : ℕ) (rules : List Rule) → OfGrammar (rulesFrom x nonterminals start due at rules)
-    unfolding rulesFrom
-    rules-of five six seven eight nine nonterminals start zero at rules = chosen OfGrammar (x.more at) nine tt
-    rules-of five six seven eight nine nonterminals start (suc due) at rules =
-        after-rule-of (ruleAt x.number at nonterminals) (rule-of x.number of five six seven at nonterminals) _
-        (λ R next. chosen OfGrammar (earlier R rules) eight (rules-of five six seven eight nine nonterminals start due next (rules ++ (R ∷ []))))
+    rules_of_lem : P 5 → P 6 → P 7 → P 8 → P 9 → (nonterminals start due at : ℕ) (rules : List Rule) → OfGrammar (rules_from x nonterminals start due at rules)
+    unfolding rules_from
+    rules_of_lem five six seven eight nine nonterminals start zero at rules = chosen OfGrammar (x.more at) nine tt
+    rules_of_lem five six seven eight nine nonterminals start (suc due) at rules =
+        after_rule_of (rule_at x.number at nonterminals) (rule_of x.number of five six seven at nonterminals) _
+        (λ R next. chosen OfGrammar (earlier R rules) eight (rules_of_lem five six seven eight nine nonterminals start due next (rules ++ (R ∷ []))))
 
-    after-count-of : (r : FieldRead) → OfField r → (rest : ℕ → ℕ → GrammarFile) → ((n p : ℕ) → OfGrammar (rest n p)) → OfGrammar (afterCount r rest)
-    after-count-of (Field n p) h rest k = k n p
-    after-count-of (FieldRefused e) h rest k = h
+    after_count_of : (r : FieldRead) → OfField r → (rest : ℕ → ℕ → GrammarFile) → ((n p : ℕ) → OfGrammar (rest n p)) → OfGrammar (after_count r rest)
+    after_count_of (Field n p) h rest k = k n p
+    after_count_of (FieldRefused e) h rest k = h
 
-    after-token-of : (r : TokenRead) → OfToken r → (rest : ℕ → ℕ → HistoryFile) → ((t p : ℕ) → OfHistory (rest t p)) → OfHistory (afterToken r rest)
-    after-token-of (TokenIs t p) h rest k = k t p
-    after-token-of (TokenRefused e) h rest k = h
+    after_token_of : (r : TokenRead) → OfToken r → (rest : ℕ → ℕ → HistoryFile) → ((t p : ℕ) → OfHistory (rest t p)) → OfHistory (after_token r rest)
+    after_token_of (TokenIs t p) h rest k = k t p
+    after_token_of (TokenRefused e) h rest k = h
 
-    tokens-of : P 9 → P 11 → P 12 → P 13 → P 14 → (due at depth : ℕ) (ts : List ℕ) → OfHistory (tokensFrom x due at depth ts)
-    unfolding tokensFrom
-    tokens-of nine eleven twelve thirteen fourteen zero at depth ts = chosen OfHistory (ltb 0 depth) thirteen (chosen OfHistory (x.more at) nine tt)
-    tokens-of nine eleven twelve thirteen fourteen (suc due) at depth ts =
-        after-token-of (tokenAt x.number at depth) (token-of x.number of eleven twelve fourteen at depth) _
-        (λ t next. tokens-of nine eleven twelve thirteen fourteen due next (depthAfter t depth) (ts ++ (t ∷ [])))
+    tokens_of_lem : P 9 → P 11 → P 12 → P 13 → P 14 → (due at depth : ℕ) (ts : List ℕ) → OfHistory (tokens_from x due at depth ts)
+    unfolding tokens_from
+    tokens_of_lem nine eleven twelve thirteen fourteen zero at depth ts = chosen OfHistory (ltb 0 depth) thirteen (chosen OfHistory (x.more at) nine tt)
+    tokens_of_lem nine eleven twelve thirteen fourteen (suc due) at depth ts =
+        after_token_of (token_at x.number at depth) (token_of_lem x.number of eleven twelve fourteen at depth) _
+        (λ t next. tokens_of_lem nine eleven twelve thirteen fourteen due next (depth_after t depth) (ts ++ (t ∷ [])))
 
-    after-tokens-of : (r : FieldRead) → OfField r → (rest : ℕ → ℕ → HistoryFile) → ((n p : ℕ) → OfHistory (rest n p)) → OfHistory (history.afterCount r rest)
-    after-tokens-of (Field n p) h rest k = k n p
-    after-tokens-of (FieldRefused e) h rest k = h
+    after-tokens_of : (r : FieldRead) → OfField r → (rest : ℕ → ℕ → HistoryFile) → ((n p : ℕ) → OfHistory (rest n p)) → OfHistory (history.after_count r rest)
+    after-tokens_of (Field n p) h rest k = k n p
+    after-tokens_of (FieldRefused e) h rest k = h
 
     -- beside the source's own numbers a grammar is refused by 3 to 9
     module _ (three : P 3) (four : P 4) (five : P 5) (six : P 6) (seven : P 7) (eight : P 8) (nine : P 9) where
-      counted_of : (at nonterminals start : ℕ) → OfGrammar (countedFrom x at nonterminals start)
+      counted_of : (at nonterminals start : ℕ) → OfGrammar (counted_from x at nonterminals start)
       counted_of at nonterminals start =
-          after-count-of (countAt x.number at 128 4) (count_of x.number of at 128 4 four) _
-          (λ due next. rules-of five six seven eight nine nonterminals start due next [])
+          after_count_of (count_at x.number at 128 4) (count_of x.number of at 128 4 four) _
+          (λ due next. rules_of_lem five six seven eight nine nonterminals start due next [])
 
-      without-of : OfGrammar (withoutStart x)
-      without-of = after-count-of (countAt x.number 0 32 3) (count_of x.number of 0 32 3 three) _ (λ nonterminals next. counted_of next nonterminals 0)
+      without_of : OfGrammar (without_start x)
+      without_of = after_count_of (count_at x.number 0 32 3) (count_of x.number of 0 32 3 three) _ (λ nonterminals next. counted_of next nonterminals 0)
 
-      with-of : (at : ℕ) → OfGrammar (withStart x at)
-      with-of at =
-          after-count-of (countAt x.number at 32 3) (count_of x.number of at 32 3 three) _
+      with_of : (at : ℕ) → OfGrammar (with_start x at)
+      with_of at =
+          after_count_of (count_at x.number at 32 3) (count_of x.number of at 32 3 three) _
           (λ nonterminals next.
-          after-count-of (field_at x.number next nonterminals 6) (field_of x.number of next nonterminals 6 six) _
+          after_count_of (field_at x.number next nonterminals 6) (field_of x.number of next nonterminals 6 six) _
           (λ start behind. counted_of behind nonterminals start))
 
-      either-of : (r : NumberRead) → OfGrammar (either r (withStart x) (withoutStart x))
-      either-of (Number n next) = chosen OfGrammar (eqb n 0) (with-of next) without-of
-      either-of (NumberRefused e) = without-of
+      either_of : (r : NumberRead) → OfGrammar (either r (with_start x) (without_start x))
+      either_of (Number n next) = chosen OfGrammar (eqb n 0) (with_of next) without_of
+      either_of (NumberRefused e) = without_of
 
-      pub grammar-from-of : OfGrammar (grammarFrom x)
-      unfolding grammarFrom
-      grammar-from-of = either-of (x.number 0)
+      pub grammar_from_of : OfGrammar (grammar_from x)
+      unfolding grammar_from
+      grammar_from_of = either_of (x.number 0)
 
     -- and a history by 9 to 14
-    pub history-from-of : P 9 → P 10 → P 11 → P 12 → P 13 → P 14 → OfHistory (historyFrom x)
-    unfolding historyFrom
-    history-from-of nine ten eleven twelve thirteen fourteen =
-        after-tokens-of (field_at x.number 0 1025 10) (field_of x.number of 0 1025 10 ten) _
-        (λ due at. tokens-of nine eleven twelve thirteen fourteen due at 0 [])
+    pub history_from_of : P 9 → P 10 → P 11 → P 12 → P 13 → P 14 → OfHistory (history_from x)
+    unfolding history_from
+    history_from_of nine ten eleven twelve thirteen fourteen =
+        after-tokens_of (field_at x.number 0 1025 10) (field_of x.number of 0 1025 10 ten) _
+        (λ due at. tokens_of_lem nine eleven twelve thirteen fourteen due at 0 [])
 
   -- a refused grammar file is refused by 1 to 9
-  pub grammar-of : P 1 → P 2 → P 3 → P 4 → P 5 → P 6 → P 7 → P 8 → P 9 → (s : List ℕ) → OfGrammar (grammarOf s)
-  grammar-of one two three four five six seven eight nine s = grammar-from-of (bytes s) (number_of one two s) three four five six seven eight nine
+  pub grammar_of_lem : P 1 → P 2 → P 3 → P 4 → P 5 → P 6 → P 7 → P 8 → P 9 → (s : List ℕ) → OfGrammar (grammar_of s)
+  grammar_of_lem one two three four five six seven eight nine s = grammar_from_of (bytes s) (number_of one two s) three four five six seven eight nine
 
   -- a refused history file by 1, 2, or 9 to 14
-  pub history-of : P 1 → P 2 → P 9 → P 10 → P 11 → P 12 → P 13 → P 14 → (s : List ℕ) → OfHistory (historyOf s)
-  history-of one two nine ten eleven twelve thirteen fourteen s = history-from-of (bytes s) (number_of one two s) nine ten eleven twelve thirteen fourteen
+  pub history_of_lem : P 1 → P 2 → P 9 → P 10 → P 11 → P 12 → P 13 → P 14 → (s : List ℕ) → OfHistory (history_of s)
+  history_of_lem one two nine ten eleven twelve thirteen fourteen s = history_from_of (bytes s) (number_of one two s) nine ten eleven twelve thirteen fourteen

@@ -13,14 +13,14 @@ use lib.ListN.{length, get_or, take, drop, length-append}
 use lib.Seq.{drop-cons}
 use Rattle.numbers.specs.Written.{written}
 use Rattle.numbers.proofs.Written.{shortest-some}
-use Rattle.history_file.specs.believed.HistoryFile.{HistoryFile, kind, depthAfter, historyOf}
+use Rattle.history_file.specs.believed.HistoryFile.{HistoryFile, kind, depth_after, history_of}
 use Rattle.history_file.specs.believed.HistoryFile as history-file
-use Rattle.step_bytes.specs.believed.StepBytes.{StepPart, part, refused, later, stepLength, partFrom, stepIn, stepFrom, step_of, number_in}
+use Rattle.step_bytes.specs.believed.StepBytes.{StepPart, part, refused, later, step_length, part_from, step_in_lem, step_from, step_of, number_in}
 use Rattle.step_bytes.proofs.Parts.{step_in}
-use Rattle.step_bytes.proofs.Steps.{open-inside}
-use Rattle.replies.specs.believed.Wire.{partWire, stepCode}
+use Rattle.step_bytes.proofs.Steps.{open_inside}
+use Rattle.replies.specs.believed.Wire.{part_wire, step_code}
 use Rattle.refusals.specs.Codes.{StepNumbered, number_of}
-use Rattle.refusals.proofs.Readers.{OfHistory, history-of}
+use Rattle.refusals.proofs.Readers.{OfHistory, history_of_lem}
 
 -- ── the number ──
 
@@ -28,25 +28,25 @@ abbrev OfStep : Option ℕ → Type 0
 OfStep none = Unit
 OfStep (some e) = StepNumbered e
 
-step-in-numbers : (ts : List ℕ) (p : ℕ) → OfStep (number_in (stepIn ts p))
-unfolding stepIn
-step-in-numbers ts p = go (ltb p (length ts) && eqb (kind (get_or ts p 0)) 1) (stepLength 0 (drop p ts))
+step_in_numbers : (ts : List ℕ) (p : ℕ) → OfStep (number_in (step_in_lem ts p))
+unfolding step_in_lem
+step_in_numbers ts p = go (ltb p (length ts) && eqb (kind (get_or ts p 0)) 1) (step_length 0 (drop p ts))
   where
-    go : (b : Bool) (x : Option ℕ) → OfStep (number_in (cond b (partFrom ts p x) (refused 17)))
+    go : (b : Bool) (x : Option ℕ) → OfStep (number_in (cond b (part_from ts p x) (refused 17)))
     go true (some k) = tt
     go true none = inr (inr refl)
     go false x = inr (inr refl)
 
-step-numbers : (s : List ℕ) (p : ℕ) → OfStep (number_in (step_of s p))
-step-numbers s p =
-    go (historyOf s)
-    (history-of StepNumbered (inl (omega arith, omega arith)) (inl (omega arith, omega arith)) (inr (inl (omega arith, omega arith)))
+step_numbers : (s : List ℕ) (p : ℕ) → OfStep (number_in (step_of s p))
+step_numbers s p =
+    go (history_of s)
+    (history_of_lem StepNumbered (inl (omega arith, omega arith)) (inl (omega arith, omega arith)) (inr (inl (omega arith, omega arith)))
     (inr (inl (omega arith, omega arith))) (inr (inl (omega arith, omega arith))) (inr (inl (omega arith, omega arith)))
     (inr (inl (omega arith, omega arith))) (inr (inl (omega arith, omega arith))) s)
   where
-    go : (f : HistoryFile) → OfHistory StepNumbered f → OfStep (number_in (stepFrom f p))
+    go : (f : HistoryFile) → OfHistory StepNumbered f → OfStep (number_in (step_from f p))
     go (history-file.refused e) h = h
-    go (history-file.accepted ts) h = step-in-numbers ts p
+    go (history-file.accepted ts) h = step_in_numbers ts p
 
 above : {k : ℕ} → StepNumbered k → k ≢ 0
 above (inl h) q = omega arith
@@ -59,36 +59,36 @@ written-some : (n : ℕ) (ns : List ℕ) → 0 < length (written (n ∷ ns))
 unfolding written
 written-some n ns = rw length-append (omega (arith, shortest-some n))
 
-length_some : (ts : List ℕ) (depth k : ℕ) → stepLength depth ts ≡ some k → 0 < k
-unfolding stepLength
+length_some : (ts : List ℕ) (depth k : ℕ) → step_length depth ts ≡ some k → 0 < k
+unfolding step_length
 length_some [] depth k e = absurd (let z : ◌≡◌ {A = ℕ} 0 1 = cc in omega arith)
-length_some (t ∷ ts) depth k e = go (eqb (depthAfter t depth) 0) (stepLength (depthAfter t depth) ts) e
+length_some (t ∷ ts) depth k e = go (eqb (depth_after t depth) 0) (step_length (depth_after t depth) ts) e
   where
     go : (b : Bool) (x : Option ℕ) → cond b (some 1) (later x) ≡ some k → 0 < k
     go true x q = let z : 1 ≡ k = cc in omega arith
     go false none q = absurd (let z : ◌≡◌ {A = ℕ} 0 1 = cc in omega arith)
     go false (some j) q = let z : suc j ≡ k = cc in omega arith
 
-taken-some : (ts : List ℕ) (p k : ℕ) → p < length ts → 0 < k → 0 < length (written (take k (drop p ts)))
-taken-some ts p (suc k) inside h = rw (drop-cons ts p 0 inside) (written-some (get_or ts p 0) (take k (drop (suc p) ts)))
+taken_some : (ts : List ℕ) (p k : ℕ) → p < length ts → 0 < k → 0 < length (written (take k (drop p ts)))
+taken_some ts p (suc k) inside h = rw (drop-cons ts p 0 inside) (written-some (get_or ts p 0) (take k (drop (suc p) ts)))
 
 part-some : (s : List ℕ) (p start : ℕ) (us : List ℕ) → step_of s p ≡ part start us → 0 < length (written us)
 part-some s p start us found =
     let i = step_in s p start us found in
     let ts = i.tokens in
     let k = i.step.count in
-    rw i.step.tokens (taken-some ts p k (open-inside ts p i.step.opens) (length_some (drop p ts) 0 k i.step.ends))
+    rw i.step.tokens (taken_some ts p k (open_inside ts p i.step.opens) (length_some (drop p ts) 0 k i.step.ends))
 
 -- ── both ──
 
 -- the number's code is 0 or one of these numbers and says which, and is not 0 exactly where the part has no bytes
 pub record StepCode (x : StepPart) : Type 0 where
-  pub one_of : (stepCode (number_in x) ≡ 0) ⊎ StepNumbered (stepCode (number_in x))
-  pub back : number_of (stepCode (number_in x)) ≡ number_in x
-  pub empty : ((partWire x).length ≡ 0) ↔ (stepCode (number_in x) ≢ 0)
+  pub one_of : (step_code (number_in x) ≡ 0) ⊎ StepNumbered (step_code (number_in x))
+  pub back : number_of (step_code (number_in x)) ≡ number_in x
+  pub empty : ((part_wire x).length ≡ 0) ↔ (step_code (number_in x) ≢ 0)
 
-pub step-codes : (s : List ℕ) (p : ℕ) → StepCode (step_of s p)
-step-codes s p = go (step_of s p) refl (step-numbers s p)
+pub step_codes : (s : List ℕ) (p : ℕ) → StepCode (step_of s p)
+step_codes s p = go (step_of s p) refl (step_numbers s p)
   where
     go : (x : StepPart) → step_of s p ≡ x → OfStep (number_in x) → StepCode x
     go (part start us) q h =

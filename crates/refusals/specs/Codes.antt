@@ -1,11 +1,11 @@
 -- An answer read back from its code, and the numbers that a refusal can have.
--- Law: codes-read-back, outcomes-read-back (refusals/proofs/Codes.antt)
--- Law: step-codes (refusals/proofs/Steps.antt)
--- Law: counts-read-back (refusals/proofs/Counts.antt)
--- Law: grammar-write-codes, history-write-codes (refusals/proofs/Writers.antt)
+-- Law: codes_read_back, outcomes_read_back (refusals/proofs/Codes.antt)
+-- Law: step_codes (refusals/proofs/Steps.antt)
+-- Law: counts_read_back (refusals/proofs/Counts.antt)
+-- Law: grammar_write_codes, history_write_codes (refusals/proofs/Writers.antt)
 use Rattle.std.specs.Prelude.{ℕ, ◌≤◌, ◌≡◌, ◌⊎◌, cond, eqb}
 use Rattle.std.proofs.Math.Option.{Option, none, some}
-use Rattle.listing_model.specs.believed.Listing.{Answer, written, no-reading, no-further, refused}
+use Rattle.listing_model.specs.believed.Listing.{Answer, written, no_reading, no-further, refused}
 use Rattle.service.specs.believed.Given.{Given}
 use Rattle.service.specs.believed.Given as service
 use Rattle.reading_counts.specs.believed.Numbered.{Told, exact, over}
@@ -16,11 +16,11 @@ Numbered e = (1 ≤ e) × (e ≤ 16)
 
 -- 0 says that a reading was written, 100 "none", 101 "no further"; any other code is the number of a refusal
 abbrev pub answer_of : ℕ → Answer
-answer_of k = cond (eqb k 0) written (cond (eqb k 100) no-reading (cond (eqb k 101) no-further (refused k)))
+answer_of k = cond (eqb k 0) written (cond (eqb k 100) no_reading (cond (eqb k 101) no-further (refused k)))
 
 -- of a service that only writes
-abbrev pub outcomeOf : ℕ → Given Unit
-outcomeOf k = cond (eqb k 0) service.written (service.refused k)
+abbrev pub outcome_of : ℕ → Given Unit
+outcome_of k = cond (eqb k 0) service.written (service.refused k)
 
 -- the numbers for the bytes of one step: those of a history file, and 17
 abbrev pub StepNumbered : ℕ → Type 0
@@ -46,5 +46,5 @@ abbrev pub CountNumbered : ℕ → Type 0
 CountNumbered e = ((1 ≤ e) × (e ≤ 15)) ⊎ (e ≡ 18)
 
 -- 0 says that the count is exact, 102 that it is over
-abbrev pub toldOf : ℕ → ℕ → Given Told
-toldOf k n = cond (eqb k 0) (service.given (exact n)) (cond (eqb k 102) (service.given over) (service.refused k))
+abbrev pub told_of : ℕ → ℕ → Given Told
+told_of k n = cond (eqb k 0) (service.given (exact n)) (cond (eqb k 102) (service.given over) (service.refused k))

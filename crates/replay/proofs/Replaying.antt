@@ -17,36 +17,36 @@ use Rattle.vpg.specs.Runs.{Stack, State}
 use Rattle.laws.proofs.Bools.{and_left, and_right}
 use Rattle.vpg.proofs.Take.{taken, ended}
 use Rattle.level_theory.specs.Masks.{finishes, masks, Calm, Match}
-use Rattle.level_theory.specs.Pending.{pendingAt, closeOf, due_at}
-use Rattle.level_theory.specs.Walk.{Run, testAt, inner, later}
-use Rattle.level_theory.specs.Local.{stateAt, LeadsTo}
-use Rattle.level_theory.proofs.Alive.{Passes, ends-empty, fits_all, run_fits}
+use Rattle.level_theory.specs.Pending.{pending_at, close_of_lem, due_at}
+use Rattle.level_theory.specs.Walk.{Run, test_at_lem, inner, later}
+use Rattle.level_theory.specs.Local.{state_at, LeadsTo}
+use Rattle.level_theory.proofs.Alive.{Passes, ends_empty, fits_all, run_fits}
 use Rattle.level_theory.proofs.Search.{live}
-use Rattle.level_theory.proofs.Walk.{passes-end}
-use Rattle.level_theory.proofs.Local.{Turn, run_at, fits_next, leads-next}
-use Rattle.level_theory.proofs.Pending.{calm-due}
+use Rattle.level_theory.proofs.Walk.{passes_end}
+use Rattle.level_theory.proofs.Local.{Turn, run_at, fits_next, leads_next}
+use Rattle.level_theory.proofs.Pending.{calm_due}
 use Rattle.contexts.specs.declared.Context.{Context}
 use Rattle.tables.specs.declared.Head.{Head}
-use Rattle.tables.specs.Table.{ruleIn}
-use Rattle.tables.specs.Ready.{rulesOf, grammarIn}
-use Rattle.tables.proofs.Tables.{ready-general}
-use Rattle.history_file.specs.believed.HistoryFile.{tokenOf, tokensOf}
-use Rattle.levels.specs.Levels.{Leveled, Stands, Setting, derivesAll}
-use Rattle.levels.proofs.Levels.{tokens-length, tokens-at}
-use Rattle.levels.proofs.Setting.{closing, closing-room}
-use Rattle.moves.specs.Moves.{ruleFits}
-use Rattle.first_run.proofs.Passing.{passes, none, fitting-turn}
-use Rattle.first_run.proofs.Whole.{none-due, start-derives}
+use Rattle.tables.specs.Table.{rule_in}
+use Rattle.tables.specs.Ready.{rules_of, grammar_in}
+use Rattle.tables.proofs.Tables.{ready_general}
+use Rattle.history_file.specs.believed.HistoryFile.{token_of, tokens_of}
+use Rattle.levels.specs.Levels.{Leveled, Stands, Setting, derives_all}
+use Rattle.levels.proofs.Levels.{tokens_length, tokens_at}
+use Rattle.levels.proofs.Setting.{closing, closing_room}
+use Rattle.moves.specs.Moves.{rule_fits_lem}
+use Rattle.first_run.proofs.Passing.{passes, none, fitting_turn}
+use Rattle.first_run.proofs.Whole.{none_due, start_derives}
 use Rattle.replay.specs.Replayed.{Reads, ReplayIs}
 
 -- the first number of a run is that of a rule that passes
-run-passes : (U : ℕ) (g : Rules) → General U g → (v : List Token) (L : ℕ) (s : Stack) → Calm U L s → (r : ℕ) (x e : List ℕ) → e ≡ r ∷ x → Run g (L, s) v e → Passes (testAt U g v) g L r
-unfolding testAt
-run-passes U g form [] L s c r x e q h =
+run_passes : (U : ℕ) (g : Rules) → General U g → (v : List Token) (L : ℕ) (s : Stack) → Calm U L s → (r : ℕ) (x e : List ℕ) → e ≡ r ∷ x → Run g (L, s) v e → Passes (test_at_lem U g v) g L r
+unfolding test_at_lem
+run_passes U g form [] L s c r x e q h =
     let k = ended g L s e h in
     let z : r ≡ k.number = heads (sym q ∙ k.shape) in
     rw z (record { rule = Rule.Empty L; is = k.is; from = refl; passes = refl })
-run-passes U g form (t ∷ v) L s c r x e q h =
+run_passes U g form (t ∷ v) L s c r x e q h =
     let k = taken g L s t v e h in
     let z : r ≡ k.number = heads (sym q ∙ k.shape) in
     rw z (live U form c k)
@@ -59,30 +59,30 @@ pub numbers : (ts buf : List ℕ) → length ts < length buf → length (take (s
 numbers ts buf long = length-take-le (suc (length ts)) buf long
 
 -- the state at position 0: nothing is due
-pub state-start : (U : ℕ) (w : List Token) (at f : List ℕ) {start : ℕ} → due_at U f (pendingAt w 0) start ≡ [] → get_or at 0 0 ≡ start → stateAt U w at f 0 ≡ (start, [])
-state-start U w at f none e = rw (e, none)
+pub state_start : (U : ℕ) (w : List Token) (at f : List ℕ) {start : ℕ} → due_at U f (pending_at w 0) start ≡ [] → get_or at 0 0 ≡ start → state_at U w at f 0 ≡ (start, [])
+state_start U w at f none e = rw (e, none)
 
 -- position p is reached
 pub record Replaying (t : List ℕ) (head : Head) (ts e at f : List ℕ) (p : ℕ) : Type 0 where
   pub most : p ≤ length ts
   pub room_at : length at ≡ 1025
-  pub room-behind : length f ≡ 1025
+  pub room_behind : length f ≡ 1025
   pub begins : get_or at 0 0 ≡ head.start
-  pub leads : LeadsTo head.well (rulesOf t head) (tokensOf ts) at f e p
-  pub due : Match head.well (get_or at p 0) (due_at head.well f (pendingAt (tokensOf ts) p) (get_or at p 0)) (masks head.well (rulesOf t head) (drop p (tokensOf ts))).1
+  pub leads : LeadsTo head.well (rules_of t head) (tokens_of ts) at f e p
+  pub due : Match head.well (get_or at p 0) (due_at head.well f (pending_at (tokens_of ts) p) (get_or at p 0)) (masks head.well (rules_of t head) (drop p (tokens_of ts))).1
 
-module _ {t : List ℕ} {head : Head} {ts m mask : List ℕ} (set-up : Setting t head ts m mask) (buf : List ℕ) (long : length ts < length buf) (all : derivesAll head.well (rulesOf t head) (tokensOf ts) head.start ≡ true) where
+module _ {t : List ℕ} {head : Head} {ts m mask : List ℕ} (set-up : Setting t head ts m mask) (buf : List ℕ) (long : length ts < length buf) (all : derives_all head.well (rules_of t head) (tokens_of ts) head.start ≡ true) where
   abbrev W : List Token
-  W = tokensOf ts
+  W = tokens_of ts
 
   abbrev G : Rules
-  G = rulesOf t head
+  G = rules_of t head
 
   abbrev U : ℕ
   U = head.well
 
   form : General U G
-  form = ready-general t head set-up.indexed.ready
+  form = ready_general t head set-up.indexed.ready
 
   -- the numbers that are gone over
   abbrev E : List ℕ
@@ -91,14 +91,14 @@ module _ {t : List ℕ} {head : Head} {ts m mask : List ℕ} (set-up : Setting t
   abbrev Reached : List ℕ → List ℕ → ℕ → Type 0
   Reached at f p = Replaying t head ts E at f p
 
-  pub replaying-start : Reached (set (replicate 1025 0) 0 head.start) (replicate 1025 0) 0
-  replaying-start = record {
+  pub replaying_start : Reached (set (replicate 1025 0) 0 head.start) (replicate 1025 0) 0
+  replaying_start = record {
     most = omega arith;
     room_at = refl;
-    room-behind = refl;
+    room_behind = refl;
     begins = refl;
     leads = λ q l. absurd (omega arith);
-    due = (start-derives set-up (replicate 1025 0) all).1;
+    due = (start_derives set-up (replicate 1025 0) all).1;
   }
 
   module _ {at f : List ℕ} {p : ℕ} (k : Reached at f p) (context : Context) (stands : Stands U W mask p context) where
@@ -106,75 +106,75 @@ module _ {t : List ℕ} {head : Head} {ts m mask : List ℕ} (set-up : Setting t
     after q h l = set-up.leveled q (omega arith) l
 
     abbrev Stood : Bool
-    Stood = ltb (get_or buf p 0) head.rules && ruleFits U (ruleIn t (get_or buf p 0)) (get_or at p 0) context
+    Stood = ltb (get_or buf p 0) head.rules && rule_fits_lem U (rule_in t (get_or buf p 0)) (get_or at p 0) context
 
     -- a number that does not stand here: the buffer holds no reading
-    pub replaying-refused : Stood ≡ false → Run G (head.start, []) W E → ⊥
-    replaying-refused q r =
-        let x = run_at U G W at f E p (omega (arith, numbers ts buf long, k.most)) k.leads (subst (λ (s : State). Run G s W E) (sym (state-start U W at f (none-due set-up f all) k.begins)) r) in
-        let y = run-passes U G form (drop p W) (get_or at p 0) (due_at U f (pendingAt W p) (get_or at p 0)) (calm-due U f (pendingAt W p) (get_or at p 0)) (get_or E p 0) (drop (suc p) E) (drop p E) (drop-cons E p 0 (omega (arith, numbers ts buf long, k.most))) x in
+    pub replaying_refused : Stood ≡ false → Run G (head.start, []) W E → ⊥
+    replaying_refused q r =
+        let x = run_at U G W at f E p (omega (arith, numbers ts buf long, k.most)) k.leads (subst (λ (s : State). Run G s W E) (sym (state_start U W at f (none_due set-up f all) k.begins)) r) in
+        let y = run_passes U G form (drop p W) (get_or at p 0) (due_at U f (pending_at W p) (get_or at p 0)) (calm_due U f (pending_at W p) (get_or at p 0)) (get_or E p 0) (drop (suc p) E) (drop p E) (drop-cons E p 0 (omega (arith, numbers ts buf long, k.most))) x in
         none t head set-up.indexed.ready W mask p (get_or at p 0) context stands after (λ s. s ≡ get_or buf p 0) fails (get_or buf p 0) refl (rw (number ts buf p k.most) at y)
       where
-        fails : (r : ℕ) → r < head.rules → r ≡ get_or buf p 0 → ruleFits U (ruleIn t r) (get_or at p 0) context ≡ false
+        fails : (r : ℕ) → r < head.rules → r ≡ get_or buf p 0 → rule_fits_lem U (rule_in t r) (get_or at p 0) context ≡ false
         fails r l e = rw e (rest (get_or buf p 0) (rw e at l) q)
           where
-            rest : (r : ℕ) → r < head.rules → (ltb r head.rules && ruleFits U (ruleIn t r) (get_or at p 0) context) ≡ false → ruleFits U (ruleIn t r) (get_or at p 0) context ≡ false
+            rest : (r : ℕ) → r < head.rules → (ltb r head.rules && rule_fits_lem U (rule_in t r) (get_or at p 0) context) ≡ false → rule_fits_lem U (rule_in t r) (get_or at p 0) context ≡ false
             rest r l z = rw (lt-ltb r head.rules l) at z
 
     module _ (stood : Stood ≡ true) where
-      pub rule-below : get_or buf p 0 < head.rules
-      rule-below = ltb-true _ _ (and_left _ _ stood)
+      pub rule_below : get_or buf p 0 < head.rules
+      rule_below = ltb-true _ _ (and_left _ _ stood)
 
-      fitting : ruleFits U (ruleIn t (get_or buf p 0)) (get_or at p 0) context ≡ true
+      fitting : rule_fits_lem U (rule_in t (get_or buf p 0)) (get_or at p 0) context ≡ true
       fitting = and_right (ltb (get_or buf p 0) head.rules) _ stood
 
-      pub replaying-end : p ≡ length ts → Reads (grammarIn t head) W E at f
-      replaying-end e = record {
+      pub replaying_end : p ≡ length ts → Reads (grammar_in t head) W E at f
+      replaying_end e = record {
         all = all;
         begins = k.begins;
-        leads = rw (e ∙ sym (tokens-length ts)) at k.leads;
-        ends = rw (← (e ∙ sym (tokens-length ts)), number ts buf p k.most) (ends-empty G (get_or at p 0) (get_or buf p 0) (finished (drop p W) (drop_of_length-le W {i = p} (omega (arith, tokens-length ts))) (passes t head set-up.indexed.ready W mask p (get_or at p 0) context stands after (get_or buf p 0) rule-below fitting)));
+        leads = rw (e ∙ sym (tokens_length ts)) at k.leads;
+        ends = rw (← (e ∙ sym (tokens_length ts)), number ts buf p k.most) (ends_empty G (get_or at p 0) (get_or buf p 0) (finished (drop p W) (drop_of_length-le W {i = p} (omega (arith, tokens_length ts))) (passes t head set-up.indexed.ready W mask p (get_or at p 0) context stands after (get_or buf p 0) rule_below fitting)));
         room_at = k.room_at;
-        room-behind = k.room-behind;
+        room_behind = k.room_behind;
       }
         where
-          finished : (v : List Token) → v ≡ [] → Passes (testAt U G v) G (get_or at p 0) (get_or buf p 0) → Passes finishes G (get_or at p 0) (get_or buf p 0)
-          finished v z x = passes-end U (rw z at x)
+          finished : (v : List Token) → v ≡ [] → Passes (test_at_lem U G v) G (get_or at p 0) (get_or buf p 0) → Passes finishes G (get_or at p 0) (get_or buf p 0)
+          finished v z x = passes_end U (rw z at x)
 
       module _ (more : p < length ts) where
-        here : drop p W ≡ tokenOf (get_or ts p 0) ∷ drop (suc p) W
-        here = tokens-at ts p more
+        here : drop p W ≡ token_of (get_or ts p 0) ∷ drop (suc p) W
+        here = tokens_at ts p more
 
-        inside : closeOf (pendingAt W (suc p)) (length W) < length f
-        inside = rw k.room-behind (closing-room set-up p (omega arith))
+        inside : close_of_lem (pending_at W (suc p)) (length W) < length f
+        inside = rw k.room_behind (closing_room set-up p (omega arith))
 
-        here-turn : Turn U G W (length W) f p (tokenOf (get_or ts p 0)) here (get_or at p 0) (get_or E p 0) (ruleIn t (get_or buf p 0))
-        here-turn =
+        here_turn : Turn U G W (length W) f p (token_of (get_or ts p 0)) here (get_or at p 0) (get_or E p 0) (rule_in t (get_or buf p 0))
+        here_turn =
             rw (number ts buf p k.most)
-            (fitting-turn t head set-up.indexed.ready W mask p (get_or at p 0) context stands after form f (tokenOf (get_or ts p 0)) here inside k.due (get_or buf p 0) rule-below fitting)
+            (fitting_turn t head set-up.indexed.ready W mask p (get_or at p 0) context stands after form f (token_of (get_or ts p 0)) here inside k.due (get_or buf p 0) rule_below fitting)
 
-        pub replaying-next : Reached (set at (p + 1) (inner (ruleIn t (get_or buf p 0)) (get_or f p 0))) (set f (get_or m p 0) (later (ruleIn t (get_or buf p 0)) (get_or f (get_or m p 0) 0))) (p + 1)
-        replaying-next =
+        pub replaying_next : Reached (set at (p + 1) (inner (rule_in t (get_or buf p 0)) (get_or f p 0))) (set f (get_or m p 0) (later (rule_in t (get_or buf p 0)) (get_or f (get_or m p 0) 0))) (p + 1)
+        replaying_next =
             let room : suc p < length at = omega (arith, k.room_at, set-up.tokens.few) in
             rw (closing set-up p (omega arith), add-one p)
             (record {
               most = more;
               room_at = length-set at _ _ ∙ k.room_at;
-              room-behind = length-set f _ _ ∙ k.room-behind;
+              room_behind = length-set f _ _ ∙ k.room_behind;
               begins = get_or-set_other at (suc p) 0 _ 0 (λ z. omega arith) ∙ k.begins;
-              leads = leads-next U G W (length W) at f E p (tokenOf (get_or ts p 0)) here (ruleIn t (get_or buf p 0)) here-turn room k.leads;
-              due = (fits_next U G W (length W) at f E p (tokenOf (get_or ts p 0)) here (ruleIn t (get_or buf p 0)) here-turn room).1;
+              leads = leads_next U G W (length W) at f E p (token_of (get_or ts p 0)) here (rule_in t (get_or buf p 0)) here_turn room k.leads;
+              due = (fits_next U G W (length W) at f E p (token_of (get_or ts p 0)) here (rule_in t (get_or buf p 0)) here_turn room).1;
             })
 
     -- at the end the answer is whether the last number stands
-    pub replaying-last : (b : Bool) → b ≡ Stood → p ≡ length ts → ReplayIs (grammarIn t head) W E b at f
-    replaying-last true e q = replaying-end (sym e) q
-    replaying-last false e q = replaying-refused (sym e)
+    pub replaying_last : (b : Bool) → b ≡ Stood → p ≡ length ts → ReplayIs (grammar_in t head) W E b at f
+    replaying_last true e q = replaying_end (sym e) q
+    replaying_last false e q = replaying_refused (sym e)
 
 -- where the start doesn't derive all tokens there is no run of them
-pub none-derives : (t : List ℕ) (head : Head) (ts m mask : List ℕ) → Setting t head ts m mask → derivesAll head.well (rulesOf t head) (tokensOf ts) head.start ≡ false →
-    (e : List ℕ) → Run (rulesOf t head) (head.start, []) (tokensOf ts) e → ⊥
-none-derives t head ts m mask set-up h e r =
-    let g = rulesOf t head in
-    let w = tokensOf ts in
-    false≢true (sym h ∙ fits_all head.well head.start (masks head.well g w).0 (masks head.well g w).1 (run_fits head.well g (ready-general t head set-up.indexed.ready) w head.start [] tt e r))
+pub none_derives : (t : List ℕ) (head : Head) (ts m mask : List ℕ) → Setting t head ts m mask → derives_all head.well (rules_of t head) (tokens_of ts) head.start ≡ false →
+    (e : List ℕ) → Run (rules_of t head) (head.start, []) (tokens_of ts) e → ⊥
+none_derives t head ts m mask set-up h e r =
+    let g = rules_of t head in
+    let w = tokens_of ts in
+    false≢true (sym h ∙ fits_all head.well head.start (masks head.well g w).0 (masks head.well g w).1 (run_fits head.well g (ready_general t head set-up.indexed.ready) w head.start [] tt e r))

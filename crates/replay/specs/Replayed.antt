@@ -1,5 +1,5 @@
 -- What going over a buffer as a reading says of it.
--- Law: is-run (next_run/proofs/Successor.antt)
+-- Law: is_run (next_run/proofs/Successor.antt)
 use Rattle.std.specs.Prelude.{ℕ, ◌≡◌, Bool, true, false, List, [], length, get_or}
 use Rattle.std.proofs.Math.Option.{some}
 use Rattle.std.proofs.Math.ListN.{get_elem?}
@@ -8,16 +8,16 @@ use Rattle.vpg.specs.declared.Token.{Token}
 use Rattle.vpg.specs.believed.Grammar.{Grammar}
 use Rattle.level_theory.specs.Local.{LeadsTo}
 use Rattle.level_theory.specs.Walk.{Run}
-use Rattle.levels.specs.Levels.{derivesAll}
+use Rattle.levels.specs.Levels.{derives_all}
 
 -- e is a reading; at has the nonterminal of each position, f the one behind each close
 pub record Reads (g : Grammar) (w : List Token) (e at f : List ℕ) : Type 0 where
-  pub all : derivesAll g.well g.rules w g.start ≡ true
+  pub all : derives_all g.well g.rules w g.start ≡ true
   pub begins : get_or at 0 0 ≡ g.start
   pub leads : LeadsTo g.well g.rules w at f e (length w)
   pub ends : get_elem? g.rules (get_or e (length w) 0) ≡ some (Rule.Empty (get_or at (length w) 0))
   pub room_at : length at ≡ 1025
-  pub room-behind : length f ≡ 1025
+  pub room_behind : length f ≡ 1025
 
 -- e is a reading, of which the arrays say the nonterminals; or it is none
 abbrev pub ReplayIs : Grammar → List Token → List ℕ → Bool → List ℕ → List ℕ → Type 0

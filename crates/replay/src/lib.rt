@@ -1,11 +1,11 @@
 // A buffer gone over as a reading: the nonterminal at each position and behind each close, or that the buffer holds no reading.
 ghost use Rattle.std.specs.Prelude.{◌≡◌, true, ◌&&◌, suc, ◌<◌, ltb, length, take};
-ghost use Rattle.tables.specs.Table.{ruleIn};
-ghost use Rattle.tables.specs.Ready.{rulesOf, grammarIn};
+ghost use Rattle.tables.specs.Table.{rule_in};
+ghost use Rattle.tables.specs.Ready.{rules_of, grammar_in};
 ghost use Rattle.rule_index.specs.Index.{Indexed};
-ghost use Rattle.history_file.specs.believed.HistoryFile.{tokensOf};
-ghost use Rattle.levels.specs.Levels.{Setting, derivesAll};
-ghost use Rattle.moves.specs.Moves.{ruleFits};
+ghost use Rattle.history_file.specs.believed.HistoryFile.{tokens_of};
+ghost use Rattle.levels.specs.Levels.{Setting, derives_all};
+ghost use Rattle.moves.specs.Moves.{rule_fits_lem};
 ghost use Rattle.replay.specs.Replayed.{ReplayIs};
 
 use contexts::Context;
@@ -23,7 +23,7 @@ pub struct Replayed {
 // Whether r is a rule for the nonterminal that can stand here.
 fn stands(table: &Table, head: Head, r: usize, nonterminal: u16, context: Context) -> bool
     requires { Indexed table.now head }
-    ensures { result ≡ (ltb r head.rules && ruleFits head.well (ruleIn table.now r) nonterminal context) }
+    ensures { result ≡ (ltb r head.rules && rule_fits_lem head.well (rule_in table.now r) nonterminal context) }
 {
     if r < head.rules {
         moves::fits(table, head, r, nonterminal, context)
@@ -43,8 +43,8 @@ fn replay_on(
 ) -> Replayed
     requires setting { Setting table.now head tokens.now closes.now masks.now }
     requires tokens_in_bounds { length tokens.now < length reading.now }
-    requires start_value { derivesAll head.well (rulesOf table.now head) (tokensOf tokens.now) head.start ≡ true }
-    ensures { ReplayIs (grammarIn table.now head) (tokensOf tokens.now) (take (suc (length tokens.now)) reading.now) result.ok result.at result.behind }
+    requires start_value { derives_all head.well (rules_of table.now head) (tokens_of tokens.now) head.start ≡ true }
+    ensures { ReplayIs (grammar_in table.now head) (tokens_of tokens.now) (take (suc (length tokens.now)) reading.now) result.ok result.at result.behind }
 {
     let mut at = [0u16; 1025];
     let mut behind = [0u16; 1025];
@@ -83,7 +83,7 @@ pub fn replay(
 ) -> Replayed
     requires setting { Setting table.now head tokens.now closes.now masks.now }
     requires tokens_in_bounds { length tokens.now < length reading.now }
-    ensures { ReplayIs (grammarIn table.now head) (tokensOf tokens.now) (take (suc (length tokens.now)) reading.now) result.ok result.at result.behind }
+    ensures { ReplayIs (grammar_in table.now head) (tokens_of tokens.now) (take (suc (length tokens.now)) reading.now) result.ok result.at result.behind }
 {
     if levels::derives_all(masks, head) {
         return replay_on(table, head, tokens, closes, masks, reading);

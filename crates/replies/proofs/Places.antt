@@ -2,9 +2,9 @@
 use mathlib.Core.Path.{◌≡◌, refl}
 use Rattle.step_bytes.specs.believed.StepBytes.{StepPart, part, refused}
 use Rattle.step_bytes.specs.Places.{placed}
-use Rattle.replies.specs.Places.{placeWire}
-use Rattle.replies.specs.believed.Wire.{partWire}
+use Rattle.replies.specs.Places.{place_wire}
+use Rattle.replies.specs.believed.Wire.{part_wire}
 
-pub placed-wire : (x : StepPart) → placeWire (placed x) ≡ partWire x
-placed-wire (part start ts) = refl
-placed-wire (refused k) = refl
+pub placed_wire : (x : StepPart) → place_wire (placed x) ≡ part_wire x
+placed_wire (part start ts) = refl
+placed_wire (refused k) = refl

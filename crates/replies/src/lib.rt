@@ -1,13 +1,13 @@
 // The services' answers as C sees them: one number, or a struct with the number and the counts or the length.
 ghost use Rattle.std.specs.Prelude.{◌≡◌};
-ghost use Rattle.files.specs.believed.Checks.{grammarSaid, historySaid};
-ghost use Rattle.service.specs.believed.Given.{outcomeSaid};
-ghost use Rattle.sets.specs.believed.Sets.{countSaid};
-ghost use Rattle.reading_counts.specs.believed.Numbered.{readingsSaid};
-ghost use Rattle.step_bytes.specs.believed.StepBytes.{numberSaid};
-ghost use Rattle.writers.specs.believed.Writers.{writeSaid};
-ghost use Rattle.replies.specs.believed.Wire.{grammarWire, historyWire, countWire, readingsWire, outcomeCode, stepCode, lengthWire};
-ghost use Rattle.replies.specs.Places.{placeWire};
+ghost use Rattle.files.specs.believed.Checks.{grammar_said, history_said};
+ghost use Rattle.service.specs.believed.Given.{outcome_said};
+ghost use Rattle.sets.specs.believed.Sets.{count_said};
+ghost use Rattle.reading_counts.specs.believed.Numbered.{readings_said};
+ghost use Rattle.step_bytes.specs.believed.StepBytes.{number_said};
+ghost use Rattle.writers.specs.believed.Writers.{write_said};
+ghost use Rattle.replies.specs.believed.Wire.{grammar_wire, history_wire, count_wire, readings_wire, outcome_code, step_code, length_wire};
+ghost use Rattle.replies.specs.Places.{place_wire};
 
 use files::{GrammarCheck, HistoryCheck};
 use reading_counts::ReadingCount;
@@ -66,7 +66,7 @@ pub struct WriteReply {
 }
 
 pub fn grammar_reply(check: GrammarCheck) -> GrammarReply
-    ensures { result ≡ grammarWire (grammarSaid check) }
+    ensures { result ≡ grammar_wire (grammar_said check) }
 {
     match check {
         GrammarCheck::Accepted(stages, rules) => GrammarReply {
@@ -83,7 +83,7 @@ pub fn grammar_reply(check: GrammarCheck) -> GrammarReply
 }
 
 pub fn history_reply(check: HistoryCheck) -> HistoryReply
-    ensures { result ≡ historyWire (historySaid check) }
+    ensures { result ≡ history_wire (history_said check) }
 {
     match check {
         HistoryCheck::Accepted(tokens) => HistoryReply { answer: 0, tokens },
@@ -95,7 +95,7 @@ pub fn history_reply(check: HistoryCheck) -> HistoryReply
 }
 
 pub fn count_reply(given: CountAnswer) -> CountReply
-    ensures { result ≡ countWire (countSaid given) }
+    ensures { result ≡ count_wire (count_said given) }
 {
     match given {
         CountAnswer::Count(count) => CountReply { answer: 0, count },
@@ -107,7 +107,7 @@ pub fn count_reply(given: CountAnswer) -> CountReply
 }
 
 pub fn readings_reply(given: ReadingCount) -> ReadingsReply
-    ensures { result ≡ readingsWire (readingsSaid given) }
+    ensures { result ≡ readings_wire (readings_said given) }
 {
     match given {
         ReadingCount::Exact(count) => ReadingsReply { answer: 0, count },
@@ -124,7 +124,7 @@ pub fn readings_reply(given: ReadingCount) -> ReadingsReply
 
 // 0, or the number of the refusal.
 pub fn outcome_code(outcome: Outcome) -> u8
-    ensures { result ≡ outcomeCode (outcomeSaid outcome) }
+    ensures { result ≡ outcome_code (outcome_said outcome) }
 {
     match outcome {
         Outcome::Done => 0,
@@ -133,7 +133,7 @@ pub fn outcome_code(outcome: Outcome) -> u8
 }
 
 pub fn part_reply(place: StepPlace) -> PartReply
-    ensures { result ≡ placeWire place }
+    ensures { result ≡ place_wire place }
 {
     match place {
         StepPlace::Part(start, length) => PartReply { start, length },
@@ -146,7 +146,7 @@ pub fn part_reply(place: StepPlace) -> PartReply
 
 // The number of the refusal, or 0 where there is none.
 pub fn step_code(check: StepCheck) -> u8
-    ensures { result ≡ stepCode (numberSaid check) }
+    ensures { result ≡ step_code (number_said check) }
 {
     match check {
         StepCheck::Found => 0,
@@ -155,7 +155,7 @@ pub fn step_code(check: StepCheck) -> u8
 }
 
 pub fn write_reply(answer: WriteAnswer) -> WriteReply
-    ensures { result ≡ lengthWire (writeSaid answer) }
+    ensures { result ≡ length_wire (write_said answer) }
 {
     match answer {
         WriteAnswer::Written(length) => WriteReply { answer: 0, length },

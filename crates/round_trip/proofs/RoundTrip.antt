@@ -11,25 +11,25 @@ use lib.ListN.{length, get_or, take, drop}
 use lib.Seq.{take-append_seam}
 use Rattle.numbers.specs.believed.Number.{Source, bytes}
 use Rattle.numbers.specs.Written.{AllBelow, written, Holds}
-use Rattle.numbers.proofs.Written.{holds-is}
+use Rattle.numbers.proofs.Written.{holds_is}
 use Rattle.elements.specs.believed.Elements.{elements}
 use Rattle.vpg.specs.believed.Grammar.{Grammar}
-use Rattle.grammar_file.specs.believed.GrammarFile.{GrammarFile, grammarFrom, grammarOf}
+use Rattle.grammar_file.specs.believed.GrammarFile.{GrammarFile, grammar_from, grammar_of}
 use Rattle.grammar_file.specs.believed.GrammarFile
-use Rattle.grammar_file.specs.Wellformed.{Wellformed, numbersOf, numbersWithoutStart}
-use Rattle.grammar_file.proofs.Accepted.{Said, grammar-is, grammar-wellformed}
-use Rattle.grammar_file.proofs.BothWays.{numbers-small, grammar-both-ways}
-use Rattle.history_file.specs.believed.HistoryFile.{HistoryFile, historyFrom, historyOf}
+use Rattle.grammar_file.specs.Wellformed.{Wellformed, numbers_of, numbers_without_start}
+use Rattle.grammar_file.proofs.Accepted.{Said, grammar_is, grammar_wellformed}
+use Rattle.grammar_file.proofs.BothWays.{numbers_small, grammar_both_ways}
+use Rattle.history_file.specs.believed.HistoryFile.{HistoryFile, history_from, history_of}
 use Rattle.history_file.specs.believed.HistoryFile
 use Rattle.history_file.specs.Wellformed as history
-use Rattle.history_file.proofs.Accepted.{history-is}
-use Rattle.history_file.proofs.BothWays.{history-both-ways, numbers-small as history-small}
+use Rattle.history_file.proofs.Accepted.{history_is}
+use Rattle.history_file.proofs.BothWays.{history_both_ways, numbers_small as history-small}
 use Rattle.sources.proofs.Encoded.{bytes_below}
-use Rattle.sources.proofs.Holding.{elements-hold, bytes-hold-one}
+use Rattle.sources.proofs.Holding.{elements_hold, bytes_hold_one}
 use Rattle.service.specs.believed.Given.{Given, given, refused, untouched}
-use Rattle.writers.specs.believed.Writers.{filled, grammarFilled, historyFilled, grammarWritten, historyWritten}
-use Rattle.writers.specs.Longer.{longerForm}
-use Rattle.writers.proofs.Longer.{longer-numbers, longer-bytes, longer-stays}
+use Rattle.writers.specs.believed.Writers.{filled, grammar_filled, history_filled, grammar_written, history_written}
+use Rattle.writers.specs.Longer.{longer_form}
+use Rattle.writers.proofs.Longer.{longer_numbers, longer_bytes, longer_stays}
 use Rattle.round_trip.proofs.Answers.{apart}
 
 -- ── a buffer that was filled ──
@@ -46,8 +46,8 @@ module _ (file buffer : List ℕ) where
           let eo : file ++ drop (length file) buffer ≡ out = ap (λ p. p.1) q in
           rw (← en, ← eo) (take-append_seam file (drop (length file) buffer))
 
-  filled-room : length file ≤ length buffer → filled file buffer ≡ (given (length file), file ++ drop (length file) buffer)
-  filled-room h = rw (le-ltb (length buffer) (length file) h)
+  filled_room : length file ≤ length buffer → filled file buffer ≡ (given (length file), file ++ drop (length file) buffer)
+  filled_room h = rw (le-ltb (length buffer) (length file) h)
 
 -- ── either file ──
 
@@ -70,36 +70,36 @@ abbrev pub Again : (List ℕ → List ℕ → Given ℕ × List ℕ) → List �
 Again writer s buffer = Made writer s s buffer
 
 -- a file says an A where it holds the numbers that are written for it, and it is good
-module _ {F A : Type 0} (accepted : A → F) (from : Source → F) (numbersOf : A → List ℕ) (Good : A → Type 0)
-    (says : (x : Source) (a : A) → Holds x (numbersOf a) → Good a → from x ≡ accepted a) (small : (a : A) → Good a → AllBelow 2097152 (numbersOf a)) where
-  held : (a : A) → Good a → Holds (bytes (written (numbersOf a))) (numbersOf a)
-  held a w = let ns = numbersOf a in (holds-is (written ns) (bytes_below ns (small a w)) ns (small a w)).1 refl
+module _ {F A : Type 0} (accepted : A → F) (from : Source → F) (numbers_of : A → List ℕ) (Good : A → Type 0)
+    (says : (x : Source) (a : A) → Holds x (numbers_of a) → Good a → from x ≡ accepted a) (small : (a : A) → Good a → AllBelow 2097152 (numbers_of a)) where
+  held : (a : A) → Good a → Holds (bytes (written (numbers_of a))) (numbers_of a)
+  held a w = let ns = numbers_of a in (holds_is (written ns) (bytes_below ns (small a w)) ns (small a w)).1 refl
 
-  back : (form : List ℕ → List ℕ) (es file : List ℕ) (a : A) → Good a → from (elements es) ≡ accepted a → form es ≡ numbersOf a → file ≡ written (numbersOf a)
+  back : (form : List ℕ → List ℕ) (es file : List ℕ) (a : A) → Good a → from (elements es) ≡ accepted a → form es ≡ numbers_of a → file ≡ written (numbers_of a)
       → Back accepted from form es file
   back form es file a w said e f =
-      let h : Holds (bytes file) (numbersOf a) = rw f (held a w) in
+      let h : Holds (bytes file) (numbers_of a) = rw f (held a w) in
       record { what = a; elements-say = said; bytes-say = says (bytes file) a h w; numbers = rw e h }
 
-  again : (writer : List ℕ → List ℕ → Given ℕ × List ℕ) (s buffer : List ℕ) → length s ≤ length buffer → (a : A) → Good a → s ≡ written (numbersOf a)
-      → (from (elements (numbersOf a)) ≡ accepted a → writer (numbersOf a) buffer ≡ filled (written (numbersOf a)) buffer) → Again writer s buffer
+  again : (writer : List ℕ → List ℕ → Given ℕ × List ℕ) (s buffer : List ℕ) → length s ≤ length buffer → (a : A) → Good a → s ≡ written (numbers_of a)
+      → (from (elements (numbers_of a)) ≡ accepted a → writer (numbers_of a) buffer ≡ filled (written (numbers_of a)) buffer) → Again writer s buffer
   again writer s buffer room a w e fills =
-      let ns = numbersOf a in
+      let ns = numbers_of a in
       let h : Holds (bytes s) ns = rw e (held a w) in
       record {
         numbers = ns;
         hold = h;
-        only = λ ms k. bytes-hold-one s ms ns k h;
-        made = fills (says (elements ns) a ((elements-hold ns ns).1 refl) w) ∙ (ap (λ l. filled l buffer) (sym e) ∙ filled-room s buffer room);
+        only = λ ms k. bytes_hold_one s ms ns k h;
+        made = fills (says (elements ns) a ((elements_hold ns ns).1 refl) w) ∙ (ap (λ l. filled l buffer) (sym e) ∙ filled_room s buffer room);
       }
 
 -- ── what the two files say ──
 
-abbrev tokensNumbers : List ℕ → List ℕ
-tokensNumbers ts = length ts ∷ ts
+abbrev tokens_numbers : List ℕ → List ℕ
+tokens_numbers ts = length ts ∷ ts
 
-history-says : (x : Source) (ts : List ℕ) → Holds x (tokensNumbers ts) → history.Wellformed ts → historyFrom x ≡ HistoryFile.accepted ts
-history-says x ts h w = (history-is x ts).1 (h, w)
+history_says : (x : Source) (ts : List ℕ) → Holds x (tokens_numbers ts) → history.Wellformed ts → history_from x ≡ HistoryFile.accepted ts
+history_says x ts h w = (history_is x ts).1 (h, w)
 
 first-zero : (s : List ℕ) → get_or s 0 1 ≡ 0 → get_or s 0 0 ≡ 0
 first-zero [] z = refl
@@ -107,86 +107,86 @@ first-zero (n ∷ ns) z = z
 
 -- ── grammars ──
 
-grammar-says : (x : Source) (g : Grammar) → Holds x (numbersOf g) → Wellformed g → grammarFrom x ≡ GrammarFile.accepted g
-grammar-says x g h w = (grammar-is x g).1 (inl h, w)
+grammar_says : (x : Source) (g : Grammar) → Holds x (numbers_of g) → Wellformed g → grammar_from x ≡ GrammarFile.accepted g
+grammar_says x g h w = (grammar_is x g).1 (inl h, w)
 
 -- what is written for elements that say a grammar
-longer_said : (es : List ℕ) (g : Grammar) → Wellformed g → Said (elements es) g → longerForm es ≡ numbersOf g
-longer_said es g w (inl h) = ap longerForm ((elements-hold es (numbersOf g)).0 h)
-longer_said es g w (inr (h, z)) = ap longerForm ((elements-hold es (numbersWithoutStart g)).0 h) ∙ longer-numbers g w z
+longer_said : (es : List ℕ) (g : Grammar) → Wellformed g → Said (elements es) g → longer_form es ≡ numbers_of g
+longer_said es g w (inl h) = ap longer_form ((elements_hold es (numbers_of g)).0 h)
+longer_said es g w (inr (h, z)) = ap longer_form ((elements_hold es (numbers_without_start g)).0 h) ∙ longer_numbers g w z
 
 module _ (buffer : List ℕ) where
-  pub grammar-reads-back : (es : List ℕ) (n : ℕ) (out : List ℕ) → grammarWritten es buffer ≡ (given n, out)
-      → Back GrammarFile.accepted grammarFrom longerForm es (take n out)
-  grammar-reads-back es n out h = go (grammarFrom (elements es)) refl h
+  pub grammar_reads_back : (es : List ℕ) (n : ℕ) (out : List ℕ) → grammar_written es buffer ≡ (given n, out)
+      → Back GrammarFile.accepted grammar_from longer_form es (take n out)
+  grammar_reads_back es n out h = go (grammar_from (elements es)) refl h
     where
-      go : (f : GrammarFile) → grammarFrom (elements es) ≡ f → grammarFilled f buffer ≡ (given n, out) → Back GrammarFile.accepted grammarFrom longerForm es (take n out)
+      go : (f : GrammarFile) → grammar_from (elements es) ≡ f → grammar_filled f buffer ≡ (given n, out) → Back GrammarFile.accepted grammar_from longer_form es (take n out)
       go (GrammarFile.refused e) q r = apart (sym r)
       go (GrammarFile.accepted g) q r =
-          let (s, w) = (grammar-is (elements es) g).0 q in
-          back GrammarFile.accepted grammarFrom numbersOf Wellformed grammar-says numbers-small longerForm es (take n out) g w q (longer_said es g w s)
-          (filled-holds (written (numbersOf g)) buffer n out r)
+          let (s, w) = (grammar_is (elements es) g).0 q in
+          back GrammarFile.accepted grammar_from numbers_of Wellformed grammar_says numbers_small longer_form es (take n out) g w q (longer_said es g w s)
+          (filled-holds (written (numbers_of g)) buffer n out r)
 
-  grammar-again : (s : List ℕ) → length s ≤ length buffer → (g : Grammar) → Wellformed g → s ≡ written (numbersOf g) → Again grammarWritten s buffer
-  grammar-again s room g w e =
-      again GrammarFile.accepted grammarFrom numbersOf Wellformed grammar-says numbers-small grammarWritten s buffer room g w e
-      (λ said. ap (λ f. grammarFilled f buffer) said)
+  grammar_again : (s : List ℕ) → length s ≤ length buffer → (g : Grammar) → Wellformed g → s ≡ written (numbers_of g) → Again grammar_written s buffer
+  grammar_again s room g w e =
+      again GrammarFile.accepted grammar_from numbers_of Wellformed grammar_says numbers_small grammar_written s buffer room g w e
+      (λ said. ap (λ f. grammar_filled f buffer) said)
 
   -- a file that says its start is written again byte for byte
-  pub grammar-written-again : (s : List ℕ) → AllBelow 256 s → length s ≤ length buffer → (g : Grammar) → grammarOf s ≡ GrammarFile.accepted g
-      → get_or s 0 1 ≡ 0 → Again grammarWritten s buffer
-  grammar-written-again s b room g h z =
-      let (f, w) = (grammar-both-ways s b g).0 h in
-      grammar-again s room g w (sym (longer-stays s (first-zero s z)) ∙ longer-bytes g w s f)
+  pub grammar_written_again : (s : List ℕ) → AllBelow 256 s → length s ≤ length buffer → (g : Grammar) → grammar_of s ≡ GrammarFile.accepted g
+      → get_or s 0 1 ≡ 0 → Again grammar_written s buffer
+  grammar_written_again s b room g h z =
+      let (f, w) = (grammar_both_ways s b g).0 h in
+      grammar_again s room g w (sym (longer_stays s (first-zero s z)) ∙ longer_bytes g w s f)
 
   -- and what was written, whatever the elements began with, is written again byte for byte
-  pub grammar-rewritten : (es before : List ℕ) (n : ℕ) (out : List ℕ) → grammarWritten es before ≡ (given n, out) → length (take n out) ≤ length buffer
-      → Again grammarWritten (take n out) buffer
-  grammar-rewritten es before n out h room = go (grammarFrom (elements es)) refl h
+  pub grammar_rewritten : (es before : List ℕ) (n : ℕ) (out : List ℕ) → grammar_written es before ≡ (given n, out) → length (take n out) ≤ length buffer
+      → Again grammar_written (take n out) buffer
+  grammar_rewritten es before n out h room = go (grammar_from (elements es)) refl h
     where
-      go : (f : GrammarFile) → grammarFrom (elements es) ≡ f → grammarFilled f before ≡ (given n, out) → Again grammarWritten (take n out) buffer
+      go : (f : GrammarFile) → grammar_from (elements es) ≡ f → grammar_filled f before ≡ (given n, out) → Again grammar_written (take n out) buffer
       go (GrammarFile.refused e) q r = apart (sym r)
       go (GrammarFile.accepted g) q r =
-          grammar-again (take n out) room g (grammar-wellformed (elements es) g q) (filled-holds (written (numbersOf g)) before n out r)
+          grammar_again (take n out) room g (grammar_wellformed (elements es) g q) (filled-holds (written (numbers_of g)) before n out r)
 
   -- "an old file comes back in the longer form with the same meaning" (document 02, 2.3)
-  pub grammar-comes-back : (s : List ℕ) → AllBelow 256 s → length (longerForm s) ≤ length buffer → (g : Grammar) → grammarOf s ≡ GrammarFile.accepted g
-      → Made grammarWritten s (longerForm s) buffer × (grammarOf (longerForm s) ≡ grammarOf s)
-  grammar-comes-back s b room g h =
-      let (f, w) = (grammar-both-ways s b g).0 h in
-      let e = longer-bytes g w s f in
-      let (said, w2) = (grammar-is (bytes s) g).0 h in
-      (made w said e, rw e (grammar-says (bytes (written (numbersOf g))) g (held GrammarFile.accepted grammarFrom numbersOf Wellformed grammar-says numbers-small g w) w) ∙ sym h)
+  pub grammar_comes_back : (s : List ℕ) → AllBelow 256 s → length (longer_form s) ≤ length buffer → (g : Grammar) → grammar_of s ≡ GrammarFile.accepted g
+      → Made grammar_written s (longer_form s) buffer × (grammar_of (longer_form s) ≡ grammar_of s)
+  grammar_comes_back s b room g h =
+      let (f, w) = (grammar_both_ways s b g).0 h in
+      let e = longer_bytes g w s f in
+      let (said, w2) = (grammar_is (bytes s) g).0 h in
+      (made w said e, rw e (grammar_says (bytes (written (numbers_of g))) g (held GrammarFile.accepted grammar_from numbers_of Wellformed grammar_says numbers_small g w) w) ∙ sym h)
     where
-      of : (ns : List ℕ) → Wellformed g → Said (elements ns) g → Holds (bytes s) ns → longerForm s ≡ written (numbersOf g) → Made grammarWritten s (longerForm s) buffer
+      of : (ns : List ℕ) → Wellformed g → Said (elements ns) g → Holds (bytes s) ns → longer_form s ≡ written (numbers_of g) → Made grammar_written s (longer_form s) buffer
       of ns w said hold e = record {
         numbers = ns;
         hold = hold;
-        only = λ ms k. bytes-hold-one s ms ns k hold;
+        only = λ ms k. bytes_hold_one s ms ns k hold;
         made =
-            ap (λ f. grammarFilled f buffer) ((grammar-is (elements ns) g).1 (said, w))
-            ∙ (ap (λ l. filled l buffer) (sym e) ∙ filled-room (longerForm s) buffer room);
+            ap (λ f. grammar_filled f buffer) ((grammar_is (elements ns) g).1 (said, w))
+            ∙ (ap (λ l. filled l buffer) (sym e) ∙ filled_room (longer_form s) buffer room);
       }
 
-      made : Wellformed g → Said (bytes s) g → longerForm s ≡ written (numbersOf g) → Made grammarWritten s (longerForm s) buffer
-      made w (inl k) e = of (numbersOf g) w (inl ((elements-hold (numbersOf g) (numbersOf g)).1 refl)) k e
-      made w (inr (k, z)) e = of (numbersWithoutStart g) w (inr ((elements-hold (numbersWithoutStart g) (numbersWithoutStart g)).1 refl, z)) k e
+      made : Wellformed g → Said (bytes s) g → longer_form s ≡ written (numbers_of g) → Made grammar_written s (longer_form s) buffer
+      made w (inl k) e = of (numbers_of g) w (inl ((elements_hold (numbers_of g) (numbers_of g)).1 refl)) k e
+      made w (inr (k, z)) e = of (numbers_without_start g) w (inr ((elements_hold (numbers_without_start g) (numbers_without_start g)).1 refl, z)) k e
 
   -- ── histories ──
 
-  pub history-reads-back : (es : List ℕ) (n : ℕ) (out : List ℕ) → historyWritten es buffer ≡ (given n, out)
-      → Back HistoryFile.accepted historyFrom (λ ns. ns) es (take n out)
-  history-reads-back es n out h = go (historyFrom (elements es)) refl h
+  pub history_reads_back : (es : List ℕ) (n : ℕ) (out : List ℕ) → history_written es buffer ≡ (given n, out)
+      → Back HistoryFile.accepted history_from (λ ns. ns) es (take n out)
+  history_reads_back es n out h = go (history_from (elements es)) refl h
     where
-      go : (f : HistoryFile) → historyFrom (elements es) ≡ f → historyFilled f buffer ≡ (given n, out) → Back HistoryFile.accepted historyFrom (λ ns. ns) es (take n out)
+      go : (f : HistoryFile) → history_from (elements es) ≡ f → history_filled f buffer ≡ (given n, out) → Back HistoryFile.accepted history_from (λ ns. ns) es (take n out)
       go (HistoryFile.refused e) q r = apart (sym r)
       go (HistoryFile.accepted ts) q r =
-          let (k, w) = (history-is (elements es) ts).0 q in
-          back HistoryFile.accepted historyFrom tokensNumbers history.Wellformed history-says history-small (λ ns. ns) es (take n out) ts w q
-          ((elements-hold es (tokensNumbers ts)).0 k) (filled-holds (written (tokensNumbers ts)) buffer n out r)
+          let (k, w) = (history_is (elements es) ts).0 q in
+          back HistoryFile.accepted history_from tokens_numbers history.Wellformed history_says history-small (λ ns. ns) es (take n out) ts w q
+          ((elements_hold es (tokens_numbers ts)).0 k) (filled-holds (written (tokens_numbers ts)) buffer n out r)
 
-  pub history-written-again : (s : List ℕ) → AllBelow 256 s → length s ≤ length buffer → (ts : List ℕ) → historyOf s ≡ HistoryFile.accepted ts → Again historyWritten s buffer
-  history-written-again s b room ts h =
-      let (e, w) = (history-both-ways s b ts).0 h in
-      again HistoryFile.accepted historyFrom tokensNumbers history.Wellformed history-says history-small historyWritten s buffer room ts w e
-      (λ said. ap (λ f. historyFilled f buffer) said)
+  pub history_written_again : (s : List ℕ) → AllBelow 256 s → length s ≤ length buffer → (ts : List ℕ) → history_of s ≡ HistoryFile.accepted ts → Again history_written s buffer
+  history_written_again s b room ts h =
+      let (e, w) = (history_both_ways s b ts).0 h in
+      again HistoryFile.accepted history_from tokens_numbers history.Wellformed history_says history-small history_written s buffer room ts w e
+      (λ said. ap (λ f. history_filled f buffer) said)

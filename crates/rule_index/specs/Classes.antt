@@ -1,6 +1,6 @@
 -- Classes of tokens and of rules: only rules of a token's class can stand at it, and at a close the empty rules besides, a class for each
 -- nonterminal.
--- Law: stands-class, class-apart, one-class, empty-class (rule_index/proofs/Classes.antt)
+-- Law: stands_class, class_apart, one-class, empty_class_lem (rule_index/proofs/Classes.antt)
 use Rattle.std.specs.Prelude.{ℕ, ◌+◌, ◌*◌, ◌/◌, ◌%◌, cond, leb}
 use Rattle.vpg.specs.declared.Rule.{Rule}
 use Rattle.vpg.specs.declared.Token.{Token}
@@ -16,15 +16,15 @@ class_at (Token.Open a) = 4 * spread a.0 + 1
 class_at (Token.Close b) = 4 * spread b.0 + 3
 
 -- the same from the kind and the name
-abbrev pub classBy : ℕ → ℕ → ℕ
-classBy kind name = cond (leb 2 kind) (4 * spread name + 3) (4 * spread name + kind)
+abbrev pub class_by : ℕ → ℕ → ℕ
+class_by kind name = cond (leb 2 kind) (4 * spread name + 3) (4 * spread name + kind)
 
 -- the class of the empty rules of L
-abbrev pub emptyClass : ℕ → ℕ
-emptyClass L = 4 * L + 2
+abbrev pub empty_class : ℕ → ℕ
+empty_class L = 4 * L + 2
 
 -- the class of a rule: that of the tokens at which it can stand, or of the empty rules of its nonterminal
 abbrev pub class_of : Rule → ℕ
-class_of (Rule.Empty L) = emptyClass L
+class_of (Rule.Empty L) = empty_class L
 class_of (Rule.Next L i L₁) = class_at i
 class_of (Rule.Step L a L₁ b L₂) = 4 * spread a.0 + 1

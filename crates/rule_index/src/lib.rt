@@ -2,12 +2,12 @@
 // It stands behind the table's rules, so that it goes wherever they go.
 ghost use Rattle.std.specs.Prelude.{◌≡◌, ◌<◌, ◌≤◌, length, take};
 ghost use Rattle.vpg.specs.believed.Grammar.{left};
-ghost use Rattle.tables.specs.Table.{ruleIn};
+ghost use Rattle.tables.specs.Table.{rule_in};
 ghost use Rattle.tables.specs.Ready.{Below, Ready};
-ghost use Rattle.rule_index.specs.Classes.{spread, class_at, classBy, class_of};
-ghost use Rattle.rule_index.specs.Goals.{goal, insideGoal, afterGoal};
-ghost use Rattle.rule_index.specs.Index.{firstIn, nextIn, end_in, word_in, endsIn, lowEndsIn, insideIn, afterIn, Goals, Indexed};
-ghost use Rattle.rule_index.specs.Building.{SameRules, IndexedFrom, EndsBelow, linked, withEnd, withWord, withGoals};
+ghost use Rattle.rule_index.specs.Classes.{spread, class_at, class_by, class_of};
+ghost use Rattle.rule_index.specs.Goals.{goal, inside_goal, after_goal};
+ghost use Rattle.rule_index.specs.Index.{first_in, next_in, end_in, word_in, ends_in, low_ends_in, inside_in, after_in, Goals, Indexed};
+ghost use Rattle.rule_index.specs.Building.{SameRules, IndexedFrom, EndsBelow, linked, with_end, with_word, with_goals};
 
 use tables::{Head, Table};
 use vpg::{Rule, Token};
@@ -33,7 +33,7 @@ pub fn class_at(token: Token) -> usize
 
 // The class of the token of a kind and a name, without the token put together first.
 pub fn class_by(kind: u32, name: u16) -> usize
-    ensures { result ≡ classBy kind name }
+    ensures { result ≡ class_by kind name }
 {
     if 2 <= kind {
         return 4 * spread_of(name) + 3;
@@ -67,7 +67,7 @@ fn wide(x: u16) -> u32
 // The first rule of a class; the number of rules where there is none.
 pub fn first_of(table: &Table, class: usize) -> usize
     requires { class < 256 }
-    ensures { result ≡ firstIn table.now class }
+    ensures { result ≡ first_in table.now class }
 {
     number(table[768 + class])
 }
@@ -75,7 +75,7 @@ pub fn first_of(table: &Table, class: usize) -> usize
 // The rule behind rule r in its class; the number of rules where there is none.
 pub fn next_of(table: &Table, r: usize) -> usize
     requires { r < 128 }
-    ensures { result ≡ nextIn table.now r }
+    ensures { result ≡ next_in table.now r }
 {
     number(table[1024 + r])
 }
@@ -90,16 +90,16 @@ pub fn end_of(table: &Table, nonterminal: usize) -> usize
 
 // The nonterminals that have an empty rule.
 pub fn ends(table: &Table) -> u32
-    ensures { result ≡ endsIn table.now }
+    ensures { result ≡ ends_in table.now }
 {
     let low = wide(table[1152]);
     let high = wide(table[1153]);
     low + 65536 * high
 }
 
-// The well-matched ones among them: those that can end before a close.
+// The well_matched ones among them: those that can end before a close.
 pub fn low_ends(table: &Table) -> u32
-    ensures { result ≡ lowEndsIn table.now }
+    ensures { result ≡ low_ends_in table.now }
 {
     let low = wide(table[1154]);
     let high = wide(table[1155]);
@@ -109,7 +109,7 @@ pub fn low_ends(table: &Table) -> u32
 // The digit that rule r asks for behind its token.
 pub fn inside_of(table: &Table, r: usize) -> usize
     requires { r < 128 }
-    ensures { result ≡ insideIn table.now r }
+    ensures { result ≡ inside_in table.now r }
 {
     number(table[1156 + r])
 }
@@ -117,7 +117,7 @@ pub fn inside_of(table: &Table, r: usize) -> usize
 // And behind the close of its step.
 pub fn after_of(table: &Table, r: usize) -> usize
     requires { r < 128 }
-    ensures { result ≡ afterIn table.now r }
+    ensures { result ≡ after_in table.now r }
 {
     number(table[1284 + r])
 }
@@ -146,8 +146,8 @@ fn link(table: &mut Table, class: usize, r: usize)
 
 // Adds rule r to the index of the rules behind it.
 fn add_rule(table: &mut Table, r: usize)
-    requires { (r < 128) × (left (ruleIn table.old r) < 32) }
-    ensures { table.new ≡ linked table.old (class_of (ruleIn table.old r)) r }
+    requires { (r < 128) × (left (rule_in table.old r) < 32) }
+    ensures { table.new ≡ linked table.old (class_of (rule_in table.old r)) r }
 {
     let rule = tables::rule_of(table, r);
     link(table, class_of(rule), r);
@@ -179,7 +179,7 @@ fn goal_of(low: bool, nonterminal: u16) -> u16
 
 fn inside_goal(rule: Rule, well: u16) -> u16
     requires { Below 32 rule }
-    ensures { result ≡ insideGoal well rule }
+    ensures { result ≡ inside_goal well rule }
 {
     match rule {
         Rule::Empty(_) => 0,
@@ -190,7 +190,7 @@ fn inside_goal(rule: Rule, well: u16) -> u16
 
 fn after_goal(rule: Rule, well: u16) -> u16
     requires { Below 32 rule }
-    ensures { result ≡ afterGoal well rule }
+    ensures { result ≡ after_goal well rule }
 {
     match rule {
         Rule::Empty(_) => 0,
@@ -201,8 +201,8 @@ fn after_goal(rule: Rule, well: u16) -> u16
 
 // Writes down the digits that rule r asks for.
 fn put_goals(table: &mut Table, r: usize, well: u16)
-    requires { (r < 128) × Below 32 (ruleIn table.old r) }
-    ensures { table.new ≡ withGoals table.old r (insideGoal well (ruleIn table.old r)) (afterGoal well (ruleIn table.old r)) }
+    requires { (r < 128) × Below 32 (rule_in table.old r) }
+    ensures { table.new ≡ with_goals table.old r (inside_goal well (rule_in table.old r)) (after_goal well (rule_in table.old r)) }
 {
     let rule = tables::rule_of(table, r);
     table[1156 + r] = inside_goal(rule, well);
@@ -225,7 +225,7 @@ fn add_goals(table: &mut Table, head: Head)
 // The word, with the nonterminal where that has an empty rule.
 fn with_end(table: &Table, rules: usize, word: u32, nonterminal: usize) -> u32
     requires { nonterminal < 32 }
-    ensures { result ≡ withEnd table.now rules word nonterminal }
+    ensures { result ≡ with_end table.now rules word nonterminal }
 {
     if end_of(table, nonterminal) < rules {
         return bits::with(word, nonterminal);
@@ -250,7 +250,7 @@ fn ends_of(table: &Table, rules: usize, n: usize) -> u32
 // Writes a word of 32 digits.
 fn put_word(table: &mut Table, i: usize, word: u32)
     requires { i < 1155 }
-    ensures { table.new ≡ withWord table.old i word }
+    ensures { table.new ≡ with_word table.old i word }
 {
     table[i] = (word % 65536) as u16;
     table[i + 1] = (word / 65536) as u16;

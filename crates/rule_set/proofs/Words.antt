@@ -12,14 +12,14 @@ use lib.Dec.{eqb, ltb}
 use lib.ListN.{length, get_or, replicate, length-set, drop_of_length-le}
 use lib.Pow.{pow_pos}
 use lib.Seq.{get_or-set_same, get_or-set_other, ext_get_or, sets, sets-eq}
-use Rattle.bits.specs.Bit.{bit, addBit}
-use Rattle.bits.proofs.Bits.{bit-zero, bit-add, add-below}
+use Rattle.bits.specs.Bit.{bit, add_bit}
+use Rattle.bits.proofs.Bits.{bit-zero, bit-add, add_below}
 use Rattle.sets_theory.specs.believed.Sets.{word_of}
-use Rattle.sets_theory.proofs.Words.{word-is}
-use Rattle.rule_set.specs.Words.{bitIn, addIn, Held}
+use Rattle.sets_theory.proofs.Words.{word_is}
+use Rattle.rule_set.specs.Words.{bit_in, add_in, Held}
 
-pub add-length : (W : ℕ) (ws : List ℕ) (r : ℕ) → length (addIn W ws r) ≡ length ws
-add-length W ws r = length-set ws (r / W) (addBit (get_or ws (r / W) 0) (r % W))
+pub add-length : (W : ℕ) (ws : List ℕ) (r : ℕ) → length (add_in W ws r) ≡ length ws
+add-length W ws r = length-set ws (r / W) (add_bit (get_or ws (r / W) 0) (r % W))
 
 -- ── all words at once ──
 
@@ -35,40 +35,40 @@ stored vs ws e = sets-eq vs ws 0 (omega arith) ∙ rw (drop_of_length-le ws {i =
 -- ── several words ──
 
 module _ (W : ℕ) where
-  same-digit : (k r : ℕ) → k / W ≡ r / W → eqb (k % W) (r % W) ≡ eqb k r
-  same-digit k r e = go (eqb k r) refl
+  same_digit : (k r : ℕ) → k / W ≡ r / W → eqb (k % W) (r % W) ≡ eqb k r
+  same_digit k r e = go (eqb k r) refl
     where
       go : (b : Bool) → eqb k r ≡ b → eqb (k % W) (r % W) ≡ b
       go true q = eq-eqb (k % W) (r % W) (ap (λ (x : ℕ). x % W) (eqb-true k r q))
       go false q = ne_eqb (k % W) (r % W) (λ d. let i : k / W * W + k % W ≡ r / W * W + r % W = rw (e, d) in eqb-false k r q (sym (div-add-mod' k W) ∙ i ∙ div-add-mod' r W))
 
-  pub bit-in-add : (ws : List ℕ) (r k : ℕ) → r / W < length ws → bitIn W (addIn W ws r) k ≡ (bitIn W ws k || eqb k r)
-  bit-in-add ws r k h = go (eqb (k / W) (r / W)) refl
+  pub bit_in-add : (ws : List ℕ) (r k : ℕ) → r / W < length ws → bit_in W (add_in W ws r) k ≡ (bit_in W ws k || eqb k r)
+  bit_in-add ws r k h = go (eqb (k / W) (r / W)) refl
     where
       m : ℕ
       m = get_or ws (r / W) 0
 
-      go : (b : Bool) → eqb (k / W) (r / W) ≡ b → bitIn W (addIn W ws r) k ≡ (bitIn W ws k || eqb k r)
+      go : (b : Bool) → eqb (k / W) (r / W) ≡ b → bit_in W (add_in W ws r) k ≡ (bit_in W ws k || eqb k r)
       go true q =
           let e : k / W ≡ r / W = eqb-true _ _ q in
-          rw (e, get_or-set_same ws (r / W) (addBit m (r % W)) 0 h) (bit-add m (r % W) (k % W) ∙ ap (λ (x : Bool). bit m (k % W) || x) (same-digit k r e))
+          rw (e, get_or-set_same ws (r / W) (add_bit m (r % W)) 0 h) (bit-add m (r % W) (k % W) ∙ ap (λ (x : Bool). bit m (k % W) || x) (same_digit k r e))
       go false q =
           let d : k / W ≢ r / W = eqb-false _ _ q in
-          rw (get_or-set_other ws (r / W) (k / W) (addBit m (r % W)) 0 d, ne_eqb k r (λ e. d (ap (λ (x : ℕ). x / W) e))) (sym (or-false _))
+          rw (get_or-set_other ws (r / W) (k / W) (add_bit m (r % W)) 0 d, ne_eqb k r (λ e. d (ap (λ (x : ℕ). x / W) e))) (sym (or-false _))
 
   pub held_none : (f : ℕ → Bool) (k : ℕ) → Held W 0 f (replicate k 0)
   held_none f k = record { small = λ i. rw (zeros k i) (pow_pos W); digits = λ r. rw (zeros k (r / W), le-ltb r 0 (omega arith)) (bit-zero (r % W)) }
 
   -- a number more, and no word is too large
-  pub add_small : (ws : List ℕ) (r : ℕ) → 0 < W → r / W < length ws → ((k : ℕ) → get_or ws k 0 < 2 ^ W) → (k : ℕ) → get_or (addIn W ws r) k 0 < 2 ^ W
+  pub add_small : (ws : List ℕ) (r : ℕ) → 0 < W → r / W < length ws → ((k : ℕ) → get_or ws k 0 < 2 ^ W) → (k : ℕ) → get_or (add_in W ws r) k 0 < 2 ^ W
   add_small ws r pos room small k = go (eqb k (r / W)) refl
     where
-      go : (b : Bool) → eqb k (r / W) ≡ b → get_or (addIn W ws r) k 0 < 2 ^ W
-      go true e = rw (eqb-true k (r / W) e, get_or-set_same ws (r / W) (addBit (get_or ws (r / W) 0) (r % W)) 0 room) (add-below W (get_or ws (r / W) 0) (r % W) (small (r / W)) (mod-lt r pos))
-      go false e = rw (get_or-set_other ws (r / W) k (addBit (get_or ws (r / W) 0) (r % W)) 0 (eqb-false k (r / W) e)) (small k)
+      go : (b : Bool) → eqb k (r / W) ≡ b → get_or (add_in W ws r) k 0 < 2 ^ W
+      go true e = rw (eqb-true k (r / W) e, get_or-set_same ws (r / W) (add_bit (get_or ws (r / W) 0) (r % W)) 0 room) (add_below W (get_or ws (r / W) 0) (r % W) (small (r / W)) (mod-lt r pos))
+      go false e = rw (get_or-set_other ws (r / W) k (add_bit (get_or ws (r / W) 0) (r % W)) 0 (eqb-false k (r / W) e)) (small k)
 
-  pub held_with : (n : ℕ) (f : ℕ → Bool) (ws : List ℕ) → 0 < W → n / W < length ws → f n ≡ true → Held W n f ws → Held W (suc n) f (addIn W ws n)
-  held_with n f ws pos room q h = record { small = add_small ws n pos room h.small; digits = λ r. bit-in-add ws n r room ∙ rw (h.digits r) (digit r (eqb r n) refl) }
+  pub held_with : (n : ℕ) (f : ℕ → Bool) (ws : List ℕ) → 0 < W → n / W < length ws → f n ≡ true → Held W n f ws → Held W (suc n) f (add_in W ws n)
+  held_with n f ws pos room q h = record { small = add_small ws n pos room h.small; digits = λ r. bit_in-add ws n r room ∙ rw (h.digits r) (digit r (eqb r n) refl) }
     where
       digit : (r : ℕ) (b : Bool) → eqb r n ≡ b → ((ltb r n && f r) || b) ≡ (ltb r (suc n) && f r)
       digit r true e = let i = eqb-true r n e in or-true (ltb r n && f r) ∙ sym (rw (lt-ltb r (suc n) (omega arith), i, q))
@@ -82,8 +82,8 @@ module _ (W : ℕ) where
               go (inl i) d = absurd (d (sym i))
               go (inr i) d = i
 
-  pub held-without : (n : ℕ) (f : ℕ → Bool) (ws : List ℕ) → f n ≡ false → Held W n f ws → Held W (suc n) f ws
-  held-without n f ws q h = record { small = h.small; digits = λ r. h.digits r ∙ digit r (ltb r n) refl }
+  pub held_without : (n : ℕ) (f : ℕ → Bool) (ws : List ℕ) → f n ≡ false → Held W n f ws → Held W (suc n) f ws
+  held_without n f ws q h = record { small = h.small; digits = λ r. h.digits r ∙ digit r (ltb r n) refl }
     where
       digit : (r : ℕ) (b : Bool) → ltb r n ≡ b → (b && f r) ≡ (ltb r (suc n) && f r)
       digit r true e = rw (lt-ltb r (suc n) (omega (arith, ltb-true r n e)))
@@ -91,7 +91,7 @@ module _ (W : ℕ) where
 
   -- word k has the digits W k to W k + W - 1
   pub held_word : (n : ℕ) (f : ℕ → Bool) (ws : List ℕ) → Held W n f ws → (k : ℕ) → get_or ws k 0 ≡ word_of W (λ b. ltb (W * k + b) n && f (W * k + b))
-  held_word n f ws h k = word-is W (get_or ws k 0) _ (h.small k) digit
+  held_word n f ws h k = word_is W (get_or ws k 0) _ (h.small k) digit
     where
       digit : (b : ℕ) → b < W → bit (get_or ws k 0) b ≡ (ltb (W * k + b) n && f (W * k + b))
       digit b l = sym (rw (mul_comm W k, digits_div k l, digits_mod k l)) ∙ h.digits (W * k + b)

@@ -2,14 +2,14 @@
 ghost use Rattle.std.specs.Prelude.{◌≡◌, ◌*◌, ◌<◌, ◌≤◌, length, replicate};
 ghost use Rattle.bits.specs.Bit.{bit};
 ghost use Rattle.vpg.specs.believed.Grammar.{left};
-ghost use Rattle.tables.specs.Table.{ruleIn};
+ghost use Rattle.tables.specs.Table.{rule_in};
 ghost use Rattle.tables.specs.Ready.{Below};
 ghost use Rattle.rule_index.specs.Index.{Indexed};
 ghost use Rattle.contexts.specs.declared.Context.{Context};
 ghost use Rattle.contexts.specs.Context.{AtKind};
-ghost use Rattle.rule_set.specs.Words.{addIn};
-ghost use Rattle.rule_set.specs.Ends.{endWays, Among, Only};
-ghost use Rattle.rule_set.specs.RuleSet.{keepsAt, nextWith, behindWith, sumWith, waysWith, waysTurn, noWays, waysIn, words_in};
+ghost use Rattle.rule_set.specs.Words.{add_in};
+ghost use Rattle.rule_set.specs.Ends.{end_ways, Among, Only};
+ghost use Rattle.rule_set.specs.RuleSet.{keeps_at, next_with, behind_with, sum_with, ways_with, ways_turn, no_ways, ways_in, words_in};
 
 use contexts::Context;
 use tables::{Head, Table};
@@ -27,16 +27,16 @@ pub struct Ways {
 
 // Whether the nonterminal of rule r can stand here.
 fn left_here(here: u32, table: &Table, r: usize) -> bool
-    requires { (r < 128) × Below 32 (ruleIn table.now r) }
-    ensures { result ≡ bit here (left (ruleIn table.now r)) }
+    requires { (r < 128) × Below 32 (rule_in table.now r) }
+    ensures { result ≡ bit here (left (rule_in table.now r)) }
 {
     bits::has(here, tables::left_in(table, r) as usize)
 }
 
 // And rule r too, which stands at tokens of this kind. Of the rules of a token's class most can: that is asked last.
 fn keeps(here: u32, table: &Table, head: Head, r: usize, context: Context) -> bool
-    requires { Indexed table.now head × (r < head.rules) × AtKind (ruleIn table.now r) context.kind }
-    ensures { result ≡ keepsAt head.well here context (ruleIn table.now r) }
+    requires { Indexed table.now head × (r < head.rules) × AtKind (rule_in table.now r) context.kind }
+    ensures { result ≡ keeps_at head.well here context (rule_in table.now r) }
 {
     if left_here(here, table, r) {
         contexts::takes(table, head, r, context)
@@ -48,7 +48,7 @@ fn keeps(here: u32, table: &Table, head: Head, r: usize, context: Context) -> bo
 // The same of any rule.
 fn keeps_any(here: u32, table: &Table, head: Head, r: usize, context: Context) -> bool
     requires { Indexed table.now head × (r < head.rules) }
-    ensures { result ≡ keepsAt head.well here context (ruleIn table.now r) }
+    ensures { result ≡ keeps_at head.well here context (rule_in table.now r) }
 {
     if left_here(here, table, r) {
         contexts::applies(table, head, r, context)
@@ -60,7 +60,7 @@ fn keeps_any(here: u32, table: &Table, head: Head, r: usize, context: Context) -
 // The nonterminals at the next position, with the rule's.
 fn next_with(set: u32, rule: Rule) -> u32
     requires { Below 32 rule }
-    ensures { result ≡ nextWith set rule }
+    ensures { result ≡ next_with set rule }
 {
     match rule {
         Rule::Empty(_) => set,
@@ -72,7 +72,7 @@ fn next_with(set: u32, rule: Rule) -> u32
 // The nonterminals behind the close, with the rule's.
 fn behind_with(set: u32, rule: Rule) -> u32
     requires { Below 32 rule }
-    ensures { result ≡ behindWith set rule }
+    ensures { result ≡ behind_with set rule }
 {
     match rule {
         Rule::Empty(_) => set,
@@ -84,7 +84,7 @@ fn behind_with(set: u32, rule: Rule) -> u32
 // Adds rule r to the set of rules.
 fn add(words: &mut [u32], r: usize)
     requires { (length words.old ≡ 4) × (r < 128) }
-    ensures { words.new ≡ addIn 32 words.old r }
+    ensures { words.new ≡ add_in 32 words.old r }
 {
     words[r / 32] = bits::with(words[r / 32], r % 32);
 }
@@ -92,7 +92,7 @@ fn add(words: &mut [u32], r: usize)
 // The sum with one rule more, which is for l. 128 rules add at most 2^39.
 fn sum_with(sum: u64, l: usize) -> u64
     requires { (l < 32) × (sum ≤ 549755813888) }
-    ensures { result ≡ sumWith sum l }
+    ensures { result ≡ sum_with sum l }
 {
     let one = bits::with(0, l);
     sum + one as u64
@@ -100,9 +100,9 @@ fn sum_with(sum: u64, l: usize) -> u64
 
 // The ways on, with those of rule r of the set.
 fn ways_with(ways: Ways, table: &Table, r: usize) -> Ways
-    requires r_bound { (r < 128) × Below 32 (ruleIn table.now r) }
+    requires r_bound { (r < 128) × Below 32 (rule_in table.now r) }
     requires sum_bound { ways.sum ≤ r * 4294967296 }
-    ensures { result ≡ waysWith ways (ruleIn table.now r) }
+    ensures { result ≡ ways_with ways (rule_in table.now r) }
 {
     let l = tables::left_in(table, r) as usize;
     let rule = tables::rule_of(table, r);
@@ -114,7 +114,7 @@ fn ways_with(ways: Ways, table: &Table, r: usize) -> Ways
 
 // None of them yet.
 fn no_ways() -> Ways
-    ensures { result ≡ noWays }
+    ensures { result ≡ no_ways }
 {
     Ways {
         sum: 0,
@@ -138,7 +138,7 @@ fn clear(words: &mut [u32])
 fn class_set(table: &Table, head: Head, here: u32, context: Context, words: &mut [u32]) -> Ways
     requires indexed { Indexed table.now head × (context.kind < 2) }
     requires words_len { length words.old ≡ 4 }
-    ensures { (result ≡ waysIn head.well table.now here context head.rules) × (words.new ≡ words_in head.well table.now here context head.rules) }
+    ensures { (result ≡ ways_in head.well table.now here context head.rules) × (words.new ≡ words_in head.well table.now here context head.rules) }
 {
     let count = head.rules;
     clear(words);
@@ -175,7 +175,7 @@ fn ends_words(table: &Table, head: Head, here: u32, ends: u32, words: &mut [u32]
 
 // The ways on there: these rules lead nowhere, and no two are for one nonterminal.
 fn ends_ways(here: u32, ends: u32) -> Ways
-    ensures { result ≡ endWays here ends }
+    ensures { result ≡ end_ways here ends }
 {
     let both = here & ends;
     Ways {
@@ -189,7 +189,7 @@ fn ends_ways(here: u32, ends: u32) -> Ways
 fn all_set(table: &Table, head: Head, here: u32, context: Context, words: &mut [u32]) -> Ways
     requires indexed { Indexed table.now head }
     requires words_len { length words.old ≡ 4 }
-    ensures { (result ≡ waysIn head.well table.now here context head.rules) × (words.new ≡ words_in head.well table.now here context head.rules) }
+    ensures { (result ≡ ways_in head.well table.now here context head.rules) × (words.new ≡ words_in head.well table.now here context head.rules) }
 {
     let count = head.rules;
     clear(words);
@@ -210,7 +210,7 @@ fn all_set(table: &Table, head: Head, here: u32, context: Context, words: &mut [
 fn close_set(table: &Table, head: Head, here: u32, context: Context, words: &mut [u32]) -> Ways
     requires indexed { Indexed table.now head × (2 ≤ context.kind) × (context.kind < 4) }
     requires words_len { length words.old ≡ 4 }
-    ensures { (result ≡ waysIn head.well table.now here context head.rules) × (words.new ≡ words_in head.well table.now here context head.rules) }
+    ensures { (result ≡ ways_in head.well table.now here context head.rules) × (words.new ≡ words_in head.well table.now here context head.rules) }
 {
     if contexts::first_here(table, context) < head.rules {
         return all_set(table, head, here, context, words);
@@ -224,7 +224,7 @@ fn close_set(table: &Table, head: Head, here: u32, context: Context, words: &mut
 pub fn set_at(table: &Table, head: Head, here: u32, context: Context, words: &mut [u32]) -> Ways
     requires indexed { Indexed table.now head }
     requires words_len { length words.old ≡ 4 }
-    ensures { (result ≡ waysIn head.well table.now here context head.rules) × (words.new ≡ words_in head.well table.now here context head.rules) }
+    ensures { (result ≡ ways_in head.well table.now here context head.rules) × (words.new ≡ words_in head.well table.now here context head.rules) }
 {
     if 4 <= context.kind {
         let ends = rule_index::ends(table);
@@ -239,9 +239,9 @@ pub fn set_at(table: &Table, head: Head, here: u32, context: Context, words: &mu
 
 // The ways on, with those of rule r, which stands at tokens of this kind, where it is in the set.
 fn ways_turn(ways: Ways, here: u32, table: &Table, head: Head, r: usize, context: Context) -> Ways
-    requires indexed { Indexed table.now head × (r < head.rules) × AtKind (ruleIn table.now r) context.kind }
+    requires indexed { Indexed table.now head × (r < head.rules) × AtKind (rule_in table.now r) context.kind }
     requires sum_bound { ways.sum ≤ r * 4294967296 }
-    ensures { result ≡ waysTurn head.well ways here context (ruleIn table.now r) }
+    ensures { result ≡ ways_turn head.well ways here context (rule_in table.now r) }
 {
     if keeps(here, table, head, r, context) {
         ways_with(ways, table, r)
@@ -253,7 +253,7 @@ fn ways_turn(ways: Ways, here: u32, table: &Table, head: Head, r: usize, context
 // The ways on at a mark or an open.
 fn class_ways(table: &Table, head: Head, here: u32, context: Context) -> Ways
     requires { Indexed table.now head × (context.kind < 2) }
-    ensures { result ≡ waysIn head.well table.now here context head.rules }
+    ensures { result ≡ ways_in head.well table.now here context head.rules }
 {
     let count = head.rules;
     let mut ways = no_ways();
@@ -268,7 +268,7 @@ fn class_ways(table: &Table, head: Head, here: u32, context: Context) -> Ways
 // The ways on at a close that a rule takes alone.
 fn all_ways(table: &Table, head: Head, here: u32, context: Context) -> Ways
     requires { Indexed table.now head }
-    ensures { result ≡ waysIn head.well table.now here context head.rules }
+    ensures { result ≡ ways_in head.well table.now here context head.rules }
 {
     let count = head.rules;
     let mut ways = no_ways();
@@ -286,7 +286,7 @@ fn all_ways(table: &Table, head: Head, here: u32, context: Context) -> Ways
 // The ways on at a close.
 fn close_ways(table: &Table, head: Head, here: u32, context: Context) -> Ways
     requires { Indexed table.now head × (2 ≤ context.kind) × (context.kind < 4) }
-    ensures { result ≡ waysIn head.well table.now here context head.rules }
+    ensures { result ≡ ways_in head.well table.now here context head.rules }
 {
     if contexts::first_here(table, context) < head.rules {
         return all_ways(table, head, here, context);
@@ -297,7 +297,7 @@ fn close_ways(table: &Table, head: Head, here: u32, context: Context) -> Ways
 // The ways on alone, where nobody asks for the set.
 pub fn ways_at(table: &Table, head: Head, here: u32, context: Context) -> Ways
     requires { Indexed table.now head }
-    ensures { result ≡ waysIn head.well table.now here context head.rules }
+    ensures { result ≡ ways_in head.well table.now here context head.rules }
 {
     if 4 <= context.kind {
         return ends_ways(here, rule_index::ends(table));

@@ -13,7 +13,7 @@ use Rattle.numbers.specs.declared.FieldRead.{FieldRead}
 use Rattle.numbers.specs.declared.FieldRead.TheVariants.{Field, Refused as FieldRefused}
 use Rattle.numbers.specs.believed.Field.{field_at}
 use Rattle.numbers.specs.Written.{NumbersAt, none, one}
-use Rattle.numbers.proofs.Fields.{field-read, field-reads}
+use Rattle.numbers.proofs.Fields.{field_read, field_reads}
 use Rattle.numbers.proofs.Standing.{none_left, one_left}
 use Rattle.vpg.specs.declared.Rule.{Rule}
 use Rattle.vpg.specs.declared.Token.{Token}
@@ -21,16 +21,16 @@ use Rattle.rules.specs.declared.PairRead.{PairRead}
 use Rattle.rules.specs.declared.PairRead.TheVariants.{Pair, Refused as PairRefused}
 use Rattle.rules.specs.declared.RuleRead.{RuleRead}
 use Rattle.rules.specs.declared.RuleRead.TheVariants.{Read}
-use Rattle.rules.specs.believed.Rule.{names, forms, first, second, pair_at, after, stepAt, body_at, ruleAt}
-use Rattle.rules.specs.RuleNumbers.{ruleNumbers, Fits}
+use Rattle.rules.specs.believed.Rule.{names, forms, first, second, pair_at, after, step_at, body_at, rule_at}
+use Rattle.rules.specs.RuleNumbers.{rule_numbers, Fits}
 
 first_read : (f : FieldRead) (rest : ℕ → ℕ → PairRead) {a b next : ℕ} → first f rest ≡ Pair a b next → (m p : ℕ) × (f ≡ Field m p) × (rest m p ≡ Pair a b next)
 first_read (Field m p) rest h = (m, p, refl, h)
 first_read (FieldRefused e) rest h = absurd (let z : ◌≡◌ {A = ℕ} 0 1 = cc in omega arith)
 
-second-read : (m : ℕ) (f : FieldRead) {a b next : ℕ} → second m f ≡ Pair a b next → (m ≡ a) × (f ≡ Field b next)
-second-read m (Field n p) h = (cc, cc)
-second-read m (FieldRefused e) h = absurd (let z : ◌≡◌ {A = ℕ} 0 1 = cc in omega arith)
+second_read : (m : ℕ) (f : FieldRead) {a b next : ℕ} → second m f ≡ Pair a b next → (m ≡ a) × (f ≡ Field b next)
+second_read m (Field n p) h = (cc, cc)
+second_read m (FieldRefused e) h = absurd (let z : ◌≡◌ {A = ℕ} 0 1 = cc in omega arith)
 
 after_read : (f : PairRead) (rest : ℕ → ℕ → ℕ → RuleRead) {r : Rule} {next : ℕ} →
     after f rest ≡ Read r next → (a b p : ℕ) × (f ≡ Pair a b p) × (rest a b p ≡ Read r next)
@@ -44,21 +44,21 @@ module _ (number : ℕ → NumberRead) (nonterminals : ℕ) where
     one : number at ≡ Number a middle
     two : number middle ≡ Number b next
     one_below : a < limit
-    two-below : b < nonterminals
+    two_below : b < nonterminals
 
   pair_read : (at limit e a b next : ℕ) → pair_at number at limit e nonterminals ≡ Pair a b next → PairIs at limit a b next
   unfolding pair_at
   pair_read at limit e a b next h =
       let f = first_read (field_at number at limit e) _ h in
-      let s = second-read f.0 (field_at number f.1 nonterminals 6) f.3 in
-      let l = field-read number at limit e a f.1 (rw s.0 at f.2) in
-      let m = field-read number f.1 nonterminals 6 b next s.1 in
-      record { middle = f.1; one = l.read; two = m.read; one_below = l.below; two-below = m.below }
+      let s = second_read f.0 (field_at number f.1 nonterminals 6) f.3 in
+      let l = field_read number at limit e a f.1 (rw s.0 at f.2) in
+      let m = field_read number f.1 nonterminals 6 b next s.1 in
+      record { middle = f.1; one = l.read; two = m.read; one_below = l.below; two_below = m.below }
 
   pair_reads : (at limit e a b next : ℕ) → PairIs at limit a b next → pair_at number at limit e nonterminals ≡ Pair a b next
   unfolding pair_at
   pair_reads at limit e a b next p =
-      rw (field-reads number at limit e a p.middle p.one p.one_below, field-reads number p.middle nonterminals 6 b next p.two p.two-below)
+      rw (field_reads number at limit e a p.middle p.one p.one_below, field_reads number p.middle nonterminals 6 b next p.two p.two_below)
 
   -- the two numbers, before others
   stand : {at limit a b p next : ℕ} {ns : List ℕ} → PairIs at limit a b p → NumbersAt number p ns next → NumbersAt number at (a ∷ b ∷ ns) next
@@ -69,14 +69,14 @@ module _ (number : ℕ → NumberRead) (nonterminals : ℕ) where
   split limit n h k =
       let f = one_left n in
       let s = one_left f.2 in
-      (s.0, record { middle = f.0; one = f.1; two = s.1; one_below = h; two-below = k }, s.2)
+      (s.0, record { middle = f.0; one = f.1; two = s.1; one_below = h; two_below = k }, s.2)
 
   abbrev RuleIs : ℕ → Rule → ℕ → Type 0
-  RuleIs at r next = NumbersAt number at (ruleNumbers r) next × Fits nonterminals r
+  RuleIs at r next = NumbersAt number at (rule_numbers r) next × Fits nonterminals r
 
-  body-read : (at form from p next : ℕ) (r : Rule) → PairIs at forms form from p → (form ≡ 0 → ⊥) → body_at number p nonterminals form from ≡ Read r next → RuleIs at r next
-  unfolding body_at stepAt
-  body-read at form from p next r i some h =
+  body_read : (at form from p next : ℕ) (r : Rule) → PairIs at forms form from p → (form ≡ 0 → ⊥) → body_at number p nonterminals form from ≡ Read r next → RuleIs at r next
+  unfolding body_at step_at
+  body_read at form from p next r i some h =
       let f = after_read (pair_at number p names 7 nonterminals) _ h in
       go f.0 f.1 f.2 (pair_read p names 7 f.0 f.1 f.2 f.3) (eqb form 1) refl f.4
     where
@@ -84,26 +84,26 @@ module _ (number : ℕ → NumberRead) (nonterminals : ℕ) where
       mark name to q j is s =
           let e : Rule.Next from (Token.Mark (record { 0 = name })) to ≡ r = cc in
           let e' : q ≡ next = cc in
-          rw (← e', ← e) (stand (rw is at i) (stand j none), (i.two-below, j.one_below, j.two-below, tt))
+          rw (← e', ← e) (stand (rw is at i) (stand j none), (i.two_below, j.one_below, j.two_below, tt))
 
       step : (name to q close last u : ℕ) → PairIs p names name to q → PairIs q names close last u → form ≡ 2
           → Read (Rule.Step from (record { 0 = name }) to (record { 0 = close }) last) u ≡ Read r next → RuleIs at r next
       step name to q close last u j k is s =
           let e : Rule.Step from (record { 0 = name }) to (record { 0 = close }) last ≡ r = cc in
           let e' : u ≡ next = cc in
-          rw (← e', ← e) (stand (rw is at i) (stand j (stand k none)), (i.two-below, j.one_below, j.two-below, k.one_below, k.two-below))
+          rw (← e', ← e) (stand (rw is at i) (stand j (stand k none)), (i.two_below, j.one_below, j.two_below, k.one_below, k.two_below))
 
       go : (name to q : ℕ) → PairIs p names name to q → (t : Bool) → eqb form 1 ≡ t
-          → cond t (Read (Rule.Next from (Token.Mark (record { 0 = name })) to) q) (stepAt number q nonterminals from name to) ≡ Read r next → RuleIs at r next
+          → cond t (Read (Rule.Next from (Token.Mark (record { 0 = name })) to) q) (step_at number q nonterminals from name to) ≡ Read r next → RuleIs at r next
       go name to q j true t s = mark name to q j (eqb-true form 1 t) s
       go name to q j false t s =
           let f = after_read (pair_at number q names 7 nonterminals) _ s in
           let other = eqb-false form 1 t in
           step name to q f.0 f.1 f.2 j (pair_read q names 7 f.0 f.1 f.2 f.3) (omega arith) f.4
 
-  rule-read : (at : ℕ) (r : Rule) (next : ℕ) → ruleAt number at nonterminals ≡ Read r next → RuleIs at r next
-  unfolding ruleAt
-  rule-read at r next h =
+  rule_read : (at : ℕ) (r : Rule) (next : ℕ) → rule_at number at nonterminals ≡ Read r next → RuleIs at r next
+  unfolding rule_at
+  rule_read at r next h =
       let f = after_read (pair_at number at forms 5 nonterminals) _ h in
       go f.0 f.1 f.2 (pair_read at forms 5 f.0 f.1 f.2 f.3) (eqb f.0 0) refl f.4
     where
@@ -112,25 +112,25 @@ module _ (number : ℕ → NumberRead) (nonterminals : ℕ) where
       go form from p i true t s =
           let e : Rule.Empty from ≡ r = cc in
           let e' : p ≡ next = cc in
-          rw (← e', ← e) (stand (rw (eqb-true form 0 t) at i) none, i.two-below)
-      go form from p i false t s = body-read at form from p next r i (eqb-false form 0 t) s
+          rw (← e', ← e) (stand (rw (eqb-true form 0 t) at i) none, i.two_below)
+      go form from p i false t s = body_read at form from p next r i (eqb-false form 0 t) s
 
-  rule-reads : (at : ℕ) (r : Rule) (next : ℕ) → RuleIs at r next → ruleAt number at nonterminals ≡ Read r next
-  unfolding ruleAt body_at stepAt
-  rule-reads at (Rule.Empty l) next (n, h) =
+  rule_reads : (at : ℕ) (r : Rule) (next : ℕ) → RuleIs at r next → rule_at number at nonterminals ≡ Read r next
+  unfolding rule_at body_at step_at
+  rule_reads at (Rule.Empty l) next (n, h) =
       let f = split forms n (lit< tt) h in
       rw (pair_reads at forms 5 0 l f.0 f.1, none_left f.2)
-  rule-reads at (Rule.Next l (Token.Open a) l1) next (n, h) = absurd h.3
-  rule-reads at (Rule.Next l (Token.Close b) l1) next (n, h) = absurd h.3
-  rule-reads at (Rule.Next l (Token.Mark c) l1) next (n, h) =
+  rule_reads at (Rule.Next l (Token.Open a) l1) next (n, h) = absurd h.3
+  rule_reads at (Rule.Next l (Token.Close b) l1) next (n, h) = absurd h.3
+  rule_reads at (Rule.Next l (Token.Mark c) l1) next (n, h) =
       let f = split forms n (lit< tt) h.0 in
       let s = split names f.2 h.1 h.2 in
       rw (pair_reads at forms 5 1 l f.0 f.1, pair_reads f.0 names 7 c.0 l1 s.0 s.1, none_left s.2)
-  rule-reads at (Rule.Step l a l1 b l2) next (n, h) =
+  rule_reads at (Rule.Step l a l1 b l2) next (n, h) =
       let f = split forms n (lit< tt) h.0 in
       let s = split names f.2 h.1 h.2 in
       let u = split names s.2 h.3 h.4 in
       rw (pair_reads at forms 5 2 l f.0 f.1, pair_reads f.0 names 7 a.0 l1 s.0 s.1, pair_reads s.0 names 7 b.0 l2 u.0 u.1, none_left u.2)
 
-  pub rule-is : (at : ℕ) (r : Rule) (next : ℕ) → (ruleAt number at nonterminals ≡ Read r next) ↔ (NumbersAt number at (ruleNumbers r) next × Fits nonterminals r)
-  rule-is at r next = (rule-read at r next, rule-reads at r next)
+  pub rule_is : (at : ℕ) (r : Rule) (next : ℕ) → (rule_at number at nonterminals ≡ Read r next) ↔ (NumbersAt number at (rule_numbers r) next × Fits nonterminals r)
+  rule_is at r next = (rule_read at r next, rule_reads at r next)

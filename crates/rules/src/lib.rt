@@ -1,8 +1,8 @@
 // Reads one rule of a grammar file: one pair of numbers to a function, each of which ends in a call of the next.
 ghost use Rattle.std.specs.Prelude.{◌≡◌, ◌≤◌};
 ghost use Rattle.numbers.specs.believed.Number.{number_at};
-ghost use Rattle.rules.specs.Refusals.{refusalOfPair, refusalOfRule};
-ghost use Rattle.rules.specs.believed.Rule.{pair_at, stepAt, body_at, ruleAt};
+ghost use Rattle.rules.specs.Refusals.{refusal_of_pair, refusal_of_rule};
+ghost use Rattle.rules.specs.believed.Rule.{pair_at, step_at, body_at, rule_at};
 
 use numbers::FieldRead;
 use vpg::{CloseName, MarkName, OpenName, Rule, Token};
@@ -45,7 +45,7 @@ fn pair_at(s: &[u8], at: usize, limit: u32, refusal: u8, nonterminals: u16) -> P
 
 // The number of the refusal; 0 where there is none.
 fn pair_refusal(r: PairRead) -> u8
-    ensures { result ≡ refusalOfPair r }
+    ensures { result ≡ refusal_of_pair r }
 {
     match r {
         PairRead::Pair(_, _, _) => 0,
@@ -54,7 +54,7 @@ fn pair_refusal(r: PairRead) -> u8
 }
 
 pub fn rule_refusal(r: RuleRead) -> u8
-    ensures { result ≡ refusalOfRule r }
+    ensures { result ≡ refusal_of_rule r }
 {
     match r {
         RuleRead::Read(_, _) => 0,
@@ -64,7 +64,7 @@ pub fn rule_refusal(r: RuleRead) -> u8
 
 // The rest of a form 2 rule: b, then L2.
 fn step_at(s: &[u8], at: usize, nonterminals: u16, from: u16, name: u16, to: u16) -> RuleRead
-    ensures { result ≡ stepAt (number_at s.now) at nonterminals from name to }
+    ensures { result ≡ step_at (number_at s.now) at nonterminals from name to }
 {
     let read = pair_at(s, at, NAMES, 7, nonterminals);
     let PairRead::Pair(close, last, next) = read else {
@@ -92,7 +92,7 @@ fn body_at(s: &[u8], at: usize, nonterminals: u16, form: u16, from: u16) -> Rule
 }
 
 pub fn rule_at(s: &[u8], at: usize, nonterminals: u16) -> RuleRead
-    ensures { result ≡ ruleAt (number_at s.now) at nonterminals }
+    ensures { result ≡ rule_at (number_at s.now) at nonterminals }
 {
     let read = pair_at(s, at, FORMS, 5, nonterminals);
     let PairRead::Pair(form, from, next) = read else {

@@ -1,8 +1,8 @@
 // The opening of every service over the two files: both are read into lent arrays, the grammar first, the rules are indexed, and the buffer
 // is measured. Then the service goes by what the opening found, or hands on the number of the refusal.
 ghost use Rattle.std.specs.Prelude.{◌≤◌, ◌≡◌, replicate};
-ghost use Rattle.service.specs.believed.Opened.{filesIn};
-ghost use Rattle.service.specs.Opening.{OpenedIs, HistoryOpened, refusalOf};
+ghost use Rattle.service.specs.believed.Opened.{files_in};
+ghost use Rattle.service.specs.Opening.{OpenedIs, HistoryOpened, refusal_of};
 
 use grammar_file::GrammarAnswer;
 use history_file::{HistoryAnswer, TokenNumbers};
@@ -24,7 +24,7 @@ pub enum Opened {
 
 // The number of the refusal; 0 where there is none.
 pub fn refusal_of(r: Opened) -> u8
-    ensures { result ≡ refusalOf r }
+    ensures { result ≡ refusal_of r }
 {
     match r {
         Opened::Files(_, _) => 0,
@@ -65,7 +65,7 @@ pub fn open_files(
     tokens: &mut TokenNumbers,
 ) -> Opened
     requires { (table.old ≡ replicate 1412 0) × (tokens.old ≡ replicate 1024 0) × (each ≤ 255) }
-    ensures { OpenedIs each size (filesIn grammar.now history.now) result table.new tokens.new }
+    ensures { OpenedIs each size (files_in grammar.now history.now) result table.new tokens.new }
 {
     let read = grammar_file::read_grammar(grammar, table);
     match read {

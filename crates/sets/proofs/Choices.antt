@@ -6,26 +6,26 @@ use mathlib.Core.List.{List}
 use Rattle.vpg.specs.believed.Grammar.{Grammar, Reading}
 use Rattle.choice_theory.specs.Several.{Several}
 use Rattle.choice_theory.proofs.Choices.{several-count, none-count}
-use Rattle.sets_theory.specs.believed.Sets.{choiceCount}
-use Rattle.history_file.specs.believed.HistoryFile.{tokensOf}
+use Rattle.sets_theory.specs.believed.Sets.{choice_count}
+use Rattle.history_file.specs.believed.HistoryFile.{tokens_of}
 use Rattle.files.specs.believed.Files.{accepted}
 use Rattle.service.specs.believed.Given.{given}
-use Rattle.service.specs.believed.Opened.{filesIn}
-use Rattle.sets.specs.believed.Sets.{countDue}
+use Rattle.service.specs.believed.Opened.{files_in}
+use Rattle.sets.specs.believed.Sets.{count_due}
 
 -- what the service gives on two files that pass
 pub record Told (grammar history : List ℕ) (g : Grammar) (ts : List ℕ) : Type 0 where
   pub count : ℕ
-  pub said : countDue grammar history ≡ given count
+  pub said : count_due grammar history ≡ given count
   -- document 02, 2.5: "a history has more than one reading exactly when it has a choice"
-  pub several : Several g (tokensOf ts) ↔ (0 < count)
+  pub several : Several g (tokens_of ts) ↔ (0 < count)
   -- and with no reading there is none
-  pub none : ((e : List ℕ) → Reading g (tokensOf ts) e → ⊥) → count ≡ 0
+  pub none : ((e : List ℕ) → Reading g (tokens_of ts) e → ⊥) → count ≡ 0
 
-pub choices-told : (grammar history : List ℕ) (g : Grammar) (ts : List ℕ) → filesIn grammar history ≡ accepted g ts → Told grammar history g ts
+pub choices-told : (grammar history : List ℕ) (g : Grammar) (ts : List ℕ) → files_in grammar history ≡ accepted g ts → Told grammar history g ts
 choices-told grammar history g ts passed = record {
-  count = choiceCount g (tokensOf ts);
+  count = choice_count g (tokens_of ts);
   said = rw passed;
-  several = several-count g (tokensOf ts);
-  none = none-count g (tokensOf ts);
+  several = several-count g (tokens_of ts);
+  none = none-count g (tokens_of ts);
 }

@@ -1,11 +1,11 @@
 // The services sets and choice count, over the two files as bytes.
 ghost use Rattle.std.specs.Prelude.{◌≡◌, ◌++◌, ◌+◌, ◌*◌, ◌≤◌, length, drop};
-ghost use Rattle.sets_theory.specs.believed.Sets.{setWords, choiceCount};
-ghost use Rattle.tables.specs.Ready.{grammarIn};
+ghost use Rattle.sets_theory.specs.believed.Sets.{set_words, choice_count};
+ghost use Rattle.tables.specs.Ready.{grammar_in};
 ghost use Rattle.rule_index.specs.Index.{Indexed};
-ghost use Rattle.history_file.specs.believed.HistoryFile.{tokensOf};
+ghost use Rattle.history_file.specs.believed.HistoryFile.{tokens_of};
 ghost use Rattle.history_file.specs.HistoryTokens.{Tokens};
-ghost use Rattle.sets.specs.believed.Sets.{setsDue, countSaid, countDue};
+ghost use Rattle.sets.specs.believed.Sets.{sets_due, count_said, count_due};
 
 use service::Opened;
 use tables::{Head, Table};
@@ -21,7 +21,7 @@ fn sets_on(table: &Table, head: Head, tokens: &[u32], words: &mut [u32]) -> u32
     requires indexed { Indexed table.now head }
     requires tokens { Tokens tokens.now }
     requires tokens_in_bounds { 4 * (length tokens.now + 1) ≤ length words.old }
-    ensures { (result ≡ choiceCount (grammarIn table.now head) (tokensOf tokens.now)) × (words.new ≡ setWords (grammarIn table.now head) (tokensOf tokens.now) ++ drop (4 * (length tokens.now + 1)) words.old) }
+    ensures { (result ≡ choice_count (grammar_in table.now head) (tokens_of tokens.now)) × (words.new ≡ set_words (grammar_in table.now head) (tokens_of tokens.now) ++ drop (4 * (length tokens.now + 1)) words.old) }
 {
     let mut closes = [0u16; 1025];
     let mut masks = [0u64; 1025];
@@ -32,7 +32,7 @@ fn sets_on(table: &Table, head: Head, tokens: &[u32], words: &mut [u32]) -> u32
 fn choices_on(table: &Table, head: Head, tokens: &[u32]) -> u32
     requires indexed { Indexed table.now head }
     requires tokens { Tokens tokens.now }
-    ensures { result ≡ choiceCount (grammarIn table.now head) (tokensOf tokens.now) }
+    ensures { result ≡ choice_count (grammar_in table.now head) (tokens_of tokens.now) }
 {
     let mut closes = [0u16; 1025];
     let mut masks = [0u64; 1025];
@@ -42,7 +42,7 @@ fn choices_on(table: &Table, head: Head, tokens: &[u32]) -> u32
 
 // Writes four words for each position, the set of rules that stand there in some reading, and answers how many positions are choices.
 pub fn sets(grammar: &[u8], history: &[u8], words: &mut [u32]) -> CountAnswer
-    ensures { (countSaid result, words.new) ≡ setsDue grammar.now history.now words.old }
+    ensures { (count_said result, words.new) ≡ sets_due grammar.now history.now words.old }
 {
     let mut table = [0u16; 1412];
     let mut tokens = [0u32; 1024];
@@ -57,7 +57,7 @@ pub fn sets(grammar: &[u8], history: &[u8], words: &mut [u32]) -> CountAnswer
 
 // How many positions are choices: two rules of their set are for one nonterminal. No buffer is lent.
 pub fn choice_count(grammar: &[u8], history: &[u8]) -> CountAnswer
-    ensures { countSaid result ≡ countDue grammar.now history.now }
+    ensures { count_said result ≡ count_due grammar.now history.now }
 {
     let mut table = [0u16; 1412];
     let mut tokens = [0u32; 1024];

@@ -9,7 +9,7 @@ use lib.ListN.{length}
 use Rattle.vpg.specs.declared.Token.{Token}
 use Rattle.vpg.specs.believed.Grammar.{Grammar}
 use Rattle.sets_theory.specs.ChoiceTest.{choice}
-use Rattle.sets_theory.specs.believed.Sets.{one, count, choiceCount}
+use Rattle.sets_theory.specs.believed.Sets.{one, count, choice_count}
 
 count_most : (n : ℕ) (f : ℕ → Bool) → count n f ≤ n
 unfolding count
@@ -29,13 +29,13 @@ unfolding count
 choices-none = record { is = refl }
 
 module _ {g : Grammar} {w : List Token} {p total : ℕ} (d : Choices g w p total) where
-  pub choices-most : total ≤ p
-  choices-most = rw d.is (count_most p (choice g w))
+  pub choices_most : total ≤ p
+  choices_most = rw d.is (count_most p (choice g w))
 
   pub choices-next : {total' : ℕ} {b : Bool} → choice g w p ≡ b → total' ≡ one b + total → Choices g w (p + 1) total'
   unfolding count
   choices-next e q = record { is = q ∙ rw (d.is, ← e, add-one) }
 
-  pub choices-all : {n : ℕ} → length w ≡ n → p ≡ n + 1 → total ≡ choiceCount g w
-  unfolding choiceCount
+  pub choices-all : {n : ℕ} → length w ≡ n → p ≡ n + 1 → total ≡ choice_count g w
+  unfolding choice_count
   choices-all e q = d.is ∙ rw (q, e, add-one)

@@ -1,9 +1,9 @@
 // The cores of sets and of the choice count: one pass from left to right over the positions.
 ghost use Rattle.std.specs.Prelude.{◌≡◌, ◌++◌, ◌+◌, ◌*◌, ◌<◌, ◌≤◌, ltb, length, drop, get_or, set};
 ghost use Rattle.std.specs.Int.Bits.{bit_or};
-ghost use Rattle.sets_theory.specs.believed.Sets.{one, choiceCount, setWords};
-ghost use Rattle.tables.specs.Ready.{grammarIn};
-ghost use Rattle.history_file.specs.believed.HistoryFile.{tokensOf};
+ghost use Rattle.sets_theory.specs.believed.Sets.{one, choice_count, set_words};
+ghost use Rattle.tables.specs.Ready.{grammar_in};
+ghost use Rattle.history_file.specs.believed.HistoryFile.{tokens_of};
 ghost use Rattle.levels.specs.Levels.{Setting};
 ghost use Rattle.sets_core.specs.Start.{start_set};
 
@@ -57,7 +57,7 @@ pub fn sets(
 ) -> u32
     requires setting { Setting table.now head tokens.now closes.now masks.now }
     requires tokens_in_bounds { 4 * (length tokens.now + 1) ≤ length words.old }
-    ensures { (result ≡ choiceCount (grammarIn table.now head) (tokensOf tokens.now)) × (words.new ≡ setWords (grammarIn table.now head) (tokensOf tokens.now) ++ drop (4 * (length tokens.now + 1)) words.old) }
+    ensures { (result ≡ choice_count (grammar_in table.now head) (tokens_of tokens.now)) × (words.new ≡ set_words (grammar_in table.now head) (tokens_of tokens.now) ++ drop (4 * (length tokens.now + 1)) words.old) }
 {
     let n = tokens.len();
     let mut behind = [0u32; 1025];
@@ -78,7 +78,7 @@ pub fn sets(
 // How many positions are choices, where nobody asks for the sets.
 pub fn choices(table: &Table, head: Head, tokens: &[u32], closes: &Closes, masks: &Masks) -> u32
     requires { Setting table.now head tokens.now closes.now masks.now }
-    ensures { result ≡ choiceCount (grammarIn table.now head) (tokensOf tokens.now) }
+    ensures { result ≡ choice_count (grammar_in table.now head) (tokens_of tokens.now) }
 {
     let mut behind = [0u32; 1025];
     let derives = levels::derives_all(masks, head);

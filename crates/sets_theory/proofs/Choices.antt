@@ -10,17 +10,17 @@ use mathlib.Core.List.{List, [], ◌∷◌}
 use mathlib.Core.Option.{Option, none, some}
 use borrow.Author.Tests.{eqb-true, eq-eqb}
 use lib.ListN.{length, get_elem?}
-use Rattle.laws.proofs.Any.{below-some, some_below}
+use Rattle.laws.proofs.Any.{below_some, some_below}
 use Rattle.laws.proofs.Bools.{both, and_left, and_right}
 use Rattle.laws.proofs.Lists.{trichotomy}
 use Rattle.vpg.specs.declared.Rule.{Rule}
 use Rattle.vpg.specs.declared.Token.{Token}
 use Rattle.vpg.specs.believed.Grammar.{Grammar, left}
-use Rattle.sets_theory.specs.ChoiceTest.{sameLeft, metBefore, choice}
+use Rattle.sets_theory.specs.ChoiceTest.{same_left, met_before, choice}
 use Rattle.sets_theory.specs.Counted.{Counted}
 use Rattle.sets_theory.specs.KeptTest.{kept}
-use Rattle.sets_theory.specs.believed.Sets.{KeptFor, Choice, one, count, choiceCount}
-use Rattle.sets_theory.proofs.Sets.{kept-is, kept-below}
+use Rattle.sets_theory.specs.believed.Sets.{KeptFor, Choice, one, count, choice_count}
+use Rattle.sets_theory.proofs.Sets.{kept_is, kept_below}
 
 -- ── one position ──
 
@@ -28,47 +28,47 @@ use Rattle.sets_theory.proofs.Sets.{kept-is, kept-below}
 record Alike (o o' : Option Rule) : Type 0 where
   first : Rule
   second : Rule
-  first-is : o ≡ some first
+  first_is : o ≡ some first
   second_is : o' ≡ some second
   same : left first ≡ left second
 
-alike : (o o' : Option Rule) → sameLeft o o' ≡ true → Alike o o'
+alike : (o o' : Option Rule) → same_left o o' ≡ true → Alike o o'
 alike none o h = absurd (false≢true h)
 alike (some R) none h = absurd (false≢true h)
-alike (some R) (some R') h = record { first = R; second = R'; first-is = refl; second_is = refl; same = eqb-true (left R) (left R') h }
+alike (some R) (some R') h = record { first = R; second = R'; first_is = refl; second_is = refl; same = eqb-true (left R) (left R') h }
 
 module _ (g : Grammar) (w : List Token) (p : ℕ) where
   -- a rule of the set, and one before it
   abbrev Second : ℕ → Bool
-  Second r = kept g w p r && metBefore g w p r
+  Second r = kept g w p r && met_before g w p r
 
   abbrev First : ℕ → ℕ → Bool
-  First r r' = kept g w p r' && sameLeft (get_elem? g.rules r') (get_elem? g.rules r)
+  First r r' = kept g w p r' && same_left (get_elem? g.rules r') (get_elem? g.rules r)
 
   two : (r : ℕ) → Second r ≡ true → Choice g w p
   two r h =
-      let b = below-some r (First r) (and_right (kept g w p r) (metBefore g w p r) h) in
+      let b = below_some r (First r) (and_right (kept g w p r) (met_before g w p r) h) in
       let r' = b.number in
       let a = alike (get_elem? g.rules r') (get_elem? g.rules r) (and_right (kept g w p r') _ b.passes) in (
         left a.second,
         r,
         r',
         λ e. omega (arith, e, b.small),
-        ((kept-is g w p r).0 (and_left (kept g w p r) (metBefore g w p r) h), (a.second, a.second_is, refl)),
-        ((kept-is g w p r').0 (and_left (kept g w p r') _ b.passes), (a.first, a.first-is, a.same)),
+        ((kept_is g w p r).0 (and_left (kept g w p r) (met_before g w p r) h), (a.second, a.second_is, refl)),
+        ((kept_is g w p r').0 (and_left (kept g w p r') _ b.passes), (a.first, a.first_is, a.same)),
       )
 
   found : {L r r' : ℕ} → r' < r → KeptFor g w p L r → KeptFor g w p L r' → choice g w p ≡ true
   unfolding choice
   found {L} {r} {r'} l (k, (R, e, q)) (k', (R', e', q')) =
-      let same : sameLeft (get_elem? g.rules r') (get_elem? g.rules r) ≡ true = rw (e, e') (eq-eqb (left R') (left R) (q' ∙ sym q)) in
-      some_below (length g.rules) Second r (kept-below g w p r k).0
-      (both ((kept-is g w p r).1 k) (some_below r (First r) r' l (both ((kept-is g w p r').1 k') same)))
+      let same : same_left (get_elem? g.rules r') (get_elem? g.rules r) ≡ true = rw (e, e') (eq-eqb (left R') (left R) (q' ∙ sym q)) in
+      some_below (length g.rules) Second r (kept_below g w p r k).0
+      (both ((kept_is g w p r).1 k) (some_below r (First r) r' l (both ((kept_is g w p r').1 k') same)))
 
   -- "its set holds two rules of one and the same stage"
-  pub choice-is : (choice g w p ≡ true) ↔ Choice g w p
+  pub choice_is : (choice g w p ≡ true) ↔ Choice g w p
   unfolding choice
-  choice-is = (λ h. let a = below-some (length g.rules) Second h in two a.number a.passes, λ c. go c (trichotomy c.1 c.2))
+  choice_is = (λ h. let a = below_some (length g.rules) Second h in two a.number a.passes, λ c. go c (trichotomy c.1 c.2))
     where
       go : (c : Choice g w p) → (c.1 ≡ c.2) ⊎ ((c.1 < c.2) ⊎ (c.2 < c.1)) → choice g w p ≡ true
       go c (inl e) = absurd (c.3 e)
@@ -78,8 +78,8 @@ module _ (g : Grammar) (w : List Token) (p : ℕ) where
   -- no choice stands past position n
   choice-within : choice g w p ≡ true → p < suc (length w)
   choice-within h =
-      let c = choice-is.0 h in
-      omega (arith, (kept-below g w p c.1 c.4.0).1)
+      let c = choice_is.0 h in
+      omega (arith, (kept_below g w p c.1 c.4.0).1)
 
 -- ── how many ──
 
@@ -112,13 +112,13 @@ counted (suc n) f = go (f n) refl (counted n f)
         }
 
 -- "the count of choices"
-pub choice-count-is : (g : Grammar) (w : List Token) → Counted (Choice g w) (choiceCount g w)
-unfolding choiceCount
-choice-count-is g w =
+pub choice_count_is : (g : Grammar) (w : List Token) → Counted (Choice g w) (choice_count g w)
+unfolding choice_count
+choice_count_is g w =
     let c = counted (suc (length w)) (choice g w) in
     record {
       numbers = c.numbers;
       distinct = c.distinct;
-      members = λ p. (λ m. (choice-is g w p).0 ((c.members p).0 m).1, λ h. let t = (choice-is g w p).1 h in (c.members p).1 (choice-within g w p t, t));
+      members = λ p. (λ m. (choice_is g w p).0 ((c.members p).0 m).1, λ h. let t = (choice_is g w p).1 h in (c.members p).1 (choice-within g w p t, t));
       size = c.size;
     }

@@ -1,5 +1,5 @@
 -- How many numbers have a property.
--- Law: choice-count-is (sets_theory/proofs/Choices.antt)
+-- Law: choice_count_is (sets_theory/proofs/Choices.antt)
 use Rattle.std.specs.Prelude.{ℕ, ◌≡◌, ◌↔◌, length}
 use mathlib.Core.List.{List, Memᴰ}
 use Rattle.laws.specs.Distinct.{Distinct}

@@ -12,7 +12,7 @@ use Rattle.numbers.specs.declared.NumberRead.TheVariants.{Number, Refused as Num
 use Rattle.numbers.specs.declared.FieldRead.{FieldRead}
 use Rattle.numbers.specs.declared.FieldRead.TheVariants.{Field, Refused as FieldRefused}
 use Rattle.numbers.specs.believed.Number.{Source}
-use Rattle.numbers.specs.believed.Field.{limited, field_at, positive, countAt}
+use Rattle.numbers.specs.believed.Field.{limited, field_at, positive, count_at}
 
 -- equal, or above every range
 abbrev pub SameBelow : ℕ → ℕ → ℕ → Type 0
@@ -31,7 +31,7 @@ pub record Alike (x y : Source) (limit : ℕ) (At : ℕ → ℕ → ℕ → Type
 
 -- a field below its limit in both
 pub data SameField (below : ℕ) (At : ℕ → ℕ → Type 0) : FieldRead → FieldRead → Type 0 where
-  both-fields : {n p q : ℕ} → n < below → At p q → SameField below At (Field n p) (Field n q)
+  both_fields : {n p q : ℕ} → n < below → At p q → SameField below At (Field n p) (Field n q)
   no_field : {e : ℕ} → SameField below At (FieldRefused e) (FieldRefused e)
 
 same-limited : (below e n p q : ℕ) (At : ℕ → ℕ → Type 0) → At p q
@@ -39,30 +39,30 @@ same-limited : (below e n p q : ℕ) (At : ℕ → ℕ → Type 0) → At p q
 same-limited below e n p q At a = go (ltb n below) refl
   where
     go : (b : Bool) → ltb n below ≡ b → SameField below At (cond b (Field n p) (FieldRefused e)) (cond b (Field n q) (FieldRefused e))
-    go true t = both-fields (ltb-true n below t) a
+    go true t = both_fields (ltb-true n below t) a
     go false t = no_field
 
-limited-alike : (limit below e : ℕ) (At : ℕ → ℕ → Type 0) → below ≤ limit → {r s : NumberRead} → SameNumber limit At r s
+limited_alike : (limit below e : ℕ) (At : ℕ → ℕ → Type 0) → below ≤ limit → {r s : NumberRead} → SameNumber limit At r s
     → SameField below At (limited r below e) (limited s below e)
-limited-alike limit below e At h (both {n} {m} {p} {q} (inl same) a) = rw same (same-limited below e m p q At a)
-limited-alike limit below e At h (both {n} {m} {p} {q} (inr (l, k)) a) = rw (le-ltb n below (omega arith), le-ltb m below (omega arith)) no_field
-limited-alike limit below e At h neither = no_field
+limited_alike limit below e At h (both {n} {m} {p} {q} (inl same) a) = rw same (same-limited below e m p q At a)
+limited_alike limit below e At h (both {n} {m} {p} {q} (inr (l, k)) a) = rw (le-ltb n below (omega arith), le-ltb m below (omega arith)) no_field
+limited_alike limit below e At h neither = no_field
 
-positive-alike : (below e : ℕ) (At : ℕ → ℕ → Type 0) {r s : FieldRead} → SameField below At r s → SameField below At (positive r e) (positive s e)
-positive-alike below e At (both-fields {n} {p} {q} h a) = go (eqb n 0)
+positive_alike : (below e : ℕ) (At : ℕ → ℕ → Type 0) {r s : FieldRead} → SameField below At r s → SameField below At (positive r e) (positive s e)
+positive_alike below e At (both_fields {n} {p} {q} h a) = go (eqb n 0)
   where
     go : (b : Bool) → SameField below At (cond b (FieldRefused e) (Field n p)) (cond b (FieldRefused e) (Field n q))
     go true = no_field
-    go false = both-fields h a
-positive-alike below e At no_field = no_field
+    go false = both_fields h a
+positive_alike below e At no_field = no_field
 
 module _ {x y : Source} {limit : ℕ} {At : ℕ → ℕ → ℕ → Type 0} (alike : Alike x y limit At) where
   pub field_alike : (k p q below e : ℕ) → below ≤ limit → At (suc k) p q
       → SameField below (At k) (field_at x.number p below e) (field_at y.number q below e)
   unfolding field_at
-  field_alike k p q below e h a = limited-alike limit below e (At k) h (alike.number k p q a)
+  field_alike k p q below e h a = limited_alike limit below e (At k) h (alike.number k p q a)
 
-  pub count-alike : (k p q most e : ℕ) → most + 1 ≤ limit → At (suc k) p q
-      → SameField (most + 1) (At k) (countAt x.number p most e) (countAt y.number q most e)
-  unfolding countAt
-  count-alike k p q most e h a = positive-alike (most + 1) e (At k) (field_alike k p q (most + 1) e h a)
+  pub count_alike : (k p q most e : ℕ) → most + 1 ≤ limit → At (suc k) p q
+      → SameField (most + 1) (At k) (count_at x.number p most e) (count_at y.number q most e)
+  unfolding count_at
+  count_alike k p q most e h a = positive_alike (most + 1) e (At k) (field_alike k p q (most + 1) e h a)

@@ -10,35 +10,35 @@ use borrow.Author.Tests.{ltb-true, ltb-false, lt-ltb, le-ltb}
 use lib.Dec.{ltb}
 use lib.ListN.{length, get_or, take, length-take}
 use lib.Seq.{get_or-take}
-use Rattle.laws.proofs.Bools.{chose-first}
+use Rattle.laws.proofs.Bools.{chose_first}
 use Rattle.numbers.specs.declared.NumberRead.{NumberRead}
 use Rattle.numbers.specs.declared.NumberRead.TheVariants.{Number, Refused}
-use Rattle.numbers.specs.believed.Number.{withGroup, numberWithin, number_at, bytes}
-use Rattle.numbers.proofs.Written.{apart, group-read}
-use Rattle.grammar_file.specs.believed.GrammarFile.{grammarOf}
-use Rattle.history_file.specs.believed.HistoryFile.{historyOf}
+use Rattle.numbers.specs.believed.Number.{with_group, number_within, number_at, bytes}
+use Rattle.numbers.proofs.Written.{apart, group_read}
+use Rattle.grammar_file.specs.believed.GrammarFile.{grammar_of}
+use Rattle.history_file.specs.believed.HistoryFile.{history_of}
 use Rattle.sources.proofs.Alike.{SameNumber, both, neither, Alike}
-use Rattle.sources.proofs.Grammars.{grammar-alike}
-use Rattle.sources.proofs.Histories.{history-alike}
+use Rattle.sources.proofs.Grammars.{grammar_alike}
+use Rattle.sources.proofs.Histories.{history_alike}
 
 -- a number has no more bytes than are allowed
-byte-near : (s : List ℕ) (most at n next : ℕ) (rest : NumberRead) → ((m : ℕ) → rest ≡ Number m next → next ≤ at + 1 + most)
-    → cond (ltb at (length s)) (cond (ltb (get_or s at 0) 128) (Number (get_or s at 0) (at + 1)) (withGroup (get_or s at 0 - 128) rest)) (Refused 1) ≡ Number n next
+byte_near : (s : List ℕ) (most at n next : ℕ) (rest : NumberRead) → ((m : ℕ) → rest ≡ Number m next → next ≤ at + 1 + most)
+    → cond (ltb at (length s)) (cond (ltb (get_or s at 0) 128) (Number (get_or s at 0) (at + 1)) (with_group (get_or s at 0 - 128) rest)) (Refused 1) ≡ Number n next
     → next ≤ at + suc most
-byte-near s most at n next rest behind h = go (ltb (get_or s at 0) 128) (chose-first (ltb at (length s)) _ _ apart h).1
+byte_near s most at n next rest behind h = go (ltb (get_or s at 0) 128) (chose_first (ltb at (length s)) _ _ apart h).1
   where
-    go : (t : Bool) → cond t (Number (get_or s at 0) (at + 1)) (withGroup (get_or s at 0 - 128) rest) ≡ Number n next → next ≤ at + suc most
+    go : (t : Bool) → cond t (Number (get_or s at 0) (at + 1)) (with_group (get_or s at 0 - 128) rest) ≡ Number n next → next ≤ at + suc most
     go true r = let e : at + 1 ≡ next = cc in omega arith
-    go false r = let (m, is, some, worth) = group-read (get_or s at 0 - 128) rest n next r in let l = behind m is in omega arith
+    go false r = let (m, is, some, worth) = group_read (get_or s at 0 - 128) rest n next r in let l = behind m is in omega arith
 
-near : (s : List ℕ) (most at n next : ℕ) → numberWithin most s at ≡ Number n next → next ≤ at + most
-unfolding numberWithin
+near : (s : List ℕ) (most at n next : ℕ) → number_within most s at ≡ Number n next → next ≤ at + most
+unfolding number_within
 near s zero at n next h = absurd (apart h)
-near s (suc most) at n next h = byte-near s most at n next (numberWithin most s (at + 1)) (λ m e. near s most (at + 1) m next e) h
+near s (suc most) at n next h = byte_near s most at n next (number_within most s (at + 1)) (λ m e. near s most (at + 1) m next e) h
 
-next-near : (s : List ℕ) (at n next : ℕ) → number_at s at ≡ Number n next → next ≤ at + 3
+next_near : (s : List ℕ) (at n next : ℕ) → number_at s at ≡ Number n next → next ≤ at + 3
 unfolding number_at
-next-near s at n next h = near s 3 at n next h
+next_near s at n next h = near s 3 at n next h
 
 module _ (s : List ℕ) (most : ℕ) where
   abbrev part : List ℕ
@@ -51,8 +51,8 @@ module _ (s : List ℕ) (most : ℕ) where
       go true e = let l = ltb-true p (length s) e in lt-ltb p (length part) (rw length-take (omega arith))
       go false e = let l = ltb-false p (length s) e in le-ltb p (length part) (rw length-take (omega arith))
 
-  same-within : (k p : ℕ) → p + k ≤ most → numberWithin k part p ≡ numberWithin k s p
-  unfolding numberWithin
+  same-within : (k p : ℕ) → p + k ≤ most → number_within k part p ≡ number_within k s p
+  unfolding number_within
   same-within zero p h = refl
   same-within (suc k) p h =
       rw (same_end p (omega arith), get_or-take most s p 0 (omega arith), same-within k (p + 1) (omega arith))
@@ -66,24 +66,24 @@ module _ (s : List ℕ) (most : ℕ) where
     same : p ≡ q
     room : p + 3 * k < most
 
-  numbers-together : (k p q : ℕ) → Together (suc k) p q → SameNumber 2097152 (Together k) (number_at s p) (number_at part q)
-  numbers-together k p q t = rw (← t.same, same_number p (omega (arith, t.room))) (go (number_at s p) refl)
+  numbers_together : (k p q : ℕ) → Together (suc k) p q → SameNumber 2097152 (Together k) (number_at s p) (number_at part q)
+  numbers_together k p q t = rw (← t.same, same_number p (omega (arith, t.room))) (go (number_at s p) refl)
     where
       go : (r : NumberRead) → number_at s p ≡ r → SameNumber 2097152 (Together k) r r
       go (Number n next) e =
-          let after : Together k next next = record { same = refl; room = omega (arith, t.room, next-near s p n next e) } in
+          let after : Together k next next = record { same = refl; room = omega (arith, t.room, next_near s p n next e) } in
           both (inl refl) after
       go (Refused d) e = neither
 
   together : Alike (bytes s) (bytes part) 2097152 Together
   together = record {
-    number = numbers-together;
+    number = numbers_together;
     more = λ k p q t. rw (← t.same) (sym (same_end p (omega (arith, t.room))));
     fewer = λ j k p q h t. record { same = t.same; room = omega (arith, t.room, h) };
   }
 
-  pub grammar-first-bytes : 2316 < most → grammarOf s ≡ grammarOf part
-  grammar-first-bytes h = grammar-alike together (omega arith) (omega arith) (record { same = refl; room = omega arith })
+  pub grammar_first-bytes : 2316 < most → grammar_of s ≡ grammar_of part
+  grammar_first-bytes h = grammar_alike together (omega arith) (omega arith) (record { same = refl; room = omega arith })
 
-  pub history-first-bytes : 3075 < most → historyOf s ≡ historyOf part
-  history-first-bytes h = history-alike together (omega arith) (record { same = refl; room = omega arith })
+  pub history_first-bytes : 3075 < most → history_of s ≡ history_of part
+  history_first-bytes h = history_alike together (omega arith) (record { same = refl; room = omega arith })

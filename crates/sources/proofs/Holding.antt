@@ -10,52 +10,52 @@ use borrow.Author.Tests.{ltb-true, ltb-false, lt-ltb, le-ltb}
 use lib.Dec.{ltb}
 use lib.ListN.{length, get_or, drop, drop_of_length-le, length-drop}
 use lib.Seq.{drop-cons}
-use Rattle.laws.proofs.Bools.{chose-first}
+use Rattle.laws.proofs.Bools.{chose_first}
 use Rattle.laws.proofs.Lists.{heads, tails}
 use Rattle.numbers.specs.declared.NumberRead.TheVariants.{Number}
-use Rattle.numbers.specs.believed.Number.{numberWithin, number_at, bytes}
+use Rattle.numbers.specs.believed.Number.{number_within, number_at, bytes}
 use Rattle.numbers.specs.Written.{NumbersAt, none, one, Holds}
 use Rattle.numbers.proofs.Written.{apart}
-use Rattle.elements.specs.believed.Elements.{elementAt, elements}
+use Rattle.elements.specs.believed.Elements.{element_at, elements}
 
 -- ── elements ──
 
 module _ (es : List ℕ) where
-  element-read : (at n next : ℕ) → elementAt es at ≡ Number n next → (drop at es ≡ n ∷ drop next es) × (next ≤ length es)
-  unfolding elementAt
-  element-read at n next h =
-      let p = chose-first (ltb at (length es)) _ _ apart h in
+  element_read : (at n next : ℕ) → element_at es at ≡ Number n next → (drop at es ≡ n ∷ drop next es) × (next ≤ length es)
+  unfolding element_at
+  element_read at n next h =
+      let p = chose_first (ltb at (length es)) _ _ apart h in
       let l = ltb-true at (length es) p.0 in
       let en : get_or es at 0 ≡ n = cc in
       let ep : at + 1 ≡ next = cc in
       (rw (← en, ← ep, add-one) (drop-cons es at 0 l), omega arith)
 
-  elements-read : {at next : ℕ} {ns : List ℕ} → NumbersAt (elementAt es) at ns next → drop at es ≡ ns ++ drop next es
-  elements-read none = refl
-  elements-read (one {at} {n} {p} e rest) = (element-read at n p e).0 ∙ ap (λ l. n ∷ l) (elements-read rest)
+  elements_read : {at next : ℕ} {ns : List ℕ} → NumbersAt (element_at es) at ns next → drop at es ≡ ns ++ drop next es
+  elements_read none = refl
+  elements_read (one {at} {n} {p} e rest) = (element_read at n p e).0 ∙ ap (λ l. n ∷ l) (elements_read rest)
 
-  elements-stand : (ns : List ℕ) (at : ℕ) → at ≤ length es → drop at es ≡ ns → NumbersAt (elementAt es) at ns (length es)
-  unfolding elementAt
-  elements-stand [] at h e =
+  elements_stand : (ns : List ℕ) (at : ℕ) → at ≤ length es → drop at es ≡ ns → NumbersAt (element_at es) at ns (length es)
+  unfolding element_at
+  elements_stand [] at h e =
       let n : length es ≡ at = omega (arith, h, rw length-drop at (ap length e)) in
       rw n none
-  elements-stand (n ∷ ns) at h e =
+  elements_stand (n ∷ ns) at h e =
       let l : at < length es = omega (arith, rw length-drop at (ap length e)) in
       let d : get_or es at 0 ∷ drop (at + 1) es ≡ n ∷ ns = rw (add-one, ← drop-cons es at 0 l) e in
-      let read : elementAt es at ≡ Number n (at + 1) = rw (lt-ltb at (length es) l, heads d) in
-      one read (elements-stand ns (at + 1) (omega arith) (tails d))
+      let read : element_at es at ≡ Number n (at + 1) = rw (lt-ltb at (length es) l, heads d) in
+      one read (elements_stand ns (at + 1) (omega arith) (tails d))
 
-  pub elements-hold : (ns : List ℕ) → Holds (elements es) ns ↔ (es ≡ ns)
-  elements-hold ns = (
-    λ (end, i, done). elements-read i ∙ rw (drop_of_length-le es (ltb-false end (length es) done), append-nil),
-    λ e. (length es, elements-stand ns 0 (omega arith) e, le-ltb (length es) (length es) (omega arith)),
+  pub elements_hold : (ns : List ℕ) → Holds (elements es) ns ↔ (es ≡ ns)
+  elements_hold ns = (
+    λ (end, i, done). elements_read i ∙ rw (drop_of_length-le es (ltb-false end (length es) done), append-nil),
+    λ e. (length es, elements_stand ns 0 (omega arith) e, le-ltb (length es) (length es) (omega arith)),
   )
 
 -- ── bytes ──
 
 module _ (s : List ℕ) where
   end_read : (at n next : ℕ) → ltb at (length s) ≡ false → number_at s at ≡ Number n next → ⊥
-  unfolding number_at numberWithin
+  unfolding number_at number_within
   end_read at n next e h = apart (rw e at h)
 
   same_numbers : {at p q : ℕ} {ns ms : List ℕ} → NumbersAt (number_at s) at ns p → ltb p (length s) ≡ false
@@ -69,5 +69,5 @@ module _ (s : List ℕ) where
       let ep : q ≡ p = cc in
       rw en (ap (λ l. m ∷ l) (same_numbers rest e (rw ep at more) f))
 
-  pub bytes-hold-one : (ns ms : List ℕ) → Holds (bytes s) ns → Holds (bytes s) ms → ns ≡ ms
-  bytes-hold-one ns ms (p, i, e) (q, j, f) = same_numbers i e j f
+  pub bytes_hold_one : (ns ms : List ℕ) → Holds (bytes s) ns → Holds (bytes s) ms → ns ≡ ms
+  bytes_hold_one ns ms (p, i, e) (q, j, f) = same_numbers i e j f

@@ -10,10 +10,10 @@ use lib.Seq.{take-append_seam, drop-append_seam}
 use Rattle.numbers.specs.Written.{AllBelow, written}
 use Rattle.numbers.proofs.Written.{below_all, written-append}
 use Rattle.history_file.specs.believed.HistoryFile
-use Rattle.history_file.specs.believed.HistoryFile.{HistoryFile, historyOf}
-use Rattle.history_file.proofs.BothWays.{history-both-ways}
+use Rattle.history_file.specs.believed.HistoryFile.{HistoryFile, history_of}
+use Rattle.history_file.proofs.BothWays.{history_both_ways}
 use Rattle.step_bytes.specs.declared.StepPlace.{StepPlace}
-use Rattle.step_bytes.specs.believed.StepBytes.{StepPart, part, refused, stepLength, partFrom, stepIn, stepFrom, step_of, bytesIn, start_in, number_in}
+use Rattle.step_bytes.specs.believed.StepBytes.{StepPart, part, refused, step_length, part_from, step_in_lem, step_from, step_of, bytes_in, start_in, number_in}
 use Rattle.step_bytes.specs.Places.{placed}
 use Rattle.step_bytes.proofs.Steps.{open_at}
 
@@ -23,15 +23,15 @@ use Rattle.step_bytes.proofs.Steps.{open_at}
 pub record StepAt (ts : List ℕ) (p start : ℕ) (us : List ℕ) : Type 0 where
   pub count : ℕ
   pub opens : open_at ts p ≡ true
-  pub ends : stepLength 0 (drop p ts) ≡ some count
+  pub ends : step_length 0 (drop p ts) ≡ some count
   pub starts : start ≡ length (written (length ts ∷ take p ts))
   pub tokens : us ≡ take count (drop p ts)
 
-pub step-at : (ts : List ℕ) (p start : ℕ) (us : List ℕ) → stepIn ts p ≡ part start us → StepAt ts p start us
-unfolding stepIn
-step-at ts p start us e = go (open_at ts p) refl (stepLength 0 (drop p ts)) refl e
+pub step_at_lem : (ts : List ℕ) (p start : ℕ) (us : List ℕ) → step_in_lem ts p ≡ part start us → StepAt ts p start us
+unfolding step_in_lem
+step_at_lem ts p start us e = go (open_at ts p) refl (step_length 0 (drop p ts)) refl e
   where
-    go : (b : Bool) → open_at ts p ≡ b → (x : Option ℕ) → stepLength 0 (drop p ts) ≡ x → cond b (partFrom ts p x) (refused 17) ≡ part start us
+    go : (b : Bool) → open_at ts p ≡ b → (x : Option ℕ) → step_length 0 (drop p ts) ≡ x → cond b (part_from ts p x) (refused 17) ≡ part start us
         → StepAt ts p start us
     go false o x q e = absurd (let z : ◌≡◌ {A = ℕ} 0 1 = cc in omega arith)
     go true o none q e = absurd (let z : ◌≡◌ {A = ℕ} 0 1 = cc in omega arith)
@@ -45,15 +45,15 @@ step-at ts p start us e = go (open_at ts p) refl (stepLength 0 (drop p ts)) refl
 -- the tokens of the file that a part was found in
 pub record StepIn (s : List ℕ) (p start : ℕ) (us : List ℕ) : Type 0 where
   pub tokens : List ℕ
-  pub is : historyOf s ≡ HistoryFile.accepted tokens
+  pub is : history_of s ≡ HistoryFile.accepted tokens
   pub step : StepAt tokens p start us
 
 pub step_in : (s : List ℕ) (p start : ℕ) (us : List ℕ) → step_of s p ≡ part start us → StepIn s p start us
-step_in s p start us e = go (historyOf s) refl e
+step_in s p start us e = go (history_of s) refl e
   where
-    go : (f : HistoryFile) → historyOf s ≡ f → stepFrom f p ≡ part start us → StepIn s p start us
+    go : (f : HistoryFile) → history_of s ≡ f → step_from f p ≡ part start us → StepIn s p start us
     go (HistoryFile.refused k) h e = absurd (let z : ◌≡◌ {A = ℕ} 0 1 = cc in omega arith)
-    go (HistoryFile.accepted ts) h e = record { tokens = ts; is = h; step = step-at ts p start us e }
+    go (HistoryFile.accepted ts) h e = record { tokens = ts; is = h; step = step_at_lem ts p start us e }
 
 -- numbers written in three pieces
 pieces : (n : ℕ) (ts : List ℕ) (p k : ℕ)
@@ -66,40 +66,40 @@ pieces n ts p k =
     ∙ ap (λ (l : List ℕ). written (n ∷ take p ts) ++ l) (written-append (take k (drop p ts)) (drop k (drop p ts))))
 
 -- the middle one of three pieces
-middle-inside : (a b c s : List ℕ) (n : ℕ) → n ≡ length a → s ≡ a ++ (b ++ c) → n + length b ≤ length s
-middle-inside a b c s n e w = rw (w, length-append, length-append, e) (omega arith)
+middle_inside : (a b c s : List ℕ) (n : ℕ) → n ≡ length a → s ≡ a ++ (b ++ c) → n + length b ≤ length s
+middle_inside a b c s n e w = rw (w, length-append, length-append, e) (omega arith)
 
 middle : (a b c s : List ℕ) (n : ℕ) → n ≡ length a → s ≡ a ++ (b ++ c) → take (length b) (drop n s) ≡ b
 middle a b c s n e w = rw (w, e, drop-append_seam a (b ++ c), take-append_seam b c)
 
 module _ (s : List ℕ) (small : AllBelow 256 s) (p start : ℕ) (us : List ℕ) (found : step_of s p ≡ part start us) where
   -- the file: what stands in front of the part, the part, and what follows
-  pub file-parts : (front back : List ℕ) × (start ≡ length front) × (s ≡ front ++ (written us ++ back))
-  file-parts =
+  pub file_parts : (front back : List ℕ) × (start ≡ length front) × (s ≡ front ++ (written us ++ back))
+  file_parts =
       let i = step_in s p start us found in
       let ts = i.tokens in
       let k = i.step.count in
       let front = written (length ts ∷ take p ts) in
       let back = written (drop k (drop p ts)) in
       let us-are = ap (λ (l : List ℕ). front ++ (written l ++ back)) (sym i.step.tokens) in
-      (front, back, i.step.starts, ((history-both-ways s small ts).0 i.is).0 ∙ (pieces (length ts) ts p k ∙ us-are))
+      (front, back, i.step.starts, ((history_both_ways s small ts).0 i.is).0 ∙ (pieces (length ts) ts p k ∙ us-are))
 
-  pub part-inside : start + length (written us) ≤ length s
-  part-inside = let f = file-parts in middle-inside f.0 (written us) f.1 s start f.2 f.3
+  pub part_inside : start + length (written us) ≤ length s
+  part_inside = let f = file_parts in middle_inside f.0 (written us) f.1 s start f.2 f.3
 
   -- "that part of the caller's bytes"
   pub part-holds : take (length (written us)) (drop start s) ≡ written us
-  part-holds = let f = file-parts in middle f.0 (written us) f.1 s start f.2 f.3
+  part-holds = let f = file_parts in middle f.0 (written us) f.1 s start f.2 f.3
 
 -- ── what a found place tells ──
 
 pub record Within (s : List ℕ) (p start n : ℕ) : Type 0 where
   pub inside : start + n ≤ length s
   pub starts : start ≡ start_in (step_of s p)
-  pub holds : take n (drop start s) ≡ bytesIn (step_of s p)
+  pub holds : take n (drop start s) ≡ bytes_in (step_of s p)
 
-pub place-within : (s : List ℕ) → ((i : ℕ) → get_or s i 0 < 256) → (p start n : ℕ) → StepPlace.Part start n ≡ placed (step_of s p) → Within s p start n
-place-within s each p start n e = go (step_of s p) refl e
+pub place_within : (s : List ℕ) → ((i : ℕ) → get_or s i 0 < 256) → (p start n : ℕ) → StepPlace.Part start n ≡ placed (step_of s p) → Within s p start n
+place_within s each p start n e = go (step_of s p) refl e
   where
     small : AllBelow 256 s
     small = below_all 256 s each
@@ -110,13 +110,13 @@ place-within s each p start n e = go (step_of s p) refl e
         let ea : start ≡ a = cc in
         let en : n ≡ length (written us) = cc in
         record {
-          inside = rw (ea, en) (part-inside s small p a us q);
+          inside = rw (ea, en) (part_inside s small p a us q);
           starts = rw (q, ea);
           holds = rw (q, ea, en) (part-holds s small p a us q);
         }
 
-pub place-refused : (s : List ℕ) (p k : ℕ) → StepPlace.Refused k ≡ placed (step_of s p) → step_of s p ≡ refused k
-place-refused s p k e = go (step_of s p) refl e
+pub place_refused : (s : List ℕ) (p k : ℕ) → StepPlace.Refused k ≡ placed (step_of s p) → step_of s p ≡ refused k
+place_refused s p k e = go (step_of s p) refl e
   where
     go : (x : StepPart) → step_of s p ≡ x → StepPlace.Refused k ≡ placed x → x ≡ refused k
     go (refused j) q e = let z : j ≡ k = cc in ap refused z
@@ -126,6 +126,6 @@ abbrev pub number_of : StepPlace → Option ℕ
 number_of (StepPlace.Part start n) = none
 number_of (StepPlace.Refused k) = some k
 
-pub place-number : (x : StepPart) → number_of (placed x) ≡ number_in x
-place-number (part a us) = refl
-place-number (refused k) = refl
+pub place_number : (x : StepPart) → number_of (placed x) ≡ number_in x
+place_number (part a us) = refl
+place_number (refused k) = refl

@@ -10,9 +10,9 @@ use lib.ListN.{length, get_or, take, drop, length-append, length-drop}
 use lib.Seq.{take_all}
 use borrow.Author.Tests.{ltb-true}
 use Rattle.numbers.specs.Written.{shortest, written}
-use Rattle.history_file.specs.believed.HistoryFile.{kind, depthAfter}
+use Rattle.history_file.specs.believed.HistoryFile.{kind, depth_after}
 use Rattle.step_bytes.specs.declared.StepEnd.{StepEnd}
-use Rattle.step_bytes.specs.believed.StepBytes.{refused, later, stepLength, partFrom, stepIn}
+use Rattle.step_bytes.specs.believed.StepBytes.{refused, later, step_length, part_from, step_in_lem}
 use Rattle.step_bytes.specs.Places.{ended}
 
 pub ended_some : (x : Option ℕ) (k : ℕ) → StepEnd.Tokens k ≡ ended x → x ≡ some k
@@ -23,10 +23,10 @@ pub ended-none : (x : Option ℕ) → StepEnd.Nothing ≡ ended x → x ≡ none
 ended-none none e = refl
 ended-none (some j) e = absurd (let z : ◌≡◌ {A = ℕ} 0 1 = cc in omega arith)
 
-pub length_most : (ts : List ℕ) (depth k : ℕ) → stepLength depth ts ≡ some k → k ≤ length ts
-unfolding stepLength
+pub length_most : (ts : List ℕ) (depth k : ℕ) → step_length depth ts ≡ some k → k ≤ length ts
+unfolding step_length
 length_most [] depth k e = absurd (let z : ◌≡◌ {A = ℕ} 0 1 = cc in omega arith)
-length_most (t ∷ ts) depth k e = go (eqb (depthAfter t depth) 0) (stepLength (depthAfter t depth) ts) (length_most ts (depthAfter t depth)) e
+length_most (t ∷ ts) depth k e = go (eqb (depth_after t depth) 0) (step_length (depth_after t depth) ts) (length_most ts (depth_after t depth)) e
   where
     go : (b : Bool) (x : Option ℕ) → ((j : ℕ) → x ≡ some j → j ≤ length ts) → cond b (some 1) (later x) ≡ some k → k ≤ suc (length ts)
     go true x most q = let z : 1 ≡ k = cc in omega arith
@@ -45,17 +45,17 @@ module _ (ts : List ℕ) (p : ℕ) where
   abbrev pub open_at : Bool
   open_at = ltb p (length ts) && eqb (kind (get_or ts p 0)) 1
 
-  pub open-inside : open_at ≡ true → p < length ts
-  open-inside e = go (ltb p (length ts)) (eqb (kind (get_or ts p 0)) 1) refl e
+  pub open_inside : open_at ≡ true → p < length ts
+  open_inside e = go (ltb p (length ts)) (eqb (kind (get_or ts p 0)) 1) refl e
     where
       go : (a b : Bool) → ltb p (length ts) ≡ a → (a && b) ≡ true → p < length ts
       go true b q e = ltb-true p (length ts) q
       go false b q e = absurd (let z : ◌≡◌ {A = ℕ} 0 1 = cc in omega arith)
 
-  pub step-at-open : open_at ≡ true → stepIn ts p ≡ partFrom ts p (stepLength 0 (drop p ts))
-  unfolding stepIn
-  step-at-open e = rw e
+  pub step_at_open : open_at ≡ true → step_in_lem ts p ≡ part_from ts p (step_length 0 (drop p ts))
+  unfolding step_in_lem
+  step_at_open e = rw e
 
-  pub no_step : open_at ≡ false → stepIn ts p ≡ refused 17
-  unfolding stepIn
+  pub no_step : open_at ≡ false → step_in_lem ts p ≡ refused 17
+  unfolding step_in_lem
   no_step e = rw e

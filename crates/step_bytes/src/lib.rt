@@ -3,8 +3,8 @@
 ghost use Rattle.std.specs.Prelude.{◌≡◌, ◌&&◌, ◌+◌, ◌≤◌, eqb, ltb, length, get_or};
 ghost use Rattle.std.proofs.Math.Option.{some};
 ghost use Rattle.numbers.specs.Written.{written};
-ghost use Rattle.history_file.specs.believed.HistoryFile.{kind, depthAfter};
-ghost use Rattle.step_bytes.specs.believed.StepBytes.{stepLength, partFrom, stepIn, step_of, bytesIn, start_in, number_in, numberSaid, within};
+ghost use Rattle.history_file.specs.believed.HistoryFile.{kind, depth_after};
+ghost use Rattle.step_bytes.specs.believed.StepBytes.{step_length, part_from, step_in_lem, step_of, bytes_in, start_in, number_in, number_said, within};
 ghost use Rattle.step_bytes.specs.Places.{ended, placed};
 
 use history_file::HistoryAnswer;
@@ -33,7 +33,7 @@ pub enum StepCheck {
 // How many steps are open after a token, whatever token it is.
 fn steps_open(t: u32, depth: u32) -> u32
     requires { depth ≤ 1024 }
-    ensures { result ≡ depthAfter t depth }
+    ensures { result ≡ depth_after t depth }
 {
     let kind = t % 4;
     if kind == 1 {
@@ -51,7 +51,7 @@ fn steps_open(t: u32, depth: u32) -> u32
 // How many tokens there are from an open through the close that ends its step: the first token after which no step is open.
 fn step_end(tokens: &[u32]) -> StepEnd
     requires { length tokens.now ≤ 1024 }
-    ensures { result ≡ ended (stepLength 0 tokens.now) }
+    ensures { result ≡ ended (step_length 0 tokens.now) }
 {
     let mut depth: u32 = 0;
     let mut i: usize = 0;
@@ -93,7 +93,7 @@ fn is_open(tokens: &[u32], position: usize) -> bool
 // The place of so many tokens from a position on.
 fn part_at(tokens: &[u32], position: usize, count: usize) -> StepPlace
     requires { (length tokens.now ≤ 1024) × (position + count ≤ length tokens.now) }
-    ensures { result ≡ placed (partFrom tokens.now position (some count)) }
+    ensures { result ≡ placed (part_from tokens.now position (some count)) }
 {
     let behind = position + count;
     let first = numbers::size_of(tokens.len() as u32);
@@ -105,7 +105,7 @@ fn part_at(tokens: &[u32], position: usize, count: usize) -> StepPlace
 // The place of the step at a position, where the history has passed.
 fn place_in(tokens: &[u32], position: usize) -> StepPlace
     requires { length tokens.now ≤ 1024 }
-    ensures { result ≡ placed (stepIn tokens.now position) }
+    ensures { result ≡ placed (step_in_lem tokens.now position) }
 {
     if is_open(tokens, position) {
         let end = step_end(&tokens[position..]);
@@ -131,7 +131,7 @@ pub fn locate(history: &[u8], position: usize) -> StepPlace
 
 // The bytes of the step whose open stands at the position, as a part of the caller's own; where there is none, the empty part at their start.
 pub fn step_bytes<'a>(history: &'a [u8], position: usize) -> &'a [u8]
-    ensures { (result.now ≡ bytesIn (step_of history.now position)) × (result.ref_ptr ≡ within history.entry.ref_ptr (start_in (step_of history.now position))) }
+    ensures { (result.now ≡ bytes_in (step_of history.now position)) × (result.ref_ptr ≡ within history.entry.ref_ptr (start_in (step_of history.now position))) }
 {
     let place = locate(history, position);
     let StepPlace::Part(start, length) = place else {
@@ -143,7 +143,7 @@ pub fn step_bytes<'a>(history: &'a [u8], position: usize) -> &'a [u8]
 
 // Whether there is a step at the position, or why the part is empty.
 pub fn step_check(history: &[u8], position: usize) -> StepCheck
-    ensures { numberSaid result ≡ number_in (step_of history.now position) }
+    ensures { number_said result ≡ number_in (step_of history.now position) }
 {
     let place = locate(history, position);
     match place {

@@ -1,13 +1,13 @@
 // The service stop marks, over the two files as bytes.
 ghost use Rattle.std.specs.Prelude.{◌≡◌};
-ghost use Rattle.service.specs.believed.Given.{outcomeSaid};
-ghost use Rattle.stop_marks.specs.believed.StopMarks.{marksDue};
+ghost use Rattle.service.specs.believed.Given.{outcome_said};
+ghost use Rattle.stop_marks.specs.believed.StopMarks.{marks_due};
 
 use service::{Opened, Outcome};
 
 // Writes n + 1 bytes: byte i is 1 where the first i tokens alone have a reading, else 0.
 pub fn stop_marks(grammar: &[u8], history: &[u8], marks: &mut [u8]) -> Outcome
-    ensures { (outcomeSaid result, marks.new) ≡ marksDue grammar.now history.now marks.old }
+    ensures { (outcome_said result, marks.new) ≡ marks_due grammar.now history.now marks.old }
 {
     let mut table = [0u16; 1412];
     let mut tokens = [0u32; 1024];

@@ -7,58 +7,58 @@ use mathlib.Core.List.{List, [], ◌∷◌, ◌++◌}
 use lib.ListN.{length, take, drop, get_or, set, length-set, length-map, get_or-map}
 use lib.Seq.{drop-cons, drop-drop, drop-length, take-suc-set, drop-set-lt, set_split, append_snoc}
 use Rattle.vpg.specs.declared.Token.{Token}
-use Rattle.pair_theory.specs.Depth.{Shallow, openAfter}
+use Rattle.pair_theory.specs.Depth.{Shallow, open_after}
 use Rattle.vpg.specs.believed.Grammar.{Grammar}
-use Rattle.pair_theory.specs.Pairs.{Configuration, begin, single, derivative, accepts, marksFrom, Within}
-use Rattle.sets_theory.specs.believed.Sets.{one, stopMark, stopMarks}
-use Rattle.pair_theory.proofs.Pairs.{begin-within, derivative-within, stop-marks-pairs}
+use Rattle.pair_theory.specs.Pairs.{Configuration, begin, single, derivative, accepts, marks_from, Within}
+use Rattle.sets_theory.specs.believed.Sets.{one, stop_mark, stop_marks}
+use Rattle.pair_theory.proofs.Pairs.{begin-within, derivative-within, stop_marks_pairs}
 use Rattle.tables.specs.declared.Head.{Head}
-use Rattle.tables.specs.Ready.{grammarIn}
-use Rattle.rule_index.specs.Index.{Indexed, endsIn}
-use Rattle.history_file.specs.believed.HistoryFile.{tokenOf, tokensOf}
+use Rattle.tables.specs.Ready.{grammar_in}
+use Rattle.rule_index.specs.Index.{Indexed, ends_in}
+use Rattle.history_file.specs.believed.HistoryFile.{token_of, tokens_of}
 use Rattle.pair_states.specs.Encodes.{Encodes}
-use Rattle.pair_states.specs.Wide.{wideGrammar}
+use Rattle.pair_states.specs.Wide.{wide_grammar}
 use Rattle.pair_states.proofs.Grammars.{proper}
 use Rattle.configurations.specs.Stack.{Holds, StepHolds}
 use Rattle.stop_marks_core.specs.MarkOf.{mark_of}
 use Rattle.stop_marks_core.proofs.Accepting.{mark-accepts}
 
-pub drop_token : (ts : List ℕ) (i : ℕ) → i < length ts → drop i (tokensOf ts) ≡ tokenOf (get_or ts i 0) ∷ drop (i + 1) (tokensOf ts)
+pub drop_token : (ts : List ℕ) (i : ℕ) → i < length ts → drop i (tokens_of ts) ≡ token_of (get_or ts i 0) ∷ drop (i + 1) (tokens_of ts)
 drop_token ts i h =
     rw add-one
-    (drop-cons (tokensOf ts) i (tokenOf 0) (rw length-map h) ∙ ap (λ (x : Token). x ∷ drop (suc i) (tokensOf ts)) (get_or-map tokenOf ts i 0))
+    (drop-cons (tokens_of ts) i (token_of 0) (rw length-map h) ∙ ap (λ (x : Token). x ∷ drop (suc i) (tokens_of ts)) (get_or-map token_of ts i 0))
 
 -- what is known before token i: ts are the token numbers, out₀ the buffer as it was lent
 pub record Turn (g : Grammar) (ts out₀ : List ℕ) (i d : ℕ) (rows : List ℕ) (stack : List (List ℕ)) (names out : List ℕ) : Type 0 where
   pub configuration : Configuration
   pub holds : Holds d rows stack names configuration
   pub within : Within g configuration
-  pub shallow : Shallow 128 (drop i (tokensOf ts)) d
-  pub marks : take i out ++ marksFrom g configuration (drop i (tokensOf ts)) ≡ marksFrom g (begin g) (tokensOf ts)
+  pub shallow : Shallow 128 (drop i (tokens_of ts)) d
+  pub marks : take i out ++ marks_from g configuration (drop i (tokens_of ts)) ≡ marks_from g (begin g) (tokens_of ts)
   pub rest : drop i out ≡ drop i out₀
-  pub stack-size : length stack ≡ 128
+  pub stack_size : length stack ≡ 128
   pub names-size : length names ≡ 128
   pub size : length out ≡ length out₀
 
 -- how many steps are open before token i, and after it
 pub depths : {g : Grammar} {ts out₀ : List ℕ} {i d : ℕ} {rows : List ℕ} {stack : List (List ℕ)} {names out : List ℕ} → Turn g ts out₀ i d rows stack names out → i < length ts →
-    (d ≤ 128) × (openAfter (tokenOf (get_or ts i 0)) d ≤ 128)
-depths {ts} {i} {d} u h = go (drop (i + 1) (tokensOf ts)) (rw (drop_token ts i h) at u.shallow)
+    (d ≤ 128) × (open_after (token_of (get_or ts i 0)) d ≤ 128)
+depths {ts} {i} {d} u h = go (drop (i + 1) (tokens_of ts)) (rw (drop_token ts i h) at u.shallow)
   where
-    go : (v : List Token) → Shallow 128 (tokenOf (get_or ts i 0) ∷ v) d → (d ≤ 128) × (openAfter (tokenOf (get_or ts i 0)) d ≤ 128)
+    go : (v : List Token) → Shallow 128 (token_of (get_or ts i 0) ∷ v) d → (d ≤ 128) × (open_after (token_of (get_or ts i 0)) d ≤ 128)
     go [] s = s
     go (x ∷ v) s = (s.0, s.1.0)
 
 -- the stop marks go by the rules and the start alone: how many nonterminals there are changes none
-marks-wide : (table : List ℕ) (head : Head) (w : List Token) → stopMarks (wideGrammar table head) w ≡ stopMarks (grammarIn table head) w
-unfolding stopMark stopMarks
+marks-wide : (table : List ℕ) (head : Head) (w : List Token) → stop_marks (wide_grammar table head) w ≡ stop_marks (grammar_in table head) w
+unfolding stop_mark stop_marks
 marks-wide table head w = refl
 
 module _ (table : List ℕ) (head : Head) (ts out₀ : List ℕ) where
   abbrev g : Grammar
-  g = wideGrammar table head
+  g = wide_grammar table head
 
-  pub first-turn : Indexed table head → (rows : List ℕ) (stack : List (List ℕ)) (names : List ℕ) → Encodes rows (single head.start head.start) → Shallow 128 (tokensOf ts) 0 →
+  pub first-turn : Indexed table head → (rows : List ℕ) (stack : List (List ℕ)) (names : List ℕ) → Encodes rows (single head.start head.start) → Shallow 128 (tokens_of ts) 0 →
       length stack ≡ 128 → length names ≡ 128 → Turn g ts out₀ 0 0 rows stack names out₀
   first-turn indexed rows stack names x s p q =
       let v = proper table head indexed.ready in
@@ -69,13 +69,13 @@ module _ (table : List ℕ) (head : Head) (ts out₀ : List ℕ) where
         shallow = s;
         marks = refl;
         rest = refl;
-        stack-size = p;
+        stack_size = p;
         names-size = q;
         size = refl;
       }
 
   module _ (i d : ℕ) (rows : List ℕ) (stack : List (List ℕ)) (names out : List ℕ) (m : ℕ) (room : length ts + 1 ≤ length out₀) (u : Turn g ts out₀ i d rows stack names out)
-      (indexed : Indexed table head) (is : m ≡ mark_of d rows (endsIn table) head) where
+      (indexed : Indexed table head) (is : m ≡ mark_of d rows (ends_in table) head) where
     accepted : m ≡ one (accepts g u.configuration)
     accepted = is ∙ mark-accepts table head indexed d rows stack names u.configuration u.holds u.within
 
@@ -85,41 +85,41 @@ module _ (table : List ℕ) (head : Head) (ts out₀ : List ℕ) where
     rest-next : drop (i + 1) out ≡ drop (i + 1) out₀
     rest-next = sym (drop-drop 1 i out) ∙ ap (drop 1) u.rest ∙ drop-drop 1 i out₀
 
-    pub next-turn : (d' : ℕ) (rows' : List ℕ) (stack' : List (List ℕ)) (names' : List ℕ) → i < length ts → StepHolds table head (tokenOf (get_or ts i 0)) d rows stack names d' rows' stack' names' →
+    pub next-turn : (d' : ℕ) (rows' : List ℕ) (stack' : List (List ℕ)) (names' : List ℕ) → i < length ts → StepHolds table head (token_of (get_or ts i 0)) d rows stack names d' rows' stack' names' →
         Turn g ts out₀ (i + 1) d' rows' stack' names' (set out i m)
-    unfolding marksFrom
+    unfolding marks_from
     next-turn d' rows' stack' names' h s =
         let x = u.configuration in
-        let y = derivative g (tokenOf (get_or ts i 0)) x in
-        let v = drop (i + 1) (tokensOf ts) in
+        let y = derivative g (token_of (get_or ts i 0)) x in
+        let v = drop (i + 1) (tokens_of ts) in
         let p = proper table head indexed.ready in
         let below : i < length out = omega (arith, u.size) in
         record {
           configuration = y;
           holds = s.holds x u.holds;
-          within = derivative-within g p.form p (tokenOf (get_or ts i 0)) x u.within;
-          shallow = rw s.steps-open (rw (drop_token ts i h) at u.shallow).1;
+          within = derivative-within g p.form p (token_of (get_or ts i 0)) x u.within;
+          shallow = rw s.steps_open (rw (drop_token ts i h) at u.shallow).1;
           marks =
-              ap (λ (l : List ℕ). l ++ marksFrom g y v) (written below)
-              ∙ append_snoc (take i out) m (marksFrom g y v)
-              ∙ ap (λ (k : ℕ). take i out ++ (k ∷ marksFrom g y v)) accepted
-              ∙ ap (λ (l : List Token). take i out ++ marksFrom g x l) (sym (drop_token ts i h))
+              ap (λ (l : List ℕ). l ++ marks_from g y v) (written below)
+              ∙ append_snoc (take i out) m (marks_from g y v)
+              ∙ ap (λ (k : ℕ). take i out ++ (k ∷ marks_from g y v)) accepted
+              ∙ ap (λ (l : List Token). take i out ++ marks_from g x l) (sym (drop_token ts i h))
               ∙ u.marks;
           rest = drop-set-lt (i + 1) out i m (omega arith) ∙ rest-next;
-          stack-size = s.stack-size;
+          stack_size = s.stack_size;
           names-size = s.names-size;
           size = length-set out i m ∙ u.size;
         }
 
-    pub last_turn : i ≡ length ts → set out i m ≡ stopMarks (grammarIn table head) (tokensOf ts) ++ drop (length ts + 1) out₀
-    unfolding marksFrom
+    pub last_turn : i ≡ length ts → set out i m ≡ stop_marks (grammar_in table head) (tokens_of ts) ++ drop (length ts + 1) out₀
+    unfolding marks_from
     last_turn e =
         let below : i < length out = omega (arith, u.size) in
-        let none : drop i (tokensOf ts) ≡ [] = rw e (rw (length-map ts tokenOf) at (drop-length (tokensOf ts))) in
-        let all : take i out ++ (m ∷ []) ≡ marksFrom g (begin g) (tokensOf ts) =
-        ap (λ (k : ℕ). take i out ++ (k ∷ [])) accepted ∙ ap (λ (l : List Token). take i out ++ marksFrom g u.configuration l) (sym none) ∙ u.marks in
+        let none : drop i (tokens_of ts) ≡ [] = rw e (rw (length-map ts token_of) at (drop-length (tokens_of ts))) in
+        let all : take i out ++ (m ∷ []) ≡ marks_from g (begin g) (tokens_of ts) =
+        ap (λ (k : ℕ). take i out ++ (k ∷ [])) accepted ∙ ap (λ (l : List Token). take i out ++ marks_from g u.configuration l) (sym none) ∙ u.marks in
         let after : drop (suc i) out ≡ drop (length ts + 1) out₀ =
         ap (λ (k : ℕ). drop k out) (sym (add-one i)) ∙ rest-next ∙ ap (λ (k : ℕ). drop (k + 1) out₀) e in
         set_split out i m below
         ∙ sym (append_snoc (take i out) m (drop (suc i) out))
-        ∙ ap₂ ◌++◌ (all ∙ sym (stop-marks-pairs g (proper table head indexed.ready) (tokensOf ts)) ∙ marks-wide table head (tokensOf ts)) after
+        ∙ ap₂ ◌++◌ (all ∙ sym (stop_marks_pairs g (proper table head indexed.ready) (tokens_of ts)) ∙ marks-wide table head (tokens_of ts)) after

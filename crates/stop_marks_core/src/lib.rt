@@ -2,9 +2,9 @@
 // One pass from left to right. The states before and after a token are two arrays that take turns: the 32 words are copied at an open alone.
 ghost use Rattle.std.specs.Prelude.{◌≡◌, cond, ◌++◌, ◌+◌, ◌<◌, ◌≤◌, length, drop};
 ghost use Rattle.pair_theory.specs.Depth.{Shallow};
-ghost use Rattle.sets_theory.specs.believed.Sets.{one, stopMarks};
-ghost use Rattle.tables.specs.Ready.{grammarIn};
-ghost use Rattle.history_file.specs.believed.HistoryFile.{tokensOf};
+ghost use Rattle.sets_theory.specs.believed.Sets.{one, stop_marks};
+ghost use Rattle.tables.specs.Ready.{grammar_in};
+ghost use Rattle.history_file.specs.believed.HistoryFile.{tokens_of};
 ghost use Rattle.history_file.specs.HistoryTokens.{Tokens};
 ghost use Rattle.rule_index.specs.Index.{Indexed};
 ghost use Rattle.stop_marks_core.specs.MarkOf.{mark_of};
@@ -53,9 +53,9 @@ fn mark_in(first: bool, a: &Words, b: &Words, depth: usize, empties: u32, head: 
 pub fn marks(table: &Table, head: Head, tokens: &[u32], out: &mut [u8])
     requires indexed { Indexed table.now head }
     requires tokens { Tokens tokens.now }
-    requires shallow { Shallow 128 (tokensOf tokens.now) 0 }
+    requires shallow { Shallow 128 (tokens_of tokens.now) 0 }
     requires tokens_in_bounds { length tokens.now + 1 ≤ length out.old }
-    ensures { out.new ≡ stopMarks (grammarIn table.now head) (tokensOf tokens.now) ++ drop (length tokens.now + 1) out.old }
+    ensures { out.new ≡ stop_marks (grammar_in table.now head) (tokens_of tokens.now) ++ drop (length tokens.now + 1) out.old }
 {
     let empties = rule_index::ends(table);
     let mut stack = [[0u32; 32]; 128];

@@ -12,67 +12,67 @@ use borrow.Author.Tests.{eqb-true, eq-eqb}
 use Rattle.vpg.specs.declared.Rule.{Rule}
 use Rattle.vpg.specs.believed.Grammar.{left}
 use Rattle.tables.specs.declared.Six.{Six}
-use Rattle.tables.specs.Table.{sixOf, ruleFrom, sameSix, sameRule, earlier, ruleIn, rulesIn}
-use Rattle.tables.proofs.Tables.{from-of}
+use Rattle.tables.specs.Table.{six_of, rule_from, same_six, same_rule, earlier, rule_in, rules_in}
+use Rattle.tables.proofs.Tables.{from_of}
 
 -- the first test of a row, and the others
-next-test : (m n : ℕ) (b : Bool) → (eqb m n && b) ≡ true → (m ≡ n) × (b ≡ true)
-next-test m n b h = go (eqb m n) refl h
+next_test : (m n : ℕ) (b : Bool) → (eqb m n && b) ≡ true → (m ≡ n) × (b ≡ true)
+next_test m n b h = go (eqb m n) refl h
   where
     go : (t : Bool) → eqb m n ≡ t → (t && b) ≡ true → (m ≡ n) × (b ≡ true)
     go true e p = (eqb-true m n e, p)
     go false e p = absurd (false≢true p)
 
-six-is : (a b : Six) → sameSix a b ≡ true → a ≡ b
-six-is a b h =
-    let t0 = next-test a.0 b.0 _ h in
-    let t1 = next-test a.1 b.1 _ t0.1 in
-    let t2 = next-test a.2 b.2 _ t1.1 in
-    let t3 = next-test a.3 b.3 _ t2.1 in
-    let t4 = next-test a.4 b.4 _ t3.1 in
+six_is : (a b : Six) → same_six a b ≡ true → a ≡ b
+six_is a b h =
+    let t0 = next_test a.0 b.0 _ h in
+    let t1 = next_test a.1 b.1 _ t0.1 in
+    let t2 = next_test a.2 b.2 _ t1.1 in
+    let t3 = next_test a.3 b.3 _ t2.1 in
+    let t4 = next_test a.4 b.4 _ t3.1 in
     let t5 = eqb-true a.5 b.5 t4.1 in
     λ i. record { 0 = t0.0 i; 1 = t1.0 i; 2 = t2.0 i; 3 = t3.0 i; 4 = t4.0 i; 5 = t5 i }
 
-six-self : (a : Six) → sameSix a a ≡ true
-six-self a = simp self
+six_self : (a : Six) → same_six a a ≡ true
+six_self a = simp self
   where
     self : (n : ℕ) → eqb n n ≡ true
     self n = eq-eqb n n refl
 
-pub same-rule-is : (r x : Rule) → (sameRule r x ≡ true) ↔ (r ≡ x)
-unfolding sameRule
-same-rule-is r x =
-    (λ h. sym (from-of r) ∙ (ap ruleFrom (six-is (sixOf r) (sixOf x) h) ∙ from-of x), λ e. rw e (six-self (sixOf x)))
+pub same_rule_is : (r x : Rule) → (same_rule r x ≡ true) ↔ (r ≡ x)
+unfolding same_rule
+same_rule_is r x =
+    (λ h. sym (from_of r) ∙ (ap rule_from (six_is (six_of r) (six_of x) h) ∙ from_of x), λ e. rw e (six_self (six_of x)))
 
-pub other-left : (r x : Rule) → (left r ≡ left x → ⊥) → sameRule r x ≡ false
-other-left r x apart = go (sameRule r x) refl
+pub other_left : (r x : Rule) → (left r ≡ left x → ⊥) → same_rule r x ≡ false
+other_left r x apart = go (same_rule r x) refl
   where
-    go : (b : Bool) → sameRule r x ≡ b → b ≡ false
-    go true e = absurd (apart (ap left ((same-rule-is r x).0 e)))
+    go : (b : Bool) → same_rule r x ≡ b → b ≡ false
+    go true e = absurd (apart (ap left ((same_rule_is r x).0 e)))
     go false e = refl
 
-pub earlier-is : (r : Rule) (rs : List Rule) → (earlier r rs ≡ true) ↔ Memᴰ r rs
+pub earlier_is : (r : Rule) (rs : List Rule) → (earlier r rs ≡ true) ↔ Memᴰ r rs
 unfolding earlier
-earlier-is r [] = (λ h. absurd (false≢true h), λ m. absurd (Memᴰ.not-nil m))
-earlier-is r (x ∷ xs) = (found (sameRule r x) refl (earlier-is r xs).0, λ m. finds (earlier-is r xs).1 (Memᴰ.cases_cons m))
+earlier_is r [] = (λ h. absurd (false≢true h), λ m. absurd (Memᴰ.not-nil m))
+earlier_is r (x ∷ xs) = (found (same_rule r x) refl (earlier_is r xs).0, λ m. finds (earlier_is r xs).1 (Memᴰ.cases_cons m))
   where
-    found : (b : Bool) → sameRule r x ≡ b → (earlier r xs ≡ true → Memᴰ r xs) → (b || earlier r xs) ≡ true → Memᴰ r (x ∷ xs)
-    found true e below h = Memᴰ.head ((same-rule-is r x).0 e)
+    found : (b : Bool) → same_rule r x ≡ b → (earlier r xs ≡ true → Memᴰ r xs) → (b || earlier r xs) ≡ true → Memᴰ r (x ∷ xs)
+    found true e below h = Memᴰ.head ((same_rule_is r x).0 e)
     found false e below h = Memᴰ.tail (below h)
 
-    finds : (Memᴰ r xs → earlier r xs ≡ true) → (r ≡ x) ⊎ Memᴰ r xs → (sameRule r x || earlier r xs) ≡ true
-    finds below (inl e) = rw ((same-rule-is r x).1 e)
+    finds : (Memᴰ r xs → earlier r xs ≡ true) → (r ≡ x) ⊎ Memᴰ r xs → (same_rule r x || earlier r xs) ≡ true
+    finds below (inl e) = rw ((same_rule_is r x).1 e)
     finds below (inr m) = rw (below m, or-true)
 
 -- the search from the last rule down: one more rule at the end, and one turn
-pub earlier-snoc : (r x : Rule) (xs : List Rule) → earlier r (xs ++ (x ∷ [])) ≡ (earlier r xs || sameRule r x)
+pub earlier_snoc : (r x : Rule) (xs : List Rule) → earlier r (xs ++ (x ∷ [])) ≡ (earlier r xs || same_rule r x)
 unfolding earlier
-earlier-snoc r x [] = or-false (sameRule r x)
-earlier-snoc r x (y ∷ ys) = rw (earlier-snoc r x ys) (sym (or_assoc (sameRule r y) (earlier r ys) (sameRule r x)))
+earlier_snoc r x [] = or-false (same_rule r x)
+earlier_snoc r x (y ∷ ys) = rw (earlier_snoc r x ys) (sym (or_assoc (same_rule r y) (earlier r ys) (same_rule r x)))
 
-pub earlier-at : (r : Rule) (t : List ℕ) (j : ℕ) → 0 < j → earlier r (rulesIn t j) ≡ (earlier r (rulesIn t (j - 1)) || sameRule r (ruleIn t (j - 1)))
-unfolding rulesIn
+pub earlier-at : (r : Rule) (t : List ℕ) (j : ℕ) → 0 < j → earlier r (rules_in t j) ≡ (earlier r (rules_in t (j - 1)) || same_rule r (rule_in t (j - 1)))
+unfolding rules_in
 earlier-at r t zero h = absurd (omega arith)
 earlier-at r t (suc n) h =
     let e : suc n - 1 ≡ n = omega arith in
-    rw e (earlier-snoc r (ruleIn t n) (rulesIn t n))
+    rw e (earlier_snoc r (rule_in t n) (rules_in t n))

@@ -1,30 +1,30 @@
 -- A table of numbers, six to a rule: the form, the fields in file order, and zeros.
--- Law: earlier-is (tables/proofs/Earlier.antt)
+-- Law: earlier_is (tables/proofs/Earlier.antt)
 use Rattle.std.specs.Prelude.{ℕ, zero, suc, ◌+◌, ◌*◌, List, [], ◌∷◌, ◌++◌, Bool, false, cond, ◌&&◌, ◌||◌, get_or, set, replicate, eqb}
 use Rattle.vpg.specs.declared.Rule.{Rule}
 use Rattle.vpg.specs.declared.Token.{Token}
 use Rattle.vpg.specs.Forms.{form_of, name_of}
 use Rattle.tables.specs.declared.Six.{Six}
 
-abbrev pub sixOf : Rule → Six
-sixOf (Rule.Empty l) = record { 0 = 0; 1 = l; 2 = 0; 3 = 0; 4 = 0; 5 = 0 }
-sixOf (Rule.Next l i l1) = record { 0 = form_of i; 1 = l; 2 = name_of i; 3 = l1; 4 = 0; 5 = 0 }
-sixOf (Rule.Step l a l1 b l2) = record { 0 = 2; 1 = l; 2 = a.0; 3 = l1; 4 = b.0; 5 = l2 }
+abbrev pub six_of : Rule → Six
+six_of (Rule.Empty l) = record { 0 = 0; 1 = l; 2 = 0; 3 = 0; 4 = 0; 5 = 0 }
+six_of (Rule.Next l i l1) = record { 0 = form_of i; 1 = l; 2 = name_of i; 3 = l1; 4 = 0; 5 = 0 }
+six_of (Rule.Step l a l1 b l2) = record { 0 = 2; 1 = l; 2 = a.0; 3 = l1; 4 = b.0; 5 = l2 }
 
 -- the token that a rule of the form takes alone
-abbrev pub tokenBy : ℕ → ℕ → Token
-tokenBy form name = cond (eqb form 3) (Token.Open (record { 0 = name })) (cond (eqb form 4) (Token.Close (record { 0 = name })) (Token.Mark (record { 0 = name })))
+abbrev pub token_by : ℕ → ℕ → Token
+token_by form name = cond (eqb form 3) (Token.Open (record { 0 = name })) (cond (eqb form 4) (Token.Close (record { 0 = name })) (Token.Mark (record { 0 = name })))
 
-abbrev pub ruleFrom : Six → Rule
-ruleFrom v =
+abbrev pub rule_from : Six → Rule
+rule_from v =
     cond (eqb v.0 0)
     (Rule.Empty v.1)
     (cond (eqb v.0 2)
     (Rule.Step v.1 (record { 0 = v.2 }) v.3 (record { 0 = v.4 }) v.5)
-    (Rule.Next v.1 (tokenBy v.0 v.2) v.3))
+    (Rule.Next v.1 (token_by v.0 v.2) v.3))
 
-abbrev pub sixIn : List ℕ → ℕ → Six
-sixIn t b = record {
+abbrev pub six_in : List ℕ → ℕ → Six
+six_in t b = record {
   0 = get_or t b 0;
   1 = get_or t (b + 1) 0;
   2 = get_or t (b + 2) 0;
@@ -34,37 +34,37 @@ sixIn t b = record {
 }
 
 -- the rule of number k
-unfoldable pub ruleIn : List ℕ → ℕ → Rule
-ruleIn t k = ruleFrom (sixIn t (k * 6))
+unfoldable pub rule_in : List ℕ → ℕ → Rule
+rule_in t k = rule_from (six_in t (k * 6))
 
 -- the first n rules
-unfoldable pub rulesIn : List ℕ → ℕ → List Rule
-rulesIn t zero = []
-rulesIn t (suc n) = rulesIn t n ++ (ruleIn t n ∷ [])
+unfoldable pub rules_in : List ℕ → ℕ → List Rule
+rules_in t zero = []
+rules_in t (suc n) = rules_in t n ++ (rule_in t n ∷ [])
 
-abbrev pub putSix : List ℕ → ℕ → Six → List ℕ
-putSix t k v =
+abbrev pub put_six : List ℕ → ℕ → Six → List ℕ
+put_six t k v =
     set (set (set (set (set (set t (k * 6) v.0) (k * 6 + 1) v.1) (k * 6 + 2) v.2) (k * 6 + 3) v.3) (k * 6 + 4) v.4)
     (k * 6 + 5) v.5
 
 -- the rules from number k on, written one after another
 unfoldable pub fill : List ℕ → ℕ → List Rule → List ℕ
 fill t k [] = t
-fill t k (r ∷ rs) = fill (putSix t k (sixOf r)) (k + 1) rs
+fill t k (r ∷ rs) = fill (put_six t k (six_of r)) (k + 1) rs
 
 -- the table of at most 128 rules
 unfoldable pub table_of : List Rule → List ℕ
 table_of rs = fill (replicate 1412 0) 0 rs
 
-abbrev pub sameSix : Six → Six → Bool
-sameSix a b =
+abbrev pub same_six : Six → Six → Bool
+same_six a b =
     eqb a.0 b.0 && (eqb a.1 b.1 && (eqb a.2 b.2 && (eqb a.3 b.3 && (eqb a.4 b.4 && eqb a.5 b.5))))
 
--- 8: "equal in form and all fields" (`same-rule-is`: the two rules are one)
-unfoldable pub sameRule : Rule → Rule → Bool
-sameRule r x = sameSix (sixOf r) (sixOf x)
+-- 8: "equal in form and all fields" (`same_rule_is`: the two rules are one)
+unfoldable pub same_rule : Rule → Rule → Bool
+same_rule r x = same_six (six_of r) (six_of x)
 
 -- r is one of the rules
 unfoldable pub earlier : Rule → List Rule → Bool
 earlier r [] = false
-earlier r (x ∷ xs) = sameRule r x || earlier r xs
+earlier r (x ∷ xs) = same_rule r x || earlier r xs

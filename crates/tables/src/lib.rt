@@ -2,8 +2,8 @@
 ghost use Rattle.std.specs.Prelude.{◌≡◌, ◌&&◌, ◌*◌, ◌≤◌, ◌<◌};
 ghost use Rattle.vpg.specs.believed.Grammar.{left};
 ghost use Rattle.vpg.specs.Forms.{form_of, name_of};
-ghost use Rattle.tables.specs.Table.{tokenBy, sixOf, ruleFrom, sixIn, ruleIn, rulesIn, putSix, sameRule, earlier};
-ghost use Rattle.tables.specs.Keys.{keyIn, has_key, withKey, Keyed};
+ghost use Rattle.tables.specs.Table.{token_by, six_of, rule_from, six_in, rule_in, rules_in, put_six, same_rule, earlier};
+ghost use Rattle.tables.specs.Keys.{key_in, has_key, with_key, Keyed};
 
 use vpg::{CloseName, MarkName, OpenName, Rule, Token};
 
@@ -46,7 +46,7 @@ pub fn name_of(token: Token) -> u16
 }
 
 pub fn six_of(rule: Rule) -> Six
-    ensures { result ≡ sixOf rule }
+    ensures { result ≡ six_of rule }
 {
     match rule {
         Rule::Empty(l) => Six(0, l, 0, 0, 0, 0),
@@ -57,7 +57,7 @@ pub fn six_of(rule: Rule) -> Six
 
 // The token that a rule of the form takes alone.
 fn token_by(form: u16, name: u16) -> Token
-    ensures { result ≡ tokenBy form name }
+    ensures { result ≡ token_by form name }
 {
     if form == 3 {
         return Token::Open(OpenName(name));
@@ -69,7 +69,7 @@ fn token_by(form: u16, name: u16) -> Token
 }
 
 fn rule_from(v: Six) -> Rule
-    ensures { result ≡ ruleFrom v }
+    ensures { result ≡ rule_from v }
 {
     if v.0 == 0 {
         return Rule::Empty(v.1);
@@ -83,7 +83,7 @@ fn rule_from(v: Six) -> Rule
 // The six numbers of rule k, for loops over the rules: most rules are passed over by a number or two.
 pub fn six_in(table: &Table, k: usize) -> Six
     requires { k < 128 }
-    ensures { result ≡ sixIn table.now (k * 6) }
+    ensures { result ≡ six_in table.now (k * 6) }
 {
     let b = k * 6;
     Six(
@@ -99,7 +99,7 @@ pub fn six_in(table: &Table, k: usize) -> Six
 // The rule of number k.
 pub fn rule_of(table: &Table, k: usize) -> Rule
     requires { k < 128 }
-    ensures { result ≡ ruleIn table.now k }
+    ensures { result ≡ rule_in table.now k }
 {
     rule_from(six_in(table, k))
 }
@@ -107,7 +107,7 @@ pub fn rule_of(table: &Table, k: usize) -> Rule
 // The nonterminal that the rule of number k is for: it is known before the rule is taken apart.
 pub fn left_in(table: &Table, k: usize) -> u16
     requires { k < 128 }
-    ensures { result ≡ left (ruleIn table.now k) }
+    ensures { result ≡ left (rule_in table.now k) }
 {
     table[k * 6 + 1]
 }
@@ -115,7 +115,7 @@ pub fn left_in(table: &Table, k: usize) -> u16
 // Writes the rule of number k.
 pub fn put(table: &mut Table, k: usize, v: Six)
     requires { k < 128 }
-    ensures { table.new ≡ putSix table.old k v }
+    ensures { table.new ≡ put_six table.old k v }
 {
     let b = k * 6;
     table[b] = v.0;
@@ -135,7 +135,7 @@ pub fn both(a: bool, b: bool) -> bool
 
 // Equal in form and in all fields (refusal 8).
 fn same_rule(r: Rule, x: Rule) -> bool
-    ensures { result ≡ sameRule r x }
+    ensures { result ≡ same_rule r x }
 {
     let a = six_of(r);
     let b = six_of(x);
@@ -151,7 +151,7 @@ fn same_rule(r: Rule, x: Rule) -> bool
 // Whether the rule, which is for l, is that of number j: most rules differ in l already.
 fn same_at(table: &Table, j: usize, l: u16, rule: Rule) -> bool
     requires { (j < 128) × (l ≡ left rule) }
-    ensures { result ≡ sameRule rule (ruleIn table.now j) }
+    ensures { result ≡ same_rule rule (rule_in table.now j) }
 {
     if left_in(table, j) != l {
         return false;
@@ -162,7 +162,7 @@ fn same_at(table: &Table, j: usize, l: u16, rule: Rule) -> bool
 // Whether the rule is one of the first n: it is held against each of them.
 fn seen_among(table: &Table, n: usize, rule: Rule) -> bool
     requires { n ≤ 128 }
-    ensures { result ≡ earlier rule (rulesIn table.now n) }
+    ensures { result ≡ earlier rule (rules_in table.now n) }
 {
     let v = six_of(rule);
     let l = v.1;
@@ -184,7 +184,7 @@ fn wide(x: u16) -> u32
 
 // A number below 2,048 that equal rules share. The factors spread rules whose stages and names are dealt out in turn.
 fn key_of(v: Six) -> usize
-    ensures { result ≡ keyIn v }
+    ensures { result ≡ key_in v }
 {
     let front = 525 * wide(v.0) + 1326 * wide(v.1) + 1409 * wide(v.2);
     let sum = front + 513 * wide(v.3) + 287 * wide(v.4) + 1335 * wide(v.5);
@@ -196,7 +196,7 @@ pub type Keys = [u32; 64];
 
 // Whether the key of these six numbers is marked.
 fn has_key(keys: &Keys, v: Six) -> bool
-    ensures { result ≡ has_key keys.now (keyIn v) }
+    ensures { result ≡ has_key keys.now (key_in v) }
 {
     let k = key_of(v);
     bits::has(keys[k / 32], k % 32)
@@ -204,7 +204,7 @@ fn has_key(keys: &Keys, v: Six) -> bool
 
 // Marks the key of these six numbers.
 pub fn mark_key(keys: &mut Keys, v: Six)
-    ensures { keys.new ≡ withKey keys.old (keyIn v) }
+    ensures { keys.new ≡ with_key keys.old (key_in v) }
 {
     let k = key_of(v);
     keys[k / 32] = bits::with(keys[k / 32], k % 32);
@@ -213,7 +213,7 @@ pub fn mark_key(keys: &mut Keys, v: Six)
 // Whether the rule is one of the first n, whose keys are marked. Where its key isn't, it is none of them; most rules pass by that.
 pub fn seen(table: &Table, n: usize, rule: Rule, keys: &Keys) -> bool
     requires { (n ≤ 128) × Keyed table.now n keys.now }
-    ensures { result ≡ earlier rule (rulesIn table.now n) }
+    ensures { result ≡ earlier rule (rules_in table.now n) }
 {
     if has_key(keys, six_of(rule)) {
         return seen_among(table, n, rule);

@@ -14,16 +14,16 @@ use Rattle.vpg.specs.believed.Order.{Before, Ascending}
 use Rattle.vpg.specs.Runs.{State, move, ends, collect, once, follow, runs, entries}
 use Rattle.vpg.proofs.Take.{hit}
 
-asc-append : (l l' : List (List ℕ)) → Ascending l → Ascending l' → ((x : List ℕ) → Memᴰ x l → (y : List ℕ) → Memᴰ y l' → Before x y) → Ascending (l ++ l')
-asc-append [] l' p q h = q
-asc-append (e ∷ l) l' p q h = (
+asc_append : (l l' : List (List ℕ)) → Ascending l → Ascending l' → ((x : List ℕ) → Memᴰ x l → (y : List ℕ) → Memᴰ y l' → Before x y) → Ascending (l ++ l')
+asc_append [] l' p q h = q
+asc_append (e ∷ l) l' p q h = (
   λ f m. ⊎_elim (λ n. p.0 f n) (λ n. h e (Memᴰ.head refl) f n) (Memᴰ.append_cases l m),
-  asc-append l l' p.1 q (λ x n y n'. h x (Memᴰ.tail n) y n'),
+  asc_append l l' p.1 q (λ x n y n'. h x (Memᴰ.tail n) y n'),
 )
 
-asc-map : (n : ℕ) (l : List (List ℕ)) → Ascending l → Ascending (map (λ e. n ∷ e) l)
-asc-map n [] p = tt
-asc-map n (e ∷ l) p = (λ f m. let h = Memᴰ.of_map (λ (e : List ℕ). n ∷ e) l m in rw (← h.2) (inr (refl, p.0 h.0 h.1)), asc-map n l p.1)
+asc_map : (n : ℕ) (l : List (List ℕ)) → Ascending l → Ascending (map (λ e. n ∷ e) l)
+asc_map n [] p = tt
+asc_map n (e ∷ l) p = (λ f m. let h = Memᴰ.of_map (λ (e : List ℕ). n ∷ e) l m in rw (← h.2) (inr (refl, p.0 h.0 h.1)), asc_map n l p.1)
 
 -- what a rule gives stands before what a later rule gives
 earlier : (k : Rule → List (List ℕ)) (n : ℕ) (R : Rule) (g : Rules) (x : List ℕ) → Memᴰ x (map (λ e. n ∷ e) (k R)) → (y : List ℕ) → Memᴰ y (collect k (suc n) g) → Before x y
@@ -32,23 +32,23 @@ earlier k n R g x m y m' =
     let f = hit k (suc n) g y m' in
     rw (← h.2, f.shape) (inl (omega arith))
 
-asc-collect : (k : Rule → List (List ℕ)) → ((R : Rule) → Ascending (k R)) → (n : ℕ) (g : Rules) → Ascending (collect k n g)
-asc-collect k p n [] = tt
-asc-collect k p n (R ∷ g) = asc-append (map (λ e. n ∷ e) (k R)) (collect k (suc n) g) (asc-map n (k R) (p R)) (asc-collect k p (suc n) g) (earlier k n R g)
+asc_collect : (k : Rule → List (List ℕ)) → ((R : Rule) → Ascending (k R)) → (n : ℕ) (g : Rules) → Ascending (collect k n g)
+asc_collect k p n [] = tt
+asc_collect k p n (R ∷ g) = asc_append (map (λ e. n ∷ e) (k R)) (collect k (suc n) g) (asc_map n (k R) (p R)) (asc_collect k p (suc n) g) (earlier k n R g)
 
-asc-once : (b : Bool) → Ascending (once b)
-asc-once true = (λ f m. absurd (Memᴰ.not-nil m), tt)
-asc-once false = tt
+asc_once : (b : Bool) → Ascending (once b)
+asc_once true = (λ f m. absurd (Memᴰ.not-nil m), tt)
+asc_once false = tt
 
-asc-follow : (o : Option State) (k : State → List (List ℕ)) → ((s : State) → Ascending (k s)) → Ascending (follow o k)
-asc-follow none k p = tt
-asc-follow (some s) k p = p s
+asc_follow : (o : Option State) (k : State → List (List ℕ)) → ((s : State) → Ascending (k s)) → Ascending (follow o k)
+asc_follow none k p = tt
+asc_follow (some s) k p = p s
 
-asc-runs : (g : Rules) (w : List Token) (s : State) → Ascending (runs g s w)
+asc_runs : (g : Rules) (w : List Token) (s : State) → Ascending (runs g s w)
 unfolding runs
-asc-runs g [] s = asc-collect (λ R. once (ends R s.0 s.1)) (λ R. asc-once (ends R s.0 s.1)) 0 g
-asc-runs g (t ∷ w) s =
-    asc-collect (λ R. follow (move R s.0 s.1 t) (λ s'. runs g s' w)) (λ R. asc-follow (move R s.0 s.1 t) (λ s'. runs g s' w) (asc-runs g w)) 0 g
+asc_runs g [] s = asc_collect (λ R. once (ends R s.0 s.1)) (λ R. asc_once (ends R s.0 s.1)) 0 g
+asc_runs g (t ∷ w) s =
+    asc_collect (λ R. follow (move R s.0 s.1 t) (λ s'. runs g s' w)) (λ R. asc_follow (move R s.0 s.1 t) (λ s'. runs g s' w) (asc_runs g w)) 0 g
 
-pub entries-ascending : (g : Grammar) (w : List Token) → Ascending (entries g w)
-entries-ascending g w = asc-runs g.rules w (g.start, [])
+pub entries_ascending : (g : Grammar) (w : List Token) → Ascending (entries g w)
+entries_ascending g w = asc_runs g.rules w (g.start, [])

@@ -16,8 +16,8 @@ use Rattle.vpg.specs.declared.Rule.{Rule}
 use Rattle.vpg.specs.declared.Token.{Token}
 use Rattle.vpg.specs.believed.Grammar.{Rules}
 use Rattle.vpg.specs.Runs.{Stack, State, only, move, ends, collect, once, follow, runs}
-use Rattle.vpg.specs.Tests.{isOpen, isClose, sameToken}
-use Rattle.vpg.proofs.Tests.{open_is, close-is, same-is, same_refl, empty-is}
+use Rattle.vpg.specs.Tests.{is_open_lem, is_close, same_token}
+use Rattle.vpg.proofs.Tests.{open_is, close_is, same_is, same_refl, empty_is}
 
 -- ── collect ──
 
@@ -52,9 +52,9 @@ unhit k n (R' ∷ g) (suc r) R e p m = Memᴰ.append_right (map (λ e. n ∷ e) 
 
 -- `move`, as a relation
 pub data Move : Rule → ℕ → Stack → Token → ℕ → Stack → Type 0 where
-  by-empty : {L M : ℕ} {b : CloseName} {s : Stack} → Move (Rule.Empty L) L ((b, M) ∷ s) (Token.Close b) M s
+  by_empty : {L M : ℕ} {b : CloseName} {s : Stack} → Move (Rule.Empty L) L ((b, M) ∷ s) (Token.Close b) M s
   by_next : {L L₁ : ℕ} {t : Token} {s : Stack} → Move (Rule.Next L t L₁) L s t L₁ s
-  by-step : {L L₁ L₂ : ℕ} {a : OpenName} {b : CloseName} {s : Stack} → Move (Rule.Step L a L₁ b L₂) L s (Token.Open a) L₁ ((b, L₂) ∷ s)
+  by_step : {L L₁ L₂ : ℕ} {a : OpenName} {b : CloseName} {s : Stack} → Move (Rule.Step L a L₁ b L₂) L s (Token.Open a) L₁ ((b, L₂) ∷ s)
 
 -- the tests that a move passed
 only-some : (b : Bool) (M L : ℕ) (x y : State) → only (b && eqb M L) x ≡ some y → (b ≡ true) × (M ≡ L) × (x ≡ y)
@@ -67,17 +67,17 @@ only-some b M L x y p = go b (eqb M L) refl p
 
 pub moved : (R : Rule) (L : ℕ) (s : Stack) (t : Token) (y : State) → move R L s t ≡ some y → Move R L s t y.0 y.1
 moved (Rule.Empty M) L [] t y p = absurd (none-ne-some y p)
-moved (Rule.Empty M) L (d ∷ s) t y p = let h = only-some (isClose d.0 t) M L _ y p in rw (← h.2, ← h.1, ← close-is d.0 t h.0) by-empty
-moved (Rule.Next M i M₁) L s t y p = let h = only-some (sameToken i t) M L _ y p in rw (← h.2, ← h.1, ← same-is i t h.0) by_next
-moved (Rule.Step M a M₁ b M₂) L s t y p = let h = only-some (isOpen a t) M L _ y p in rw (← h.2, ← h.1, ← open_is a t h.0) by-step
+moved (Rule.Empty M) L (d ∷ s) t y p = let h = only-some (is_close d.0 t) M L _ y p in rw (← h.2, ← h.1, ← close_is d.0 t h.0) by_empty
+moved (Rule.Next M i M₁) L s t y p = let h = only-some (same_token i t) M L _ y p in rw (← h.2, ← h.1, ← same_is i t h.0) by_next
+moved (Rule.Step M a M₁ b M₂) L s t y p = let h = only-some (is_open_lem a t) M L _ y p in rw (← h.2, ← h.1, ← open_is a t h.0) by_step
 
-only-true : (a b : Bool) (x : State) → a ≡ true → b ≡ true → only (a && b) x ≡ some x
-only-true a b x p q = rw (p, q)
+only_true : (a b : Bool) (x : State) → a ≡ true → b ≡ true → only (a && b) x ≡ some x
+only_true a b x p q = rw (p, q)
 
 pub moves : {R : Rule} {L : ℕ} {s : Stack} {t : Token} {L' : ℕ} {s' : Stack} → Move R L s t L' s' → move R L s t ≡ some (L', s')
-moves (by-empty {L} {b}) = only-true _ _ _ (eq-eqb b.0 b.0 refl) (eq-eqb L L refl)
-moves (by_next {L} {t}) = only-true _ _ _ (same_refl t) (eq-eqb L L refl)
-moves (by-step {L} {a}) = only-true _ _ _ (eq-eqb a.0 a.0 refl) (eq-eqb L L refl)
+moves (by_empty {L} {b}) = only_true _ _ _ (eq-eqb b.0 b.0 refl) (eq-eqb L L refl)
+moves (by_next {L} {t}) = only_true _ _ _ (same_refl t) (eq-eqb L L refl)
+moves (by_step {L} {a}) = only_true _ _ _ (eq-eqb a.0 a.0 refl) (eq-eqb L L refl)
 
 -- ── runs ──
 
@@ -116,9 +116,9 @@ pub record Ended (g : Rules) (L : ℕ) (s : Stack) (e : List ℕ) : Type 0 where
   pub done : s ≡ []
   pub shape : e ≡ number ∷ []
 
-pub ends-true : (R : Rule) (L : ℕ) (s : Stack) → ends R L s ≡ true → (R ≡ Rule.Empty L) × (s ≡ [])
-ends-true R L [] p = (empty-is L R p, refl)
-ends-true R L (d ∷ s) p = absurd (false≢true p)
+pub ends_true : (R : Rule) (L : ℕ) (s : Stack) → ends R L s ≡ true → (R ≡ Rule.Empty L) × (s ≡ [])
+ends_true R L [] p = (empty_is L R p, refl)
+ends_true R L (d ∷ s) p = absurd (false≢true p)
 
 once-mem : {e : List ℕ} (b : Bool) → Memᴰ e (once b) → (b ≡ true) × (e ≡ [])
 once-mem true m = (refl, Memᴰ.eq_of_singleton m)
@@ -129,7 +129,7 @@ unfolding runs
 ended g L s e m =
     let h = hit (λ R. once (ends R L s)) 0 g e m in
     let f = once-mem (ends h.rule L s) h.given in
-    let q = ends-true h.rule L s f.0 in
+    let q = ends_true h.rule L s f.0 in
     record { number = h.number; is = rw q.0 at h.is; done = q.1; shape = h.shape ∙ rw (zero-add, f.1) }
 
 pub end : (g : Rules) {r : ℕ} {L : ℕ} → get_elem? g r ≡ some (Rule.Empty L) → Memᴰ (r ∷ []) (runs g (L, []) [])

@@ -1,5 +1,5 @@
 -- The least list with a property, the next one after a given list, and the last: what first reading and next reading look for.
--- Law: first-written, next-written, next-no-further (listing_model/proofs/Calls.antt)
+-- Law: first-written, next-written, next_no_further (listing_model/proofs/Calls.antt)
 use Rattle.std.specs.Prelude.{ℕ, ◌≡◌, ◌⊎◌, List}
 use Rattle.vpg.specs.believed.Order.{Before}
 

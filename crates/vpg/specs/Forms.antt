@@ -1,5 +1,5 @@
 -- The form of a rule that takes a token alone, and the token's name: the numbers by which a grammar file and the table of rules know it.
--- Law: grammar-both-ways (grammar_file/proofs/BothWays.antt)
+-- Law: grammar_both_ways (grammar_file/proofs/BothWays.antt)
 use Rattle.std.specs.Prelude.{ℕ}
 use Rattle.vpg.specs.declared.Token.{Token}
 

@@ -17,6 +17,6 @@ beyond (Rule.Next L i L₁) = none
 beyond (Rule.Step L a L₁ b L₂) = some L₂
 
 -- is it this nonterminal
-abbrev pub isIt : Option ℕ → ℕ → Bool
-isIt none K = false
-isIt (some L) K = eqb L K
+abbrev pub is_it : Option ℕ → ℕ → Bool
+is_it none K = false
+is_it (some L) K = eqb L K

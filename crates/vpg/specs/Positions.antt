@@ -1,6 +1,6 @@
 -- What stands at each position of a reading (document 01, "Readings"): g are the rules, w the tokens, e the numbers, one for each position.
--- Law: position-mark, position-open, position-close, position-end (vpg/proofs/Positions.antt)
--- Law: matched-open, matched-close (vpg/proofs/Positions.antt)
+-- Law: position_mark, position_open, position_close, position_end (vpg/proofs/Positions.antt)
+-- Law: matched_open, matched_close (vpg/proofs/Positions.antt)
 use Rattle.std.specs.Prelude.{ℕ, ◌+◌, ◌≡◌, List, ◌∷◌, ◌++◌, length, drop}
 use Rattle.std.proofs.Math.Option.{some}
 use Rattle.std.proofs.Math.ListN.{get_elem?}

@@ -1,7 +1,7 @@
 -- All readings of a token list in ascending order, by a search from left to right.
--- Law: entries-readings (vpg/proofs/Sound.antt)
--- Law: entries-matched (vpg/proofs/Matched.antt)
--- Law: entries-ascending (vpg/proofs/Ascends.antt)
+-- Law: entries_readings (vpg/proofs/Sound.antt)
+-- Law: entries_matched (vpg/proofs/Matched.antt)
+-- Law: entries_ascending (vpg/proofs/Ascends.antt)
 -- Law: entries-only (vpg/proofs/Entries.antt)
 use Rattle.std.specs.Prelude.{ℕ, suc, Bool, true, false, ◌&&◌, List, [], ◌∷◌, ◌++◌, map, eqb}
 use Rattle.std.proofs.Math.Option.{Option, none, some}
@@ -9,7 +9,7 @@ use Rattle.vpg.specs.declared.CloseName.{CloseName}
 use Rattle.vpg.specs.declared.Rule.{Rule}
 use Rattle.vpg.specs.declared.Token.{Token}
 use Rattle.vpg.specs.believed.Grammar.{Rules, Grammar}
-use Rattle.vpg.specs.Tests.{isOpen, isClose, sameToken, ifEmpty}
+use Rattle.vpg.specs.Tests.{is_open_lem, is_close, same_token, if_empty}
 
 -- what is due once the current nonterminal is done: for each open step, innermost first, its close and the nonterminal after it
 abbrev pub Stack : Type 0
@@ -25,13 +25,13 @@ only false s = none
 -- where rule R leads from nonterminal L with s due, over one token
 abbrev pub move : Rule → ℕ → Stack → Token → Option State
 move (Rule.Empty M) L [] t = none
-move (Rule.Empty M) L (d ∷ s) t = only (isClose d.0 t && eqb M L) (d.1, s)
-move (Rule.Next M i M₁) L s t = only (sameToken i t && eqb M L) (M₁, s)
-move (Rule.Step M a M₁ b M₂) L s t = only (isOpen a t && eqb M L) (M₁, (b, M₂) ∷ s)
+move (Rule.Empty M) L (d ∷ s) t = only (is_close d.0 t && eqb M L) (d.1, s)
+move (Rule.Next M i M₁) L s t = only (same_token i t && eqb M L) (M₁, s)
+move (Rule.Step M a M₁ b M₂) L s t = only (is_open_lem a t && eqb M L) (M₁, (b, M₂) ∷ s)
 
 -- may the tokens end by rule R at nonterminal L with s due
 abbrev pub ends : Rule → ℕ → Stack → Bool
-ends R L [] = ifEmpty (λ M. eqb M L) R
+ends R L [] = if_empty (λ M. eqb M L) R
 ends R L (d ∷ s) = false
 
 -- the lists that k gives for each rule, with the rule's number in front; the first rule's number is n

@@ -1,5 +1,5 @@
 -- Derivation by single steps, as the paper writes it at the end of section 2: strings of terminals and nonterminals, w → w' and L →* w.
--- Law: derives-steps (vpg/proofs/Steps.antt)
+-- Law: derives_steps (vpg/proofs/Steps.antt)
 use Rattle.std.specs.Prelude.{ℕ, ◌≡◌, List, [], ◌∷◌, ◌++◌}
 use Rattle.std.proofs.Math.Option.{some}
 use Rattle.std.proofs.Math.ListN.{get_elem?}

@@ -24,5 +24,5 @@ module _ (file : List ℕ) (at : ℕ) (buffer : List ℕ) where
   copy-ends out i e q = q ∙ rw (e, take-length)
 
   -- the buffer keeps its length
-  pub copied-size : (out : List ℕ) → at + length file ≤ length buffer → out ≡ take at buffer ++ file ++ drop (at + length file) buffer → length out ≡ length buffer
-  copied-size out h e = copy-size out (length file) (omega arith) h (e ∙ rw take-length)
+  pub copied_size : (out : List ℕ) → at + length file ≤ length buffer → out ≡ take at buffer ++ file ++ drop (at + length file) buffer → length out ≡ length buffer
+  copied_size out h e = copy-size out (length file) (omega arith) h (e ∙ rw take-length)

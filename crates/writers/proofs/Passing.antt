@@ -6,44 +6,44 @@ use mathlib.Core.List.{List}
 use lib.ListN.{length}
 use Prim.Native.Nat.{ℕ, ◌<◌}
 use Rattle.numbers.specs.Written.{AllBelow}
-use Rattle.grammar_file.specs.believed.GrammarFile.{GrammarFile, grammarOf}
+use Rattle.grammar_file.specs.believed.GrammarFile.{GrammarFile, grammar_of}
 use Rattle.grammar_file.specs.believed.GrammarFile
-use Rattle.grammar_file.proofs.BothWays.{grammar-both-ways}
-use Rattle.history_file.specs.believed.HistoryFile.{HistoryFile, historyOf}
+use Rattle.grammar_file.proofs.BothWays.{grammar_both_ways}
+use Rattle.history_file.specs.believed.HistoryFile.{HistoryFile, history_of}
 use Rattle.history_file.specs.believed.HistoryFile
-use Rattle.history_file.proofs.BothWays.{history-both-ways}
-use Rattle.files.specs.believed.Checks.{grammarDue, historyDue}
+use Rattle.history_file.proofs.BothWays.{history_both_ways}
+use Rattle.files.specs.believed.Checks.{grammar_due, history_due}
 use Rattle.service.specs.believed.Given.{untouched}
-use Rattle.writers.specs.Longer.{longerForm}
+use Rattle.writers.specs.Longer.{longer_form}
 use Rattle.writers.specs.Passing.{passed, number_of}
-use Rattle.writers.specs.believed.Writers.{filled, grammarFilled, historyFilled}
-use Rattle.writers.proofs.Longer.{longer-bytes, some_bytes}
+use Rattle.writers.specs.believed.Writers.{filled, grammar_filled, history_filled}
+use Rattle.writers.proofs.Longer.{longer_bytes, some_bytes}
 
 module _ (s buffer : List ℕ) where
-  pub grammar-passes : AllBelow 256 s → passed (grammarDue (grammarOf s)) ≡ true → (grammarFilled (grammarOf s) buffer ≡ filled (longerForm s) buffer) × (0 < length s)
-  grammar-passes b h = go (grammarOf s) refl h
+  pub grammar_passes : AllBelow 256 s → passed (grammar_due (grammar_of s)) ≡ true → (grammar_filled (grammar_of s) buffer ≡ filled (longer_form s) buffer) × (0 < length s)
+  grammar_passes b h = go (grammar_of s) refl h
     where
-      go : (f : GrammarFile) → grammarOf s ≡ f → passed (grammarDue f) ≡ true → (grammarFilled f buffer ≡ filled (longerForm s) buffer) × (0 < length s)
-      go (GrammarFile.accepted g) e q = let (f, w) = (grammar-both-ways s b g).0 e in (ap (λ l. filled l buffer) (sym (longer-bytes g w s f)), some_bytes g w s f)
+      go : (f : GrammarFile) → grammar_of s ≡ f → passed (grammar_due f) ≡ true → (grammar_filled f buffer ≡ filled (longer_form s) buffer) × (0 < length s)
+      go (GrammarFile.accepted g) e q = let (f, w) = (grammar_both_ways s b g).0 e in (ap (λ l. filled l buffer) (sym (longer_bytes g w s f)), some_bytes g w s f)
       go (GrammarFile.refused d) e q = absurd (false≢true q)
 
-  pub grammar-fails : passed (grammarDue (grammarOf s)) ≡ false → grammarFilled (grammarOf s) buffer ≡ untouched buffer (number_of (grammarDue (grammarOf s)))
-  grammar-fails h = go (grammarOf s) h
+  pub grammar_fails : passed (grammar_due (grammar_of s)) ≡ false → grammar_filled (grammar_of s) buffer ≡ untouched buffer (number_of (grammar_due (grammar_of s)))
+  grammar_fails h = go (grammar_of s) h
     where
-      go : (f : GrammarFile) → passed (grammarDue f) ≡ false → grammarFilled f buffer ≡ untouched buffer (number_of (grammarDue f))
+      go : (f : GrammarFile) → passed (grammar_due f) ≡ false → grammar_filled f buffer ≡ untouched buffer (number_of (grammar_due f))
       go (GrammarFile.accepted g) q = absurd (false≢true (sym q))
       go (GrammarFile.refused d) q = refl
 
-  pub history-passes : AllBelow 256 s → passed (historyDue (historyOf s)) ≡ true → historyFilled (historyOf s) buffer ≡ filled s buffer
-  history-passes b h = go (historyOf s) refl h
+  pub history_passes : AllBelow 256 s → passed (history_due (history_of s)) ≡ true → history_filled (history_of s) buffer ≡ filled s buffer
+  history_passes b h = go (history_of s) refl h
     where
-      go : (f : HistoryFile) → historyOf s ≡ f → passed (historyDue f) ≡ true → historyFilled f buffer ≡ filled s buffer
-      go (HistoryFile.accepted ts) e q = ap (λ l. filled l buffer) (sym ((history-both-ways s b ts).0 e).0)
+      go : (f : HistoryFile) → history_of s ≡ f → passed (history_due f) ≡ true → history_filled f buffer ≡ filled s buffer
+      go (HistoryFile.accepted ts) e q = ap (λ l. filled l buffer) (sym ((history_both_ways s b ts).0 e).0)
       go (HistoryFile.refused d) e q = absurd (false≢true q)
 
-  pub history-fails : passed (historyDue (historyOf s)) ≡ false → historyFilled (historyOf s) buffer ≡ untouched buffer (number_of (historyDue (historyOf s)))
-  history-fails h = go (historyOf s) h
+  pub history_fails : passed (history_due (history_of s)) ≡ false → history_filled (history_of s) buffer ≡ untouched buffer (number_of (history_due (history_of s)))
+  history_fails h = go (history_of s) h
     where
-      go : (f : HistoryFile) → passed (historyDue f) ≡ false → historyFilled f buffer ≡ untouched buffer (number_of (historyDue f))
+      go : (f : HistoryFile) → passed (history_due f) ≡ false → history_filled f buffer ≡ untouched buffer (number_of (history_due f))
       go (HistoryFile.accepted ts) q = absurd (false≢true (sym q))
       go (HistoryFile.refused d) q = refl

@@ -2,12 +2,12 @@
 // 2.2). The elements are encoded beside the buffer and judged by the reader itself, so that a refusal writes nothing. A grammar is always
 // written with its start (2.3).
 ghost use Rattle.std.specs.Prelude.{◌≡◌, ◌++◌, ◌+◌, ◌<◌, ◌≤◌, length, take, drop};
-ghost use Rattle.grammar_file.specs.believed.GrammarFile.{grammarOf};
-ghost use Rattle.history_file.specs.believed.HistoryFile.{historyOf};
-ghost use Rattle.files.specs.believed.Checks.{grammarSaid, historySaid};
+ghost use Rattle.grammar_file.specs.believed.GrammarFile.{grammar_of};
+ghost use Rattle.history_file.specs.believed.HistoryFile.{history_of};
+ghost use Rattle.files.specs.believed.Checks.{grammar_said, history_said};
 ghost use Rattle.writers.specs.Passing.{passed, number_of};
-ghost use Rattle.writers.specs.Longer.{startInserted, longerForm};
-ghost use Rattle.writers.specs.believed.Writers.{writeSaid, filled, grammarFilled, historyFilled, grammarWritten, historyWritten};
+ghost use Rattle.writers.specs.Longer.{start_inserted, longer_form};
+ghost use Rattle.writers.specs.believed.Writers.{write_said, filled, grammar_filled, history_filled, grammar_written, history_written};
 
 use files::{GrammarCheck, HistoryCheck};
 
@@ -32,7 +32,7 @@ fn copy(file: &[u8], at: usize, out: &mut [u8])
 
 // Bytes of a file: into the buffer, where it has room.
 fn fill(file: &[u8], out: &mut [u8]) -> WriteAnswer
-    ensures { (writeSaid result, out.new) ≡ filled file.now out.old }
+    ensures { (write_said result, out.new) ≡ filled file.now out.old }
 {
     if out.len() < file.len() {
         return WriteAnswer::Refused(15);
@@ -44,7 +44,7 @@ fn fill(file: &[u8], out: &mut [u8]) -> WriteAnswer
 // Bytes of a grammar file that doesn't say its start: into the buffer with the start, 0, written out, where that has room.
 fn fill_with_start(file: &[u8], out: &mut [u8]) -> WriteAnswer
     requires { 0 < length file.now }
-    ensures { (writeSaid result, out.new) ≡ filled (startInserted file.now) out.old }
+    ensures { (write_said result, out.new) ≡ filled (start_inserted file.now) out.old }
 {
     let size = file.len() + 2;
     if out.len() < size {
@@ -60,7 +60,7 @@ fn fill_with_start(file: &[u8], out: &mut [u8]) -> WriteAnswer
 // Bytes of a grammar file with either beginning, in the longer form.
 fn fill_longer(file: &[u8], out: &mut [u8]) -> WriteAnswer
     requires { 0 < length file.now }
-    ensures { (writeSaid result, out.new) ≡ filled (longerForm file.now) out.old }
+    ensures { (write_said result, out.new) ≡ filled (longer_form file.now) out.old }
 {
     if file[0] == 0 {
         return fill(file, out);
@@ -70,7 +70,7 @@ fn fill_longer(file: &[u8], out: &mut [u8]) -> WriteAnswer
 
 // Whether the reader lets a grammar through.
 fn grammar_passes(check: GrammarCheck) -> bool
-    ensures { result ≡ passed (grammarSaid check) }
+    ensures { result ≡ passed (grammar_said check) }
 {
     match check {
         GrammarCheck::Accepted(_, _) => true,
@@ -80,7 +80,7 @@ fn grammar_passes(check: GrammarCheck) -> bool
 
 // The number of the refusal; 0 where there is none.
 fn grammar_number(check: GrammarCheck) -> u8
-    ensures { result ≡ number_of (grammarSaid check) }
+    ensures { result ≡ number_of (grammar_said check) }
 {
     match check {
         GrammarCheck::Accepted(_, _) => 0,
@@ -90,7 +90,7 @@ fn grammar_number(check: GrammarCheck) -> u8
 
 // A grammar file: into the buffer, where the reader lets it through.
 fn fill_grammar(file: &[u8], out: &mut [u8]) -> WriteAnswer
-    ensures { (writeSaid result, out.new) ≡ grammarFilled (grammarOf file.now) out.old }
+    ensures { (write_said result, out.new) ≡ grammar_filled (grammar_of file.now) out.old }
 {
     let check = files::grammar_check(file);
     if grammar_passes(check) {
@@ -101,7 +101,7 @@ fn fill_grammar(file: &[u8], out: &mut [u8]) -> WriteAnswer
 
 // Writes a grammar file: a 0, stage count, start, rule count, and the numbers of each rule, from a file's numbers with either beginning.
 pub fn write_grammar(numbers: &[u32], out: &mut [u8]) -> WriteAnswer
-    ensures { (writeSaid result, out.new) ≡ grammarWritten numbers.now out.old }
+    ensures { (write_said result, out.new) ≡ grammar_written numbers.now out.old }
 {
     let mut file = [0u8; 3078];
     let size = elements::encode(numbers, &mut file);
@@ -110,7 +110,7 @@ pub fn write_grammar(numbers: &[u32], out: &mut [u8]) -> WriteAnswer
 
 // Whether the reader lets a history through.
 fn history_passes(check: HistoryCheck) -> bool
-    ensures { result ≡ passed (historySaid check) }
+    ensures { result ≡ passed (history_said check) }
 {
     match check {
         HistoryCheck::Accepted(_) => true,
@@ -120,7 +120,7 @@ fn history_passes(check: HistoryCheck) -> bool
 
 // The number of the refusal; 0 where there is none.
 fn history_number(check: HistoryCheck) -> u8
-    ensures { result ≡ number_of (historySaid check) }
+    ensures { result ≡ number_of (history_said check) }
 {
     match check {
         HistoryCheck::Accepted(_) => 0,
@@ -130,7 +130,7 @@ fn history_number(check: HistoryCheck) -> u8
 
 // A history file: into the buffer, where the reader lets it through.
 fn fill_history(file: &[u8], out: &mut [u8]) -> WriteAnswer
-    ensures { (writeSaid result, out.new) ≡ historyFilled (historyOf file.now) out.old }
+    ensures { (write_said result, out.new) ≡ history_filled (history_of file.now) out.old }
 {
     let check = files::history_check(file);
     if history_passes(check) {
@@ -141,7 +141,7 @@ fn fill_history(file: &[u8], out: &mut [u8]) -> WriteAnswer
 
 // Writes a history file: token count, and the number of each token.
 pub fn write_history(numbers: &[u32], out: &mut [u8]) -> WriteAnswer
-    ensures { (writeSaid result, out.new) ≡ historyWritten numbers.now out.old }
+    ensures { (write_said result, out.new) ≡ history_written numbers.now out.old }
 {
     let mut file = [0u8; 3078];
     let size = elements::encode(numbers, &mut file);

@@ -25,5 +25,5 @@ cast-result c =
 returns : tie.Need-returns
 returns c = λ k. rw (exact c.args.m c.args.b (omega (arith, c.ranges.m)) c.requires) (bit-from c.args.b c.args.m k)
 
-pub from-spec : {M : Type 1} → statement M
-from-spec = tie.close (tie.spec shr-kept shl-kept cast-result returns)
+pub from_spec : {M : Type 1} → statement M
+from_spec = tie.close (tie.spec shr-kept shl-kept cast-result returns)

@@ -19,5 +19,5 @@ shl-result c = search rules
 returns : tie.Need-returns
 returns c = ap (bit_or c.args.m) (shl_exact 1 c.args.b 32 (lit< tt) (omega arith) ∙ one-mul _)
 
-pub with-spec : {M : Type 1} → statement M
-with-spec = tie.close (tie.spec cast-result shl-result returns)
+pub with_spec : {M : Type 1} → statement M
+with_spec = tie.close (tie.spec cast-result shl-result returns)

@@ -32,8 +32,8 @@ returns-2 : tie.Need-returns-2
 returns-2 c =
     rw (c.code-of2.ensures, ne_eqb _ _ c.before.before.before.before.before.if1.false) (ap coded c.before.before.before.next-reading.ensures)
 
-pub call-spec : {M : Type 1} → statement M
-call-spec =
+pub call_spec : {M : Type 1} → statement M
+call_spec =
     tie.close
     (tie.spec
     first-reading-requires

@@ -1,7 +1,7 @@
 -- `calls::no_room` meets its contract.
 use mathlib.Core.Path.{sym, ◌∙◌}
-use Rattle.service.specs.believed.Opened.{filesIn}
-use Rattle.service.proofs.Opens.{nothing-asked}
+use Rattle.service.specs.believed.Opened.{files_in}
+use Rattle.service.proofs.Opens.{nothing_asked}
 use borrow.Author.Rules.{rules}
 use Rattle.calls.proofs.no_room.Statement.{statement}
 use Rattle.calls.proofs.no_room.Tie as tie
@@ -19,13 +19,13 @@ returns : tie.Need-returns
 returns c =
     let o = c.before.before.open-files.ensures in
     let a = c.before.before.before.before.before.before.before.args in
-    rw (sym (nothing-asked (filesIn a.grammar.now a.history.now)) ∙ (o.passes _ _ c.enum_told.given.1).is)
+    rw (sym (nothing_asked (files_in a.grammar.now a.history.now)) ∙ (o.passes _ _ c.enum_told.given.1).is)
 
 returns-2 : tie.Need-returns-2
 returns-2 c =
     let o = c.before.before.before.open-files.ensures in
     let a = c.before.before.before.before.before.before.before.before.args in
-    rw (sym (nothing-asked (filesIn a.grammar.now a.history.now)) ∙ o.refuses _ c.before.opened.given.1)
+    rw (sym (nothing_asked (files_in a.grammar.now a.history.now)) ∙ o.refuses _ c.before.opened.given.1)
 
-pub no-room-spec : {M : Type 1} → statement M
-no-room-spec = tie.close (tie.spec open-files-requires enum_told enum-known-opened returns returns-2)
+pub no_room_spec : {M : Type 1} → statement M
+no_room_spec = tie.close (tie.spec open-files-requires enum_told enum-known-opened returns returns-2)

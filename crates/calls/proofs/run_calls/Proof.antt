@@ -3,7 +3,7 @@ use borrow.Author.Rules.{rules}
 use Prim.Native.Nat.{◌-◌}
 use native.Mathlib.Omega.{arith}
 use lib.ListN.{length}
-use Rattle.calls.proofs.Lists.{Calling, calling-start, calling-next, calling-end, calls-short}
+use Rattle.calls.proofs.Lists.{Calling, calling_start, calling_next, calling_end, calls_short}
 use Rattle.calls.proofs.run_calls.Statement.{statement}
 use Rattle.calls.proofs.run_calls.Tie as tie
 
@@ -19,12 +19,12 @@ no-room-requires c κs = search rules
 returns : tie.Need-returns invariant-loop decreases-loop
 returns c =
     let a = c.before.before.before.before.before.before.before.args in
-    calls-short a.grammar.now a.history.now a.calls.now a.answers.now a.buffer.now c.no_room.result c.before.if1.true c.no_room.ensures
+    calls_short a.grammar.now a.history.now a.calls.now a.answers.now a.buffer.now c.no_room.result c.before.if1.true c.no_room.ensures
 
 loop-holds : tie.Need-loop-init invariant-loop decreases-loop
 loop-holds c =
     let a = c.before.before.before.before.before.before.args in
-    calling-start a.grammar.now a.history.now a.calls.now a.answers.now a.buffer.now c.if1.false
+    calling_start a.grammar.now a.history.now a.calls.now a.answers.now a.buffer.now c.if1.false
 
 shared-slice-read-call : tie.Need-shared-slice-read-call invariant-loop decreases-loop
 shared-slice-read-call c = search rules
@@ -45,7 +45,7 @@ loop-again : tie.Need-loop-preserved invariant-loop decreases-loop
 loop-again c =
     let l = c.before.before.before.before.before.before in
     let a = l.before.before.before.before.before.before.before.args in
-    calling-next a.grammar.now a.history.now a.calls.now a.answers.now a.buffer.now l.before.if1.false l.loop.invariant c.before.before.before.before.before.loop-test.true c.before.before.call.result _ c.before.buffer.given c.before.before.call.ensures
+    calling_next a.grammar.now a.history.now a.calls.now a.answers.now a.buffer.now l.before.if1.false l.loop.invariant c.before.before.before.before.before.loop-test.true c.before.before.call.result _ c.before.buffer.given c.before.before.call.ensures
 
 same_length : tie.Need-same-length invariant-loop decreases-loop
 same_length c =
@@ -59,10 +59,10 @@ returns-2 : tie.Need-returns-2 invariant-loop decreases-loop
 returns-2 c =
     let l = c.before in
     let a = l.before.before.before.before.before.before.before.args in
-    calling-end a.grammar.now a.history.now a.calls.now a.answers.now a.buffer.now l.before.if1.false l.loop.invariant (omega arith)
+    calling_end a.grammar.now a.history.now a.calls.now a.answers.now a.buffer.now l.before.if1.false l.loop.invariant (omega arith)
 
-pub run-calls-spec : {M : Type 1} → statement M
-run-calls-spec =
+pub run_calls_spec : {M : Type 1} → statement M
+run_calls_spec =
     tie.close
     (tie.spec
     invariant-loop

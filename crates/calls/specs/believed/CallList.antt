@@ -1,17 +1,17 @@
 -- A list of calls as the listing model goes through it (document 01, "The plain listing").
 -- Clauses: 7.9, 8.8, 8.9 (docs/SPECIFICATION.md)
 use Rattle.std.specs.Prelude.{ℕ, cond, List, [], ◌∷◌, ◌++◌, map, eqb, ltb, length, drop}
-use Rattle.listing_model.specs.believed.Listing.{Call, first, next, Answer, written, no-reading, no-further, refused, Subject, start, model, shows, trace}
+use Rattle.listing_model.specs.believed.Listing.{Call, first, next, Answer, written, no_reading, no-further, refused, Subject, start, model, shows, trace}
 use Rattle.service.specs.believed.Given.{Given}
 use Rattle.service.specs.believed.Given as service
-use Rattle.service.specs.believed.Opened.{filesIn, served}
+use Rattle.service.specs.believed.Opened.{files_in, served}
 use Rattle.files.specs.believed.Files.{Files}
 use Rattle.readings.specs.believed.Answers.{subject}
 
 -- an answer as a number; refusals are 1 to 16
 abbrev pub code_of : Answer → ℕ
 code_of written = 0
-code_of no-reading = 100
+code_of no_reading = 100
 code_of no-further = 101
 code_of (refused k) = k
 
@@ -31,23 +31,23 @@ final [] s = s
 final (p ∷ l) s = final l p.1
 
 -- the model's answers to a list of calls
-abbrev pub modelAnswers : Subject → List Call → List ℕ → List ℕ
-modelAnswers x cs buf = map (λ p. code_of p.0) (trace (model x) cs (start x buf))
+abbrev pub model_answers : Subject → List Call → List ℕ → List ℕ
+model_answers x cs buf = map (λ p. code_of p.0) (trace (model x) cs (start x buf))
 
 -- the buffer in the model's last state
-abbrev pub modelBuffer : Subject → List Call → List ℕ → List ℕ
-modelBuffer x cs buf = shows x buf (final (trace (model x) cs (start x buf)) (start x buf))
+abbrev pub model_buffer : Subject → List Call → List ℕ → List ℕ
+model_buffer x cs buf = shows x buf (final (trace (model x) cs (start x buf)) (start x buf))
 
 -- all calls made, by the model
-abbrev pub callsMade : Subject → List ℕ → List ℕ → List ℕ → Given Unit × List ℕ × List ℕ
-callsMade x kinds answers buf = (service.written, modelAnswers x (calls_of kinds) buf ++ drop (length kinds) answers, modelBuffer x (calls_of kinds) buf)
+abbrev pub calls_made : Subject → List ℕ → List ℕ → List ℕ → Given Unit × List ℕ × List ℕ
+calls_made x kinds answers buf = (service.written, model_answers x (calls_of kinds) buf ++ drop (length kinds) answers, model_buffer x (calls_of kinds) buf)
 
 -- "grammar comes before history, both before 15": the number where the answers have no room
-abbrev pub noRoom : Files → ℕ
-noRoom files = served (λ e. e) (λ g w. 15) files
+abbrev pub no_room_lem : Files → ℕ
+no_room_lem files = served (λ e. e) (λ g w. 15) files
 
 -- all calls made; or nothing done where the answers have no room
-abbrev pub callsDue : List ℕ → List ℕ → List ℕ → List ℕ → List ℕ → Given Unit × List ℕ × List ℕ
-callsDue grammar history kinds answers buf =
-    cond (ltb (length answers) (length kinds)) (service.refused (noRoom (filesIn grammar history)), answers, buf)
-    (callsMade (subject grammar history (length buf)) kinds answers buf)
+abbrev pub calls_due : List ℕ → List ℕ → List ℕ → List ℕ → List ℕ → Given Unit × List ℕ × List ℕ
+calls_due grammar history kinds answers buf =
+    cond (ltb (length answers) (length kinds)) (service.refused (no_room_lem (files_in grammar history)), answers, buf)
+    (calls_made (subject grammar history (length buf)) kinds answers buf)

@@ -19,5 +19,5 @@ returns c = simp c.before.n.given.1
 returns-2 : tie.Need-returns-2
 returns-2 c = rw c.enum_told.given.1 (sym (lt-ltb c.before.before.args.k limit (omega (arith, c.before.before.ranges.k))))
 
-pub is-below-spec : {M : Type 1} → statement M
-is-below-spec = tie.close (tie.spec enum-known-n enum_told returns returns-2)
+pub is_below_spec : {M : Type 1} → statement M
+is_below_spec = tie.close (tie.spec enum-known-n enum_told returns returns-2)

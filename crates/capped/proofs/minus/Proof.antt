@@ -19,5 +19,5 @@ returns c = simp c.before.n.given.1
 returns-2 : tie.Need-returns-2
 returns-2 c = let h = rw c.enum_told.given.1 at c.before.before.requires in absurd (omega (arith, h, c.before.before.ranges.k))
 
-pub minus-spec : {M : Type 1} → statement M
-minus-spec = tie.close (tie.spec enum-known-n sub-result enum_told returns returns-2)
+pub minus_spec : {M : Type 1} → statement M
+minus_spec = tie.close (tie.spec enum-known-n sub-result enum_told returns returns-2)

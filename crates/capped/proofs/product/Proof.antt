@@ -3,7 +3,7 @@ use native.Mathlib.Nat.{zero-mul}
 use mathlib.Core.Path.{refl}
 use native.Mathlib.Omega.{arith}
 use borrow.Author.Rules.{rules}
-use Rattle.capped.proofs.Products.{fits, goes_over, times-limit, limit-times}
+use Rattle.capped.proofs.Products.{fits, goes_over, times_limit, limit_times}
 use Rattle.capped.proofs.product.Statement.{statement}
 use Rattle.capped.proofs.product.Tie as tie
 
@@ -44,16 +44,16 @@ returns-4 : tie.Need-returns-4
 returns-4 c = let h = fits c.before.before.before.before.before.before.a.given.0.0 c.before.before.b.given.0.0 c.if2.false in rw (c.before.before.before.before.before.before.a.given.1, c.before.before.b.given.1) (omega arith)
 
 returns-5 : tie.Need-returns-5
-returns-5 c = rw (c.before.before.before.before.a.given.1, c.enum_told.given.1) (times-limit c.before.before.before.before.a.given.0.0 c.before.before.if1.false)
+returns-5 c = rw (c.before.before.before.before.a.given.1, c.enum_told.given.1) (times_limit c.before.before.before.before.a.given.0.0 c.before.before.if1.false)
 
 returns-6 : tie.Need-returns-6
-returns-6 c = rw (c.before.before.before.before.enum-told2.given.1, c.before.before.b2.given.1) (limit-times c.before.before.b2.given.0.0 c.if3.false)
+returns-6 c = rw (c.before.before.before.before.enum-told2.given.1, c.before.before.b2.given.1) (limit_times c.before.before.b2.given.0.0 c.if3.false)
 
 returns-7 : tie.Need-returns-7
 returns-7 c = rw (c.before.before.enum-told2.given.1, c.enum-told3.given.1) refl
 
-pub product-spec : {M : Type 1} → statement M
-product-spec =
+pub product_spec : {M : Type 1} → statement M
+product_spec =
     tie.close
     (tie.spec
     enum-known-a

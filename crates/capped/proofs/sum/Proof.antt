@@ -34,8 +34,8 @@ returns-3 c = rw (c.before.before.before.a.given.1, c.enum_told.given.1) (omega 
 returns-4 : tie.Need-returns-4
 returns-4 c = rw c.enum-told2.given.1 (omega arith)
 
-pub sum-spec : {M : Type 1} → statement M
-sum-spec =
+pub sum_spec : {M : Type 1} → statement M
+sum_spec =
     tie.close
     (tie.spec
     enum-known-a

@@ -1,5 +1,5 @@
 -- `closed`: the state and the name of the last step, or none.
-use Rattle.configurations.proofs.Stacks.{close-step, close-none}
+use Rattle.configurations.proofs.Stacks.{close_step, close_none}
 use borrow.Author.Rules.{rules}
 use Rattle.configurations.proofs.closed.Statement.{statement}
 use Rattle.configurations.proofs.closed.Tie as tie
@@ -11,7 +11,7 @@ returns : tie.Need-returns
 returns c =
     let s = c.before.before.before.before in
     let a = s.args in
-    close-none a.table.now a.top.head a.top.depth a.rows.now a.stack.now a.names.now s.requires.1.1.0 s.requires.1.1.1 a.b _ c.before.before.if1.true c.after-token.ensures
+    close_none a.table.now a.top.head a.top.depth a.rows.now a.stack.now a.names.now s.requires.1.1.0 s.requires.1.1.1 a.b _ c.before.before.if1.true c.after-token.ensures
 
 sub-d : tie.Need-overflow-sub-d
 sub-d c = search rules
@@ -35,10 +35,10 @@ returns-2 : tie.Need-returns-2
 returns-2 c =
     let s = c.before.before.before.before.before.before.before in
     let a = s.args in
-    close-step a.table.now a.top.head a.top.depth a.rows.now a.stack.now a.names.now s.requires.1.1.0 s.requires.1.1.1 a.b _ c.before.before.before.before.before.if1.false c.after-close.ensures
+    close_step a.table.now a.top.head a.top.depth a.rows.now a.stack.now a.names.now s.requires.1.1.0 s.requires.1.1.1 a.b _ c.before.before.before.before.before.if1.false c.after-close.ensures
 
-pub closed-spec : {M : Type 1} → statement M
-closed-spec =
+pub closed_spec : {M : Type 1} → statement M
+closed_spec =
     tie.close
     (tie.spec
     after-token-requires

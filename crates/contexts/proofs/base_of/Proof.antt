@@ -13,5 +13,5 @@ returns c = rw (le-leb _ _ c.before.if1.true) c.low-ends.ensures
 returns-2 : tie.Need-returns-2
 returns-2 c = rw (lt-leb _ _ c.if1.false)
 
-pub base-of-spec : {M : Type 1} → statement M
-base-of-spec = tie.close (tie.spec low-ends-requires returns returns-2)
+pub base_of_spec : {M : Type 1} → statement M
+base_of_spec = tie.close (tie.spec low-ends-requires returns returns-2)

@@ -19,6 +19,6 @@ returns c = rw (sym c.before.before.before.same-close.ensures ∙ c.before.befor
 returns-2 : tie.Need-returns-2
 returns-2 c = rw (sym c.before.same-close.ensures ∙ c.if1.false)
 
-pub closes-spec : {M : Type 1} → statement M
-closes-spec =
+pub closes_spec : {M : Type 1} → statement M
+closes_spec =
     tie.close (tie.spec same-close-requires after-of-requires has-wide-requires returns returns-2)

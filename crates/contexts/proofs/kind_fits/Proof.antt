@@ -15,5 +15,5 @@ returns-3 c = rw (ne_eqb _ 4 c.before.before.if1.false, ne_eqb _ 3 c.before.if2.
 returns-4 : tie.Need-returns-4
 returns-4 c = rw (ne_eqb _ 4 c.before.before.if1.false, ne_eqb _ 3 c.before.if2.false, ne_eqb _ 2 c.if3.false)
 
-pub kind-fits-spec : {M : Type 1} → statement M
-kind-fits-spec = tie.close (tie.spec returns returns-2 returns-3 returns-4)
+pub kind_fits_spec : {M : Type 1} → statement M
+kind_fits_spec = tie.close (tie.spec returns returns-2 returns-3 returns-4)

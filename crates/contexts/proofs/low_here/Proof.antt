@@ -9,5 +9,5 @@ returns c = rw (le-leb _ _ c.if1.true)
 returns-2 : tie.Need-returns-2
 returns-2 c = rw (lt-leb _ _ c.before.if1.false)
 
-pub low-here-spec : {M : Type 1} → statement M
-low-here-spec = tie.close (tie.spec returns returns-2)
+pub low_here_spec : {M : Type 1} → statement M
+low_here_spec = tie.close (tie.spec returns returns-2)

@@ -12,5 +12,5 @@ both-requires c κs = search rules
 returns : tie.Need-returns
 returns c = simp (c.both.ensures, c.before.low-here.ensures)
 
-pub may-end-spec : {M : Type 1} → statement M
-may-end-spec = tie.close (tie.spec low-here-requires both-requires returns)
+pub may_end_spec : {M : Type 1} → statement M
+may_end_spec = tie.close (tie.spec low-here-requires both-requires returns)

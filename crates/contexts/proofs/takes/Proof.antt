@@ -2,9 +2,9 @@
 use borrow.Author.Rules.{rules}
 use native.Mathlib.Omega.{arith}
 use mathlib.Core.Path.{sym, ◌∙◌}
-use Rattle.tables.specs.Table.{ruleIn}
-use Rattle.rule_index.proofs.Goals.{inside-small, after_small}
-use Rattle.contexts.proofs.Forms.{other_name, not-inside, step-takes, alone-takes}
+use Rattle.tables.specs.Table.{rule_in}
+use Rattle.rule_index.proofs.Goals.{inside_small, after_small}
+use Rattle.contexts.proofs.Forms.{other_name, not_inside, step-takes, alone-takes}
 use Rattle.contexts.proofs.takes.Statement.{statement}
 use Rattle.contexts.proofs.takes.Tie as tie
 
@@ -17,12 +17,12 @@ inside-of-requires c κs = search rules
 has-wide-requires : tie.Need-has-wide-requires
 has-wide-requires c κs =
     let s = c.before.before.before.before.before in
-    rw (c.inside_of.ensures, s.requires.0.goals.inside _ s.requires.1) (inside-small s.args.head.well (ruleIn s.args.table.now s.args.r) (s.requires.0.ready.small _ s.requires.1))
+    rw (c.inside_of.ensures, s.requires.0.goals.inside _ s.requires.1) (inside_small s.args.head.well (rule_in s.args.table.now s.args.r) (s.requires.0.ready.small _ s.requires.1))
 
 closes-requires : tie.Need-closes-requires
 closes-requires c κs =
     let s = c.before.before.before.before.before.before.before.before.before in
-    (omega (arith, s.requires.0.ready.few, s.requires.1), rw (s.requires.0.goals.after _ s.requires.1) (after_small s.args.head.well (ruleIn s.args.table.now s.args.r) (s.requires.0.ready.small _ s.requires.1)))
+    (omega (arith, s.requires.0.ready.few, s.requires.1), rw (s.requires.0.goals.after _ s.requires.1) (after_small s.args.head.well (rule_in s.args.table.now s.args.r) (s.requires.0.ready.small _ s.requires.1)))
 
 returns : tie.Need-returns
 returns c =
@@ -43,7 +43,7 @@ returns-3 c =
     let x = c.before.before.before.before.before.before in
     let s = x.before in
     let q = rw c.before.before.inside_of.ensures at (sym c.before.has-wide.ensures ∙ c.if2.false) in
-    not-inside s.args.head.well s.args.context s.args.table.now s.args.r _ x.six-in.ensures (s.requires.0.ready.forms _ s.requires.1) s.requires.2 (s.requires.0.goals.inside _ s.requires.1, s.requires.0.goals.after _ s.requires.1) q
+    not_inside s.args.head.well s.args.context s.args.table.now s.args.r _ x.six-in.ensures (s.requires.0.ready.forms _ s.requires.1) s.requires.2 (s.requires.0.goals.inside _ s.requires.1, s.requires.0.goals.after _ s.requires.1) q
 
 returns-4 : tie.Need-returns-4
 returns-4 c =
@@ -51,8 +51,8 @@ returns-4 c =
     let s = x.before in
     other_name s.args.head.well s.args.context s.args.table.now s.args.r _ x.six-in.ensures (s.requires.0.ready.forms _ s.requires.1) s.requires.2 (s.requires.0.goals.inside _ s.requires.1, s.requires.0.goals.after _ s.requires.1) c.if1.false
 
-pub takes-spec : {M : Type 1} → statement M
-takes-spec =
+pub takes_spec : {M : Type 1} → statement M
+takes_spec =
     tie.close
     (tie.spec
     six-in-requires

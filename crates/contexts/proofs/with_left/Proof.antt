@@ -22,6 +22,6 @@ returns c = simp (c.with.ensures, c.before.left_in.ensures, sym c.before.before.
 returns-2 : tie.Need-returns-2
 returns-2 c = simp (sym c.before.takes.ensures ∙ c.if1.false)
 
-pub with-left-spec : {M : Type 1} → statement M
-with-left-spec =
+pub with_left_spec : {M : Type 1} → statement M
+with_left_spec =
     tie.close (tie.spec takes-requires left-in-requires cast-with with-requires returns returns-2)

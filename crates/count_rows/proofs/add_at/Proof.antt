@@ -7,8 +7,8 @@ use lib.Bits.{bit_or}
 use lib.Dec.{lit<}
 use lib.Pow.{shl_exact}
 use Rattle.capped.specs.Capped.{value}
-use Rattle.count_rows.specs.Rows.{oversAt}
-use Rattle.count_rows.proofs.Store.{stays-over, stored, goes_over}
+use Rattle.count_rows.specs.Rows.{overs_at}
+use Rattle.count_rows.proofs.Store.{stays_over, stored, goes_over}
 use Rattle.count_rows.proofs.add_at.Statement.{statement}
 use Rattle.count_rows.proofs.add_at.Tie as tie
 
@@ -30,7 +30,7 @@ has-wide-requires c κs = search rules
 returns : tie.Need-returns
 returns c =
     let s = c.before.before.before in
-    stays-over s.args.rows.now s.requires.0 s.args.p s.args.l (value s.args.n) s.requires.1.0 s.requires.1.1 (sym c.before.has-wide.ensures ∙ c.if1.true)
+    stays_over s.args.rows.now s.requires.0 s.args.p s.args.l (value s.args.n) s.requires.1.0 s.requires.1.1 (sym c.before.has-wide.ensures ∙ c.if1.true)
 
 add-exact : tie.Need-overflow-add-exact
 add-exact c = search rules
@@ -82,12 +82,12 @@ returns-3 : tie.Need-returns-3
 returns-3 c =
     let i = c.before.before.before.before in
     let s = i.before.before.before in
-    rw (ap (bit_or (oversAt s.args.rows.now s.args.p)) (shl_exact 1 s.args.l 64 (lit< tt) (omega (arith, s.requires.1.1)) ∙ one-mul _))
+    rw (ap (bit_or (overs_at s.args.rows.now s.args.p)) (shl_exact 1 s.args.l 64 (lit< tt) (omega (arith, s.requires.1.1)) ∙ one-mul _))
     (goes_over s.args.rows.now s.requires.0 s.args.p s.args.l (value s.args.n) s.requires.1.0 s.requires.1.1 (sym i.before.has-wide.ensures ∙ i.if1.false)
     (rw c.enum_told.given.1 at c.before.before.sum.ensures))
 
-pub add-at-spec : {M : Type 1} → statement M
-add-at-spec =
+pub add_at_spec : {M : Type 1} → statement M
+add_at_spec =
     tie.close
     (tie.spec
     mul-row

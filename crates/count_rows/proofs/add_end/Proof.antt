@@ -1,5 +1,5 @@
 -- `add_end`: there is an empty rule and it is allowed, or nothing is added.
-use Rattle.count_rows.proofs.Row.{second-fails}
+use Rattle.count_rows.proofs.Row.{second_fails}
 use mathlib.Core.Path.{refl, sym, ◌∙◌}
 use Rattle.laws.proofs.Bools.{both}
 use mathlib.Core.Logic.{inl, inr}
@@ -26,7 +26,7 @@ returns c =
 returns-2 : tie.Need-returns-2
 returns-2 c =
     let e = c.before.before.before.before.end_of_lem.ensures in
-    inr (second-fails (lt-ltb _ _ (rw e at c.before.before.if1.true)) (rw e at (sym c.before.allowed.ensures ∙ c.if2.false)), refl)
+    inr (second_fails (lt-ltb _ _ (rw e at c.before.before.if1.true)) (rw e at (sym c.before.allowed.ensures ∙ c.if2.false)), refl)
 
 returns-3 : tie.Need-returns-3
 returns-3 c =
@@ -34,7 +34,7 @@ returns-3 c =
     let q = le-ltb _ _ (rw e at c.if1.false) in
     inr (rw q, refl)
 
-pub add-end-spec : {M : Type 1} → statement M
-add-end-spec =
+pub add_end_spec : {M : Type 1} → statement M
+add_end_spec =
     tie.close
     (tie.spec end-of-requires allowed-requires add-at-requires returns returns-2 returns-3)

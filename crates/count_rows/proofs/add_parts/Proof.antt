@@ -23,7 +23,7 @@ returns c =
     let r = c.before.before.before.before in
     rw (← r.before.left_in.ensures, ← r.rule-of.ensures, ← c.before.before.parts-of.ensures) c.add_at.ensures
 
-pub add-parts-spec : {M : Type 1} → statement M
-add-parts-spec =
+pub add_parts_spec : {M : Type 1} → statement M
+add_parts_spec =
     tie.close
     (tie.spec left-in-requires cast-l rule-of-requires parts-of-requires add-at-requires returns)

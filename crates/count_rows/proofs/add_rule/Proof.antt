@@ -4,7 +4,7 @@ use native.Mathlib.Omega.{arith}
 use mathlib.Core.Path.{refl, sym, ◌∙◌}
 use mathlib.Core.Logic.{inl, inr}
 use Rattle.laws.proofs.Bools.{both}
-use Rattle.count_rows.proofs.Row.{second-fails}
+use Rattle.count_rows.proofs.Row.{second_fails}
 use Rattle.count_rows.proofs.add_rule.Statement.{statement}
 use Rattle.count_rows.proofs.add_rule.Tie as tie
 
@@ -26,14 +26,14 @@ returns c =
     inl (both (sym i.before.before.before.allowed.ensures ∙ i.before.before.if1.true) (sym i.before.applies.ensures ∙ i.if2.true), c.add_parts.ensures)
 
 returns-2 : tie.Need-returns-2
-returns-2 c = inr (second-fails (sym c.before.before.before.allowed.ensures ∙ c.before.before.if1.true) (sym c.before.applies.ensures ∙ c.if2.false), refl)
+returns-2 c = inr (second_fails (sym c.before.before.before.allowed.ensures ∙ c.before.before.if1.true) (sym c.before.applies.ensures ∙ c.if2.false), refl)
 
 returns-3 : tie.Need-returns-3
 returns-3 c =
     let q = sym c.before.allowed.ensures ∙ c.if1.false in
     inr (rw q, refl)
 
-pub add-rule-spec : {M : Type 1} → statement M
-add-rule-spec =
+pub add_rule_spec : {M : Type 1} → statement M
+add_rule_spec =
     tie.close
     (tie.spec allowed-requires applies-requires add-parts-requires returns returns-2 returns-3)

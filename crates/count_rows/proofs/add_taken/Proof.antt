@@ -4,7 +4,7 @@ use native.Mathlib.Omega.{arith}
 use mathlib.Core.Path.{refl, sym, ◌∙◌}
 use mathlib.Core.Logic.{inl, inr}
 use Rattle.laws.proofs.Bools.{both}
-use Rattle.count_rows.proofs.Row.{second-fails}
+use Rattle.count_rows.proofs.Row.{second_fails}
 use Rattle.count_rows.proofs.add_taken.Statement.{statement}
 use Rattle.count_rows.proofs.add_taken.Tie as tie
 
@@ -26,14 +26,14 @@ returns c =
     inl (both (sym i.before.before.before.allowed.ensures ∙ i.before.before.if1.true) (sym i.before.takes.ensures ∙ i.if2.true), c.add_parts.ensures)
 
 returns-2 : tie.Need-returns-2
-returns-2 c = inr (second-fails (sym c.before.before.before.allowed.ensures ∙ c.before.before.if1.true) (sym c.before.takes.ensures ∙ c.if2.false), refl)
+returns-2 c = inr (second_fails (sym c.before.before.before.allowed.ensures ∙ c.before.before.if1.true) (sym c.before.takes.ensures ∙ c.if2.false), refl)
 
 returns-3 : tie.Need-returns-3
 returns-3 c =
     let q = sym c.before.allowed.ensures ∙ c.if1.false in
     inr (rw q, refl)
 
-pub add-taken-spec : {M : Type 1} → statement M
-add-taken-spec =
+pub add_taken_spec : {M : Type 1} → statement M
+add_taken_spec =
     tie.close
     (tie.spec allowed-requires takes-requires add-parts-requires returns returns-2 returns-3)

@@ -12,5 +12,5 @@ rows-of-requires c κs = search rules
 returns : tie.Need-returns
 returns c = let a = c.before.before.anywhere.ensures in rw (a.0, a.1) at c.rows_of_lem.ensures
 
-pub all-rows-spec : {M : Type 1} → statement M
-all-rows-spec = tie.close (tie.spec anywhere-requires rows-of-requires returns)
+pub all_rows_spec : {M : Type 1} → statement M
+all_rows_spec = tie.close (tie.spec anywhere-requires rows-of-requires returns)

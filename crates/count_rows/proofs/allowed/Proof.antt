@@ -9,5 +9,5 @@ returns c = simp (eq-eqb _ _ c.before.if1.true)
 returns-2 : tie.Need-returns-2
 returns-2 c = simp (ne_eqb _ _ c.if1.false)
 
-pub allowed-spec : {M : Type 1} → statement M
-allowed-spec = tie.close (tie.spec returns returns-2)
+pub allowed_spec : {M : Type 1} → statement M
+allowed_spec = tie.close (tie.spec returns returns-2)

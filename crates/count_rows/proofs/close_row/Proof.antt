@@ -2,8 +2,8 @@
 use borrow.Author.Rules.{rules}
 use mathlib.Core.Path.{refl}
 use Rattle.rule_index.proofs.Walk.{starts}
-use Rattle.contexts.specs.Context.{tokenHere}
-use Rattle.count_rows.proofs.Ends.{only-close}
+use Rattle.contexts.specs.Context.{token_here}
+use Rattle.count_rows.proofs.Ends.{only_close}
 use Rattle.count_rows.proofs.close_row.Statement.{statement}
 use Rattle.count_rows.proofs.close_row.Tie as tie
 
@@ -28,11 +28,11 @@ returns-2 c =
     let f = e.before.before in
     let s = f.before in
     let p = s.args.context in
-    let first = starts s.requires.0.0 (tokenHere p) _ f.first-here.result refl f.first-here.ensures in
-    c.ends-row.ensures (rw c.before.before.wide.ensures (only-close s.requires.0.0 p s.requires.0.2 s.requires.0.1 first e.if1.false))
+    let first = starts s.requires.0.0 (token_here p) _ f.first-here.result refl f.first-here.ensures in
+    c.ends-row.ensures (rw c.before.before.wide.ensures (only_close s.requires.0.0 p s.requires.0.2 s.requires.0.1 first e.if1.false))
 
-pub close-row-spec : {M : Type 1} → statement M
-close-row-spec =
+pub close_row_spec : {M : Type 1} → statement M
+close_row_spec =
     tie.close
     (tie.spec
     first-here-requires

@@ -19,7 +19,7 @@ count-by-requires c κs = (c.before.requires.0, c.before.requires.1, refl)
 returns : tie.Need-returns
 returns c = search rules
 
-pub count-at-spec : {M : Type 1} → statement M
-count-at-spec =
+pub count_at_spec : {M : Type 1} → statement M
+count_at_spec =
     tie.close
     (tie.spec add-count-by mul-count-by element-copy-out-count-by count-by-requires returns)

@@ -32,7 +32,7 @@ returns-2 c =
     let h = rw s.requires.2 at (sym c.before.before.has-wide.ensures ∙ c.before.if1.false) in
     simp (lt-ltb _ _ s.requires.0, h)
 
-pub count-by-spec : {M : Type 1} → statement M
-count-by-spec =
+pub count_by_spec : {M : Type 1} → statement M
+count_by_spec =
     tie.close
     (tie.spec mul-row has-wide-requires returns add-exact mul-exact element-copy-out-exact returns-2)

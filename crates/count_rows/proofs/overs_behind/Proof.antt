@@ -31,8 +31,8 @@ element-copy-out-t15 c = search rules
 returns : tie.Need-returns
 returns c = (simp (add-one), simp (add-one))
 
-pub overs-behind-spec : {M : Type 1} → statement M
-overs-behind-spec =
+pub overs_behind_spec : {M : Type 1} → statement M
+overs_behind_spec =
     tie.close
     (tie.spec
     add-inside

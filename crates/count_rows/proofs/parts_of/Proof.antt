@@ -50,8 +50,8 @@ returns-2 c = simp (c.count_by.ensures, c.before.before.rule.given.1, add-one)
 returns-3 : tie.Need-returns-3
 returns-3 c = simp (c.product.ensures, c.before.count-by3.ensures, c.before.before.count-by2.ensures, c.before.before.before.before.rule2.given.1, add-one)
 
-pub parts-of-spec : {M : Type 1} → statement M
-parts-of-spec =
+pub parts_of_spec : {M : Type 1} → statement M
+parts_of_spec =
     tie.close
     (tie.spec
     add-inside

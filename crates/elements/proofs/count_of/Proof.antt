@@ -12,5 +12,5 @@ returns c = sym (length-take-le 1026 c.before.args.elements.now (omega (arith, c
 returns-2 : tie.Need-returns-2
 returns-2 c = ap length (sym (take_all 1026 c.before.args.elements.now c.if1.false))
 
-pub count-of-spec : {M : Type 1} → statement M
-count-of-spec = tie.close (tie.spec returns returns-2)
+pub count_of_spec : {M : Type 1} → statement M
+count_of_spec = tie.close (tie.spec returns returns-2)

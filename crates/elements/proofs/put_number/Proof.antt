@@ -7,7 +7,7 @@ use mathlib.Core.List.{[], ◌∷◌}
 use borrow.Author.Rules.{rules}
 use lib.Seq.{sets-eq}
 use Rattle.elements.specs.Encoded.{writable}
-use Rattle.elements.proofs.Encoding.{writable-small, one-byte-of, two-bytes-of, three-bytes-of}
+use Rattle.elements.proofs.Encoding.{writable_small, one-byte_of, two_bytes_of, three_bytes_of}
 use Rattle.elements.proofs.put_number.Statement.{statement}
 use Rattle.elements.proofs.put_number.Tie as tie
 
@@ -23,7 +23,7 @@ add-result c = search rules
 returns : tie.Need-returns
 returns c =
     let a = c.before.args in
-    rw (one-byte-of a.n c.if1.true) (refl, sets-eq (a.n ∷ []) a.file.now a.at (omega (arith, c.before.requires.0, c.before.requires.1)))
+    rw (one-byte_of a.n c.if1.true) (refl, sets-eq (a.n ∷ []) a.file.now a.at (omega (arith, c.before.requires.0, c.before.requires.1)))
 
 add-file : tie.Need-overflow-add-file
 add-file c = search rules
@@ -50,7 +50,7 @@ returns-2 : tie.Need-returns-2
 returns-2 c =
     let s = c.before.before in
     let a = s.args in
-    rw (two-bytes-of a.n c.before.if1.false c.if2.true, add-one)
+    rw (two_bytes_of a.n c.before.if1.false c.if2.true, add-one)
     (refl, sets-eq ((a.n % 128 + 128) ∷ (a.n / 128) ∷ []) a.file.now a.at (omega (arith, s.requires.0, s.requires.1)))
 
 writable-of-requires : tie.Need-writable-of-requires
@@ -78,7 +78,7 @@ element-write-file-5 : tie.Need-element-write-file-5
 element-write-file-5 c = search rules
 
 cast-file-6 : tie.Need-overflow-cast-file-6
-cast-file-6 c = omega (arith, c.writable-of.ensures, writable-small c.before.before.before.args.n)
+cast-file-6 c = omega (arith, c.writable-of.ensures, writable_small c.before.before.before.args.n)
 
 add-file-6 : tie.Need-overflow-add-file-6
 add-file-6 c = search rules
@@ -93,11 +93,11 @@ returns-3 : tie.Need-returns-3
 returns-3 c =
     let s = c.before.before.before in
     let a = s.args in
-    rw (three-bytes-of a.n c.before.if2.false, c.writable-of.ensures, add-one, add-two)
+    rw (three_bytes_of a.n c.before.if2.false, c.writable-of.ensures, add-one, add-two)
     (refl, sets-eq ((writable a.n % 128 + 128) ∷ (writable a.n / 128 % 128 + 128) ∷ (writable a.n / 16384) ∷ []) a.file.now a.at (omega (arith, s.requires.0, s.requires.1)))
 
-pub put-number-spec : {M : Type 1} → statement M
-put-number-spec =
+pub put_number_spec : {M : Type 1} → statement M
+put_number_spec =
     tie.close
     (tie.spec
     cast-file

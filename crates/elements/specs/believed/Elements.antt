@@ -6,9 +6,9 @@ use Rattle.numbers.specs.declared.NumberRead.TheVariants.{Number, Refused}
 use Rattle.numbers.specs.believed.Number.{Source}
 
 -- the element at a place, whatever its size: "1 for too few elements", "2 never"
-unfoldable pub elementAt : List ℕ → ℕ → NumberRead
-elementAt es at = cond (ltb at (length es)) (Number (get_or es at 0) (at + 1)) (Refused 1)
+unfoldable pub element_at : List ℕ → ℕ → NumberRead
+element_at es at = cond (ltb at (length es)) (Number (get_or es at 0) (at + 1)) (Refused 1)
 
 -- "9 for too many"
 abbrev pub elements : List ℕ → Source
-elements es = record { number = elementAt es; more = λ at. ltb at (length es) }
+elements es = record { number = element_at es; more = λ at. ltb at (length es) }

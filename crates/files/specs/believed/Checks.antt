@@ -14,21 +14,21 @@ pub data Verdict : Type 0 where
   refused : ℕ → Verdict
 
 -- this paper's number and values for each case of the enum: the stage count and the rule count
-abbrev pub grammarSaid : GrammarCheck → Verdict
-grammarSaid (GrammarCheck.Accepted nonterminals rules) = accepted (nonterminals ∷ rules ∷ [])
-grammarSaid (GrammarCheck.Refused e) = refused e
+abbrev pub grammar_said : GrammarCheck → Verdict
+grammar_said (GrammarCheck.Accepted nonterminals rules) = accepted (nonterminals ∷ rules ∷ [])
+grammar_said (GrammarCheck.Refused e) = refused e
 
 -- what is due for a grammar file
-abbrev pub grammarDue : GrammarFile → Verdict
-grammarDue (GrammarFile.accepted g) = accepted (g.nonterminals ∷ length g.rules ∷ [])
-grammarDue (GrammarFile.refused e) = refused e
+abbrev pub grammar_due : GrammarFile → Verdict
+grammar_due (GrammarFile.accepted g) = accepted (g.nonterminals ∷ length g.rules ∷ [])
+grammar_due (GrammarFile.refused e) = refused e
 
 -- the token count
-abbrev pub historySaid : HistoryCheck → Verdict
-historySaid (HistoryCheck.Accepted tokens) = accepted (tokens ∷ [])
-historySaid (HistoryCheck.Refused e) = refused e
+abbrev pub history_said : HistoryCheck → Verdict
+history_said (HistoryCheck.Accepted tokens) = accepted (tokens ∷ [])
+history_said (HistoryCheck.Refused e) = refused e
 
 -- what is due for a history file
-abbrev pub historyDue : HistoryFile → Verdict
-historyDue (HistoryFile.accepted ts) = accepted (length ts ∷ [])
-historyDue (HistoryFile.refused e) = refused e
+abbrev pub history_due : HistoryFile → Verdict
+history_due (HistoryFile.accepted ts) = accepted (length ts ∷ [])
+history_due (HistoryFile.refused e) = refused e

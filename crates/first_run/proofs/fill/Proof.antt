@@ -2,10 +2,10 @@
 use borrow.Author.Rules.{rules}
 use Prim.Native.Nat.{◌-◌}
 use native.Mathlib.Omega.{arith}
-use Rattle.tables.specs.Table.{ruleIn}
+use Rattle.tables.specs.Table.{rule_in}
 use lib.ListN.{length}
-use Rattle.levels.proofs.Setting.{close-room}
-use Rattle.first_run.proofs.Sofar.{Going, going_start, found-rule, going_next, end-found, ended}
+use Rattle.levels.proofs.Setting.{close_room}
+use Rattle.first_run.proofs.Sofar.{Going, going_start, found_rule, going_next, end_found, ended}
 use Rattle.first_run.proofs.fill.Statement.{statement}
 use Rattle.first_run.proofs.fill.Tie as tie
 
@@ -36,14 +36,14 @@ six-in-requires c κs =
     let l = c.before.before.before in
     let s = l.before.before.before.before in
     let a = s.args in
-    omega (arith, s.requires.0.indexed.ready.few, found-rule s.requires.0 a.from a.out.now s.requires.1.0.2 l.loop.invariant c.before.context-at.result (c.before.context-at.ensures a.head.well) c.smallest.result c.smallest.ensures)
+    omega (arith, s.requires.0.indexed.ready.few, found_rule s.requires.0 a.from a.out.now s.requires.1.0.2 l.loop.invariant c.before.context-at.result (c.before.context-at.ensures a.head.well) c.smallest.result c.smallest.ensures)
 
 cast-out : tie.Need-overflow-cast-out invariant-loop decreases-loop
 cast-out c =
     let l = c.before.before.before.before in
     let s = l.before.before.before.before in
     let a = s.args in
-    omega (arith, s.requires.0.indexed.ready.few, found-rule s.requires.0 a.from a.out.now s.requires.1.0.2 l.loop.invariant c.before.before.context-at.result (c.before.before.context-at.ensures a.head.well) c.before.smallest.result c.before.smallest.ensures)
+    omega (arith, s.requires.0.indexed.ready.few, found_rule s.requires.0 a.from a.out.now s.requires.1.0.2 l.loop.invariant c.before.before.context-at.result (c.before.before.context-at.ensures a.head.well) c.before.smallest.result c.before.smallest.ensures)
 
 slice-write-out : tie.Need-slice-write-out invariant-loop decreases-loop
 slice-write-out c = search rules
@@ -72,7 +72,7 @@ store-later-requires : tie.Need-store-later-requires invariant-loop decreases-lo
 store-later-requires c κs =
     let l = c.before.before.before.before.before.before.before in
     let s = l.before.before.before.before in
-    (l.loop.invariant.room, rw c.before.before.close_at.ensures (close-room s.requires.0 l.loop.p (omega arith)))
+    (l.loop.invariant.room, rw c.before.before.close_at.ensures (close_room s.requires.0 l.loop.p (omega arith)))
 
 add-p : tie.Need-overflow-add-p invariant-loop decreases-loop
 add-p c =
@@ -83,7 +83,7 @@ loop-less : tie.Need-loop-smaller invariant-loop decreases-loop
 loop-less c = search rules
 
 loop-again : tie.Need-loop-preserved invariant-loop decreases-loop
-unfolding ruleIn
+unfolding rule_in
 loop-again c =
     let l = c.before.before.before.before.before.before.before.before in
     let s = l.before.before.before.before in
@@ -102,7 +102,7 @@ cast-out-2 c =
     let l = c.before.before in
     let s = l.before.before.before.before in
     let a = s.args in
-    omega (arith, s.requires.0.indexed.ready.few, end-found s.requires.0 a.from a.out.now s.requires.1.0.2 l.loop.invariant (omega (arith, l.loop.invariant.most, c.before.loop-test.false)) c.empty-rule.result c.empty-rule.ensures)
+    omega (arith, s.requires.0.indexed.ready.few, end_found s.requires.0 a.from a.out.now s.requires.1.0.2 l.loop.invariant (omega (arith, l.loop.invariant.most, c.before.loop-test.false)) c.empty-rule.result c.empty-rule.ensures)
 
 slice-write-out-2 : tie.Need-slice-write-out-2 invariant-loop decreases-loop
 slice-write-out-2 c = search rules

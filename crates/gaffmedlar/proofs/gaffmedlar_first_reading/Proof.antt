@@ -17,6 +17,6 @@ same_length c = search rules
 returns : tie.Need-returns
 returns c = rw c.code_of_lem.ensures (ap coded c.before.before.before.first-reading.ensures)
 
-pub gaffmedlar-first-reading-spec : {M : Type 1} → statement M
-gaffmedlar-first-reading-spec =
+pub gaffmedlar_first_reading_spec : {M : Type 1} → statement M
+gaffmedlar_first_reading_spec =
     tie.close (tie.spec first-reading-requires code-of-requires same_length returns)

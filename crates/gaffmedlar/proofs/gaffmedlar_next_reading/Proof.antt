@@ -17,6 +17,6 @@ same_length c = search rules
 returns : tie.Need-returns
 returns c = rw c.code_of_lem.ensures (ap coded c.before.before.before.next-reading.ensures)
 
-pub gaffmedlar-next-reading-spec : {M : Type 1} → statement M
-gaffmedlar-next-reading-spec =
+pub gaffmedlar_next_reading_spec : {M : Type 1} → statement M
+gaffmedlar_next_reading_spec =
     tie.close (tie.spec next-reading-requires code-of-requires same_length returns)

@@ -1,6 +1,6 @@
 -- `gaffmedlar::gaffmedlar_reading_at` meets its contract.
 use mathlib.Core.Path.{ap}
-use Rattle.replies.specs.believed.Wire.{outcomeWire}
+use Rattle.replies.specs.believed.Wire.{outcome_wire}
 use borrow.Author.Rules.{rules}
 use Rattle.gaffmedlar.proofs.gaffmedlar_reading_at.Statement.{statement}
 use Rattle.gaffmedlar.proofs.gaffmedlar_reading_at.Tie as tie
@@ -15,7 +15,7 @@ same_length : tie.Need-same-length
 same_length c = search rules
 
 returns : tie.Need-returns
-returns c = rw c.outcome-code.ensures (ap outcomeWire c.before.before.before.reading-at.ensures)
+returns c = rw c.outcome-code.ensures (ap outcome_wire c.before.before.before.reading-at.ensures)
 
-pub gaffmedlar-reading-at-spec : {M : Type 1} → statement M
-gaffmedlar-reading-at-spec = tie.close (tie.spec reading-at-requires outcome-code-requires same_length returns)
+pub gaffmedlar_reading_at_spec : {M : Type 1} → statement M
+gaffmedlar_reading_at_spec = tie.close (tie.spec reading-at-requires outcome-code-requires same_length returns)

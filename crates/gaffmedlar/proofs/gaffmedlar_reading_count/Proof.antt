@@ -1,6 +1,6 @@
 -- `gaffmedlar::gaffmedlar_reading_count` meets its contract.
 use mathlib.Core.Path.{◌∙◌, ap}
-use Rattle.replies.specs.believed.Wire.{readingsWire}
+use Rattle.replies.specs.believed.Wire.{readings_wire}
 use borrow.Author.Rules.{rules}
 use Rattle.gaffmedlar.proofs.gaffmedlar_reading_count.Statement.{statement}
 use Rattle.gaffmedlar.proofs.gaffmedlar_reading_count.Tie as tie
@@ -12,7 +12,7 @@ readings-reply-requires : tie.Need-readings-reply-requires
 readings-reply-requires c κs = search rules
 
 returns : tie.Need-returns
-returns c = c.readings-reply.ensures ∙ ap readingsWire c.before.reading-count.ensures
+returns c = c.readings-reply.ensures ∙ ap readings_wire c.before.reading-count.ensures
 
-pub gaffmedlar-reading-count-spec : {M : Type 1} → statement M
-gaffmedlar-reading-count-spec = tie.close (tie.spec reading-count-requires readings-reply-requires returns)
+pub gaffmedlar_reading_count_spec : {M : Type 1} → statement M
+gaffmedlar_reading_count_spec = tie.close (tie.spec reading-count-requires readings-reply-requires returns)

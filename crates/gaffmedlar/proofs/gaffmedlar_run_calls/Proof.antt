@@ -1,6 +1,6 @@
 -- `gaffmedlar::gaffmedlar_run_calls` meets its contract.
 use mathlib.Core.Path.{ap}
-use Rattle.replies.specs.believed.Wire.{callsWire}
+use Rattle.replies.specs.believed.Wire.{calls_wire}
 use borrow.Author.Rules.{rules}
 use Rattle.gaffmedlar.proofs.gaffmedlar_run_calls.Statement.{statement}
 use Rattle.gaffmedlar.proofs.gaffmedlar_run_calls.Tie as tie
@@ -18,7 +18,7 @@ same-length-2 : tie.Need-same-length-2
 same-length-2 c = search rules
 
 returns : tie.Need-returns
-returns c = rw c.outcome-code.ensures (ap callsWire c.before.before.before.before.before.run-calls.ensures)
+returns c = rw c.outcome-code.ensures (ap calls_wire c.before.before.before.before.before.run-calls.ensures)
 
-pub gaffmedlar-run-calls-spec : {M : Type 1} → statement M
-gaffmedlar-run-calls-spec = tie.close (tie.spec run-calls-requires outcome-code-requires same_length same-length-2 returns)
+pub gaffmedlar_run_calls_spec : {M : Type 1} → statement M
+gaffmedlar_run_calls_spec = tie.close (tie.spec run-calls-requires outcome-code-requires same_length same-length-2 returns)

@@ -1,6 +1,6 @@
 -- `gaffmedlar::gaffmedlar_write_history` meets its contract.
 use mathlib.Core.Path.{ap}
-use Rattle.replies.specs.believed.Wire.{writeWire}
+use Rattle.replies.specs.believed.Wire.{write_wire}
 use borrow.Author.Rules.{rules}
 use Rattle.gaffmedlar.proofs.gaffmedlar_write_history.Statement.{statement}
 use Rattle.gaffmedlar.proofs.gaffmedlar_write_history.Tie as tie
@@ -15,7 +15,7 @@ same_length : tie.Need-same-length
 same_length c = search rules
 
 returns : tie.Need-returns
-returns c = rw c.write-reply.ensures (ap writeWire c.before.before.before.write-history.ensures)
+returns c = rw c.write-reply.ensures (ap write_wire c.before.before.before.write-history.ensures)
 
-pub gaffmedlar-write-history-spec : {M : Type 1} → statement M
-gaffmedlar-write-history-spec = tie.close (tie.spec write-history-requires write-reply-requires same_length returns)
+pub gaffmedlar_write_history_spec : {M : Type 1} → statement M
+gaffmedlar_write_history_spec = tie.close (tie.spec write-history-requires write-reply-requires same_length returns)

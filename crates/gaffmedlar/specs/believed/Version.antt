@@ -3,9 +3,9 @@
 use Rattle.std.specs.Prelude.{ℕ, ◌+◌, ◌*◌}
 
 -- version a.b.c, with b and c below 100
-abbrev pub versionNumber : ℕ → ℕ → ℕ → ℕ
-versionNumber a b c = a * 10000 + b * 100 + c
+abbrev pub version_number : ℕ → ℕ → ℕ → ℕ
+version_number a b c = a * 10000 + b * 100 + c
 
 -- that of this library
 abbrev pub version : ℕ
-version = versionNumber 0 3 0
+version = version_number 0 3 0

@@ -37,8 +37,8 @@ returns-2 : tie.Need-returns-2
 returns-2 c =
     rw (← c.before.before.before.before.before.count_at.ensures, c.before.before.before.count.given.1) c.rules-at.ensures
 
-pub counted-at-spec : {M : Type 1} → statement M
-counted-at-spec =
+pub counted_at_spec : {M : Type 1} → statement M
+counted_at_spec =
     tie.close
     (tie.spec
     count-at-requires

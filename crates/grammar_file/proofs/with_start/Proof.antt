@@ -67,8 +67,8 @@ returns-3 c =
     )
     c.counted-at.ensures
 
-pub with-start-spec : {M : Type 1} → statement M
-with-start-spec =
+pub with_start_spec : {M : Type 1} → statement M
+with_start_spec =
     tie.close
     (tie.spec
     stages-at-requires

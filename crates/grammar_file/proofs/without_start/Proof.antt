@@ -31,8 +31,8 @@ returns-2 : tie.Need-returns-2
 returns-2 c =
     rw (← c.before.before.before.before.before.stages-at.ensures, c.before.before.before.count.given.1) c.counted-at.ensures
 
-pub without-start-spec : {M : Type 1} → statement M
-without-start-spec =
+pub without_start_spec : {M : Type 1} → statement M
+without_start_spec =
     tie.close
     (tie.spec
     stages-at-requires

@@ -5,7 +5,7 @@ use mathlib.Core.Path.{◌≡◌, refl}
 use mathlib.Core.Bool.{cond}
 use native.Mathlib.Omega.{arith}
 use lib.Dec.{eqb}
-use Rattle.history_file.specs.believed.HistoryFile.{depthAfter}
+use Rattle.history_file.specs.believed.HistoryFile.{depth_after}
 use Rattle.history_file.proofs.depth_after.Statement.{statement}
 use Rattle.history_file.proofs.depth_after.Tie as tie
 
@@ -24,8 +24,8 @@ sub-result : tie.Need-overflow-sub-result
 sub-result c = (sum _ _ c.requires.1 c.requires.2).0
 
 returns : tie.Need-returns
-unfolding depthAfter
+unfolding depth_after
 returns c = (sum _ _ c.requires.1 c.requires.2).1
 
-pub depth-after-spec : {M : Type 1} → statement M
-depth-after-spec = tie.close (tie.spec add-result sub-result returns)
+pub depth_after_spec : {M : Type 1} → statement M
+depth_after_spec = tie.close (tie.spec add-result sub-result returns)

@@ -1,5 +1,5 @@
 -- `history_file::token_of` meets its contract.
-use Rattle.history_file.specs.believed.HistoryFile.{tokenOf}
+use Rattle.history_file.specs.believed.HistoryFile.{token_of}
 use borrow.Author.Rules.{rules}
 use Rattle.history_file.proofs.token_of.Statement.{statement}
 use Rattle.history_file.proofs.token_of.Tie as tie
@@ -11,8 +11,8 @@ token-with-requires : tie.Need-token-with-requires
 token-with-requires c κs = search rules
 
 returns : tie.Need-returns
-unfolding tokenOf
+unfolding token_of
 returns c = rw c.before.name_of.ensures at c.token-with.ensures
 
-pub token-of-spec : {M : Type 1} → statement M
-token-of-spec = tie.close (tie.spec name-of-requires token-with-requires returns)
+pub token_of_spec : {M : Type 1} → statement M
+token_of_spec = tie.close (tie.spec name-of-requires token-with-requires returns)

@@ -8,9 +8,9 @@ use native.Mathlib.Omega.{arith}
 use native.Mathlib.Nat.{sub-zero}
 use lib.ListN.{length, take, length-set}
 use Rattle.numbers.specs.believed.Number.{bytes}
-use Rattle.history_file.specs.believed.HistoryFile.{tokensFrom}
-use Rattle.history_file.proofs.Padded.{Cleared, cleared-next, front-next, front_length, front-padded}
-use Rattle.history_file.proofs.Tokens.{token-read, depth-most, turn-refused, turn-next}
+use Rattle.history_file.specs.believed.HistoryFile.{tokens_from}
+use Rattle.history_file.proofs.Padded.{Cleared, cleared_next, front_next, front_length, front_padded}
+use Rattle.history_file.proofs.Tokens.{token_read, depth_most, turn-refused, turn-next}
 use Rattle.history_file.proofs.tokens_at.Statement.{statement}
 use Rattle.history_file.proofs.tokens_at.Tie as tie
 
@@ -20,7 +20,7 @@ invariant-loop s from due tokens₀ at₀ depth₀ k₀ tokens at depth k =
     × (depth ≤ 128)
     × (length tokens ≡ 1024)
     × Cleared 1024 tokens k
-    × (tokensFrom (bytes s) (due - k) at depth (take k tokens) ≡ tokensFrom (bytes s) due from 0 [])
+    × (tokens_from (bytes s) (due - k) at depth (take k tokens) ≡ tokens_from (bytes s) due from 0 [])
 
 abbrev decreases-loop : tie.decreases-loop
 decreases-loop s from due tokens₀ at₀ depth₀ k₀ tokens at depth k = due - k
@@ -66,7 +66,7 @@ element-write-tokens c = search rules
 depth-after-requires : tie.Need-depth-after-requires invariant-loop decreases-loop
 depth-after-requires c κs =
     let d = c.before.before.before in
-    let j = token-read _ _ _ _ _ (sym d.token-at.ensures ∙ c.before.read.given.1) in
+    let j = token_read _ _ _ _ _ (sym d.token-at.ensures ∙ c.before.read.given.1) in
     (d.before.before.loop.invariant.1, j.kinds, j.closes)
 
 add-k : tie.Need-overflow-add-k invariant-loop decreases-loop
@@ -87,10 +87,10 @@ loop-again c =
     let is = sym d.token-at.ensures ∙ p.before.read.given.1 in
     let room : k < length ts = omega arith in (
       omega arith,
-      rw c.depth-after.ensures (depth-most _ _ _ _ (token-read _ _ _ _ _ is) l.loop.invariant.1),
+      rw c.depth-after.ensures (depth_most _ _ _ _ (token_read _ _ _ _ _ is) l.loop.invariant.1),
       length-set ts k t ∙ l.loop.invariant.2,
-      cleared-next 1024 ts k t room (omega arith) l.loop.invariant.3,
-      rw (c.depth-after.ensures, front-next ts k t room)
+      cleared_next 1024 ts k t room (omega arith) l.loop.invariant.3,
+      rw (c.depth-after.ensures, front_next ts k t room)
           (sym (turn-next (bytes a.s.now) a.due k _ _ (take k ts) d.before.loop-test.true t _ is) ∙ l.loop.invariant.4),
     )
 
@@ -98,7 +98,7 @@ refused-requires-2 : tie.Need-refused-requires-2 invariant-loop decreases-loop
 refused-requires-2 c κs = search rules
 
 returns-2 : tie.Need-returns-2 invariant-loop decreases-loop
-unfolding tokensFrom
+unfolding tokens_from
 returns-2 c =
     let l = c.before.before.before.before in
     let none : l.before.before.args.due - l.loop.k ≡ 0 = omega arith in
@@ -108,14 +108,14 @@ refused-requires-3 : tie.Need-refused-requires-3 invariant-loop decreases-loop
 refused-requires-3 c κs = search rules
 
 returns-3 : tie.Need-returns-3 invariant-loop decreases-loop
-unfolding tokensFrom
+unfolding tokens_from
 returns-3 c =
     let l = c.before.before.before.before.before in
     let none : l.before.before.args.due - l.loop.k ≡ 0 = omega arith in
     c.refused3.ensures ∙ rw (← l.loop.invariant.4, none, le-ltb _ _ c.before.before.before.if1.false, lt-ltb _ _ c.before.before.if2.true)
 
 returns-4 : tie.Need-returns-4 invariant-loop decreases-loop
-unfolding tokensFrom
+unfolding tokens_from
 returns-4 c =
     let l = c.before.before.before in
     let ts = l.loop.tokens in
@@ -126,13 +126,13 @@ returns-4 c =
       none,
       le-ltb _ _ c.before.if1.false,
       le-ltb _ _ c.if2.false,
-      ← front-padded 1024 ts l.loop.k (omega arith) l.loop.invariant.3,
+      ← front_padded 1024 ts l.loop.k (omega arith) l.loop.invariant.3,
       front_length ts l.loop.k (omega arith),
       all,
     )
 
-pub tokens-at-spec : {M : Type 1} → statement M
-tokens-at-spec =
+pub tokens_at_spec : {M : Type 1} → statement M
+tokens_at_spec =
     tie.close
     (tie.spec
     invariant-loop

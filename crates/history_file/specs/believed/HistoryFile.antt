@@ -16,22 +16,22 @@ abbrev pub kind : ℕ → ℕ
 kind t = t % 4
 
 -- the token of a kind and a name
-unfoldable pub tokenWith : ℕ → ℕ → Token
-tokenWith k name =
+unfoldable pub token_with : ℕ → ℕ → Token
+token_with k name =
     cond (eqb k 0) (Token.Mark (record { 0 = name }))
     (cond (eqb k 1) (Token.Open (record { 0 = name })) (Token.Close (record { 0 = name })))
 
 -- the token of a number, and of each number of a list
-unfoldable pub tokenOf : ℕ → Token
-tokenOf t = tokenWith (kind t) (t / 4)
+unfoldable pub token_of : ℕ → Token
+token_of t = token_with (kind t) (t / 4)
 
-abbrev pub tokensOf : List ℕ → List Token
-tokensOf ts = map tokenOf ts
+abbrev pub tokens_of : List ℕ → List Token
+tokens_of ts = map token_of ts
 
 -- a token number, with so many steps open before it. 11: "names above 65,535" (document 02, 2.4), or a token number "that leaves 3 when
 -- divided by 4"; 12: "a close with no step open"; 14: "an open while 128 steps are open"
-unfoldable pub tokenJudged : ℕ → ℕ → ℕ → TokenRead
-tokenJudged t next depth =
+unfoldable pub token_judged : ℕ → ℕ → ℕ → TokenRead
+token_judged t next depth =
     cond (ltb 65535 (t / 4) || eqb (kind t) 3) (TokenRefused 11)
     (cond (eqb (kind t) 2 && eqb depth 0) (TokenRefused 12)
     (cond (eqb (kind t) 1 && leb 128 depth) (TokenRefused 14)
@@ -39,42 +39,42 @@ tokenJudged t next depth =
 
 -- 1 and 2, for the number itself, go before 11, 12 and 14
 abbrev pub judged : NumberRead → ℕ → TokenRead
-judged (Number t next) depth = tokenJudged t next depth
+judged (Number t next) depth = token_judged t next depth
 judged (NumberRefused e) depth = TokenRefused e
 
 -- the token at a place
-unfoldable pub tokenAt : (ℕ → NumberRead) → ℕ → ℕ → TokenRead
-tokenAt number at depth = judged (number at) depth
+unfoldable pub token_at : (ℕ → NumberRead) → ℕ → ℕ → TokenRead
+token_at number at depth = judged (number at) depth
 
 -- how many steps are open after a token
-unfoldable pub depthAfter : ℕ → ℕ → ℕ
-depthAfter t depth = cond (eqb (kind t) 1) (depth + 1) (cond (eqb (kind t) 2) (depth - 1) depth)
+unfoldable pub depth_after : ℕ → ℕ → ℕ
+depth_after t depth = cond (eqb (kind t) 1) (depth + 1) (cond (eqb (kind t) 2) (depth - 1) depth)
 
 -- the token numbers, or the number of the refusal
 pub data HistoryFile : Type 0 where
   accepted : List ℕ → HistoryFile
   refused : ℕ → HistoryFile
 
--- a refusal stands, and what follows it is not read. So too `afterCount`
-abbrev pub afterToken : TokenRead → (ℕ → ℕ → HistoryFile) → HistoryFile
-afterToken (TokenIs t next) rest = rest t next
-afterToken (TokenRefused e) rest = refused e
+-- a refusal stands, and what follows it is not read. So too `after_count`
+abbrev pub after_token : TokenRead → (ℕ → ℕ → HistoryFile) → HistoryFile
+after_token (TokenIs t next) rest = rest t next
+after_token (TokenRefused e) rest = refused e
 
 -- the tokens still due, from a place to the end, after those read so far. 13: "a step still open after the last token";
 -- 9: "bytes follow the last .. token"; "13 before 9"
-unfoldable pub tokensFrom : Source → ℕ → ℕ → ℕ → List ℕ → HistoryFile
-tokensFrom x zero at depth ts = cond (ltb 0 depth) (refused 13) (cond (x.more at) (refused 9) (accepted ts))
-tokensFrom x (suc due) at depth ts =
-    afterToken (tokenAt x.number at depth) λ t next. tokensFrom x due next (depthAfter t depth) (ts ++ (t ∷ []))
+unfoldable pub tokens_from : Source → ℕ → ℕ → ℕ → List ℕ → HistoryFile
+tokens_from x zero at depth ts = cond (ltb 0 depth) (refused 13) (cond (x.more at) (refused 9) (accepted ts))
+tokens_from x (suc due) at depth ts =
+    after_token (token_at x.number at depth) λ t next. tokens_from x due next (depth_after t depth) (ts ++ (t ∷ []))
 
-abbrev pub afterCount : FieldRead → (ℕ → ℕ → HistoryFile) → HistoryFile
-afterCount (Field n next) rest = rest n next
-afterCount (FieldRefused e) rest = refused e
+abbrev pub after_count : FieldRead → (ℕ → ℕ → HistoryFile) → HistoryFile
+after_count (Field n next) rest = rest n next
+after_count (FieldRefused e) rest = refused e
 
 -- "token count (0 to 1,024), then each token"; 10: "token count above 1,024"
-unfoldable pub historyFrom : Source → HistoryFile
-historyFrom x = afterCount (field_at x.number 0 1025 10) λ due at. tokensFrom x due at 0 []
+unfoldable pub history_from : Source → HistoryFile
+history_from x = after_count (field_at x.number 0 1025 10) λ due at. tokens_from x due at 0 []
 
 -- of the bytes of a file
-abbrev pub historyOf : List ℕ → HistoryFile
-historyOf s = historyFrom (bytes s)
+abbrev pub history_of : List ℕ → HistoryFile
+history_of s = history_from (bytes s)

@@ -5,18 +5,18 @@ use mathlib.Core.Path.{◌≡◌, refl, sym, ◌∙◌}
 use borrow.Author.Rules.{rules}
 use borrow.Author.Tests.{ltb-true, ltb-false}
 use Rattle.capped.specs.Capped.{value}
-use Rattle.tables.specs.Table.{ruleIn}
+use Rattle.tables.specs.Table.{rule_in}
 use Rattle.rule_index.specs.Classes.{class_at, class_of}
 use Rattle.rule_index.proofs.Walk.{starts, goes_on}
-use Rattle.contexts.specs.Context.{tokenHere}
-use Rattle.contexts.proofs.Forms.{class-kind}
+use Rattle.contexts.specs.Context.{token_here}
+use Rattle.contexts.proofs.Forms.{class_kind}
 use Rattle.moves.proofs.Walking.{no_end}
-use Rattle.kth_run.proofs.Sizes.{Size, Passed, pass-first, pass-class, pass-none, pass-some, located, not-located}
+use Rattle.kth_run.proofs.Sizes.{Size, Passed, pass_first, pass_class, pass_none, pass_some, located, not_located}
 use Rattle.kth_run.proofs.class_search.Statement.{statement}
 use Rattle.kth_run.proofs.class_search.Tie as tie
 
 abbrev invariant-loop : tie.invariant-loop
-invariant-loop table head sought context rows count due number₀ r₀ number r = (r ≤ count) × Passed (Size table head sought context rows) sought.number r number × (r < count → class_of (ruleIn table r) ≡ class_at (tokenHere context))
+invariant-loop table head sought context rows count due number₀ r₀ number r = (r ≤ count) × Passed (Size table head sought context rows) sought.number r number × (r < count → class_of (rule_in table r) ≡ class_at (token_here context))
 
 abbrev decreases-loop : tie.decreases-loop
 decreases-loop table head sought context rows count due number₀ r₀ number r = count - r
@@ -28,8 +28,8 @@ loop-holds : tie.Need-loop-init invariant-loop decreases-loop
 loop-holds c =
     let s = c.before in
     let a = s.args in
-    let f = starts s.requires.0.0 (tokenHere a.context) _ c.first-here.result refl c.first-here.ensures in
-    (f.most, pass-first a.table.now a.head a.sought a.context a.rows.now s.requires.0.1 f, f.of-class)
+    let f = starts s.requires.0.0 (token_here a.context) _ c.first-here.result refl c.first-here.ensures in
+    (f.most, pass_first a.table.now a.head a.sought a.context a.rows.now s.requires.0.1 f, f.of_class)
 
 next-of-requires : tie.Need-next-of-requires invariant-loop decreases-loop
 next-of-requires c κs = omega (arith, c.before.before.before.requires.0.0.ready.few)
@@ -40,7 +40,7 @@ takes-requires c κs =
     let s = l.before.before in
     let p = s.args.context in
     let h = c.before.loop-test.true in
-    (s.requires.0.0, h, class-kind (ruleIn s.args.table.now l.loop.r) p.kind p.name (no_end s.args.table.now s.args.head s.args.sought.nonterminal p s.requires.0.1) (l.loop.invariant.2 h))
+    (s.requires.0.0, h, class_kind (rule_in s.args.table.now l.loop.r) p.kind p.name (no_end s.args.table.now s.args.head s.args.sought.nonterminal p s.requires.0.1) (l.loop.invariant.2 h))
 
 size-of-requires : tie.Need-size-of-requires invariant-loop decreases-loop
 size-of-requires c κs =
@@ -68,7 +68,7 @@ loop-less c =
     let s = l.before.before in
     let a = s.args in
     let h = k.before.loop-test.true in
-    let f = goes_on s.requires.0.0 l.loop.r (class_at (tokenHere a.context)) k.next_of.result h (l.loop.invariant.2 h) k.next_of.ensures in
+    let f = goes_on s.requires.0.0 l.loop.r (class_at (token_here a.context)) k.next_of.result h (l.loop.invariant.2 h) k.next_of.ensures in
     omega (arith, f.from)
 
 loop-again : tie.Need-loop-preserved invariant-loop decreases-loop
@@ -78,10 +78,10 @@ loop-again c =
     let s = l.before.before in
     let a = s.args in
     let h = k.before.loop-test.true in
-    let f = goes_on s.requires.0.0 l.loop.r (class_at (tokenHere a.context)) k.next_of.result h (l.loop.invariant.2 h) k.next_of.ensures in
+    let f = goes_on s.requires.0.0 l.loop.r (class_at (token_here a.context)) k.next_of.result h (l.loop.invariant.2 h) k.next_of.ensures in
     let t = c.before.before.before.before in
-    let passed = pass-some a.table.now a.head a.sought a.context a.rows.now l.loop.r (value c.before.before.before.type_size.result) (sym t.before.takes.ensures ∙ t.if1.true) c.before.before.before.type_size.ensures (ltb-false _ _ (sym c.before.before.is_below.ensures ∙ c.before.if2.false)) l.loop.invariant.1 in
-    (f.most, rw c.minus.ensures (pass-class a.table.now a.head a.sought a.context a.rows.now s.requires.0.1 f passed), f.of-class)
+    let passed = pass_some a.table.now a.head a.sought a.context a.rows.now l.loop.r (value c.before.before.before.type_size.result) (sym t.before.takes.ensures ∙ t.if1.true) c.before.before.before.type_size.ensures (ltb-false _ _ (sym c.before.before.is_below.ensures ∙ c.before.if2.false)) l.loop.invariant.1 in
+    (f.most, rw c.minus.ensures (pass_class a.table.now a.head a.sought a.context a.rows.now s.requires.0.1 f passed), f.of_class)
 
 loop-less-2 : tie.Need-loop-smaller-2 invariant-loop decreases-loop
 loop-less-2 c =
@@ -90,7 +90,7 @@ loop-less-2 c =
     let s = l.before.before in
     let a = s.args in
     let h = k.before.loop-test.true in
-    let f = goes_on s.requires.0.0 l.loop.r (class_at (tokenHere a.context)) k.next_of.result h (l.loop.invariant.2 h) k.next_of.ensures in
+    let f = goes_on s.requires.0.0 l.loop.r (class_at (token_here a.context)) k.next_of.result h (l.loop.invariant.2 h) k.next_of.ensures in
     omega (arith, f.from)
 
 loop-again-2 : tie.Need-loop-preserved-2 invariant-loop decreases-loop
@@ -100,17 +100,17 @@ loop-again-2 c =
     let s = l.before.before in
     let a = s.args in
     let h = k.before.loop-test.true in
-    let f = goes_on s.requires.0.0 l.loop.r (class_at (tokenHere a.context)) k.next_of.result h (l.loop.invariant.2 h) k.next_of.ensures in
-    (f.most, pass-class a.table.now a.head a.sought a.context a.rows.now s.requires.0.1 f (pass-none a.table.now a.head a.sought a.context a.rows.now l.loop.r (sym c.before.takes.ensures ∙ c.if1.false) l.loop.invariant.1), f.of-class)
+    let f = goes_on s.requires.0.0 l.loop.r (class_at (token_here a.context)) k.next_of.result h (l.loop.invariant.2 h) k.next_of.ensures in
+    (f.most, pass_class a.table.now a.head a.sought a.context a.rows.now s.requires.0.1 f (pass_none a.table.now a.head a.sought a.context a.rows.now l.loop.r (sym c.before.takes.ensures ∙ c.if1.false) l.loop.invariant.1), f.of_class)
 
 returns-2 : tie.Need-returns-2 invariant-loop decreases-loop
 returns-2 c =
     let l = c.before in
     let a = l.before.before.args in
-    λ more. absurd (not-located a.table.now a.head a.sought a.context a.rows.now a.head.rules l.loop.r c.loop-test.false l.loop.invariant.0 l.loop.invariant.1 more)
+    λ more. absurd (not_located a.table.now a.head a.sought a.context a.rows.now a.head.rules l.loop.r c.loop-test.false l.loop.invariant.0 l.loop.invariant.1 more)
 
-pub class-search-spec : {M : Type 1} → statement M
-class-search-spec =
+pub class_search_spec : {M : Type 1} → statement M
+class_search_spec =
     tie.close
     (tie.spec
     invariant-loop

@@ -31,8 +31,8 @@ returns-2 c = simp (c.product.ensures, c.before.count_at.ensures, ne_eqb _ _ c.b
 returns-3 : tie.Need-returns-3
 returns-3 c = rw (ne_eqb _ _ c.before.before.if1.false, ne_eqb _ _ c.if2.false) refl
 
-pub due-behind-spec : {M : Type 1} → statement M
-due-behind-spec =
+pub due_behind_spec : {M : Type 1} → statement M
+due_behind_spec =
     tie.close
     (tie.spec
     returns

@@ -15,5 +15,5 @@ is-below-requires c κs = search rules
 returns : tie.Need-returns
 returns c = simp (c.is_below.ensures, c.before.count_at.ensures)
 
-pub has-more-spec : {M : Type 1} → statement M
-has-more-spec = tie.close (tie.spec cast-count-at count-at-requires is-below-requires returns)
+pub has_more_spec : {M : Type 1} → statement M
+has_more_spec = tie.close (tie.spec cast-count-at count-at-requires is-below-requires returns)

@@ -10,13 +10,13 @@ use Rattle.laws.proofs.Bools.{and_left, and_right}
 use Rattle.vpg.specs.Runs.{entries}
 use Rattle.capped.specs.declared.Count.{Count}
 use Rattle.capped.specs.Capped.{value}
-use Rattle.tables.specs.Table.{ruleIn}
-use Rattle.tables.specs.Ready.{rulesOf, grammarIn}
-use Rattle.history_file.specs.believed.HistoryFile.{tokensOf}
-use Rattle.count_rows.proofs.Whole.{new-sized, new-clear}
+use Rattle.tables.specs.Table.{rule_in}
+use Rattle.tables.specs.Ready.{rules_of, grammar_in}
+use Rattle.history_file.specs.believed.HistoryFile.{tokens_of}
+use Rattle.count_rows.proofs.Whole.{new_sized, new_clear}
 use Rattle.kth_run.proofs.Chosen.{has_room, chosen}
-use Rattle.kth_run.proofs.Walking.{Walking, walking_start, found_below, walking-next, walked}
-use Rattle.kth_run.proofs.Whole.{more-than, no_more, kth-none, kth-above, kth-is}
+use Rattle.kth_run.proofs.Walking.{Walking, walking_start, found_below, walking_next, walked}
+use Rattle.kth_run.proofs.Whole.{more_than, no_more, kth-none, kth_above, kth_is}
 use Rattle.kth_run.proofs.kth.Statement.{statement}
 use Rattle.kth_run.proofs.kth.Tie as tie
 
@@ -32,13 +32,13 @@ may-have-requires : tie.Need-may-have-requires invariant-loop decreases-loop
 may-have-requires c κs = c.before.before.requires.0.indexed.ready.start_small
 
 all-rows-requires : tie.Need-all-rows-requires invariant-loop decreases-loop
-all-rows-requires c κs = (c.before.before.before.before.before.requires.0, (new-sized, new-clear))
+all-rows-requires c κs = (c.before.before.before.before.before.requires.0, (new_sized, new_clear))
 
 sub-has-more : tie.Need-overflow-sub-has-more invariant-loop decreases-loop
 sub-has-more c =
     let m = c.before.before.before in
     let s = m.before.before.before.before in
-    let may = sym (m.before.may-have.ensures (rulesOf s.args.table.now s.args.head) s.args.tokens.now s.requires.0.leveled) ∙ m.if1.true in
+    let may = sym (m.before.may-have.ensures (rules_of s.args.table.now s.args.head) s.args.tokens.now s.requires.0.leveled) ∙ m.if1.true in
     omega (arith, ltb-true 0 s.args.k (and_left _ _ may))
 
 has-more-requires : tie.Need-has-more-requires invariant-loop decreases-loop
@@ -48,7 +48,7 @@ sub-seek : tie.Need-overflow-sub-seek invariant-loop decreases-loop
 sub-seek c =
     let m = c.before.before.before.before.before in
     let s = m.before.before.before.before in
-    let may = sym (m.before.may-have.ensures (rulesOf s.args.table.now s.args.head) s.args.tokens.now s.requires.0.leveled) ∙ m.if1.true in
+    let may = sym (m.before.may-have.ensures (rules_of s.args.table.now s.args.head) s.args.tokens.now s.requires.0.leveled) ∙ m.if1.true in
     omega (arith, ltb-true 0 s.args.k (and_left _ _ may))
 
 seek-requires : tie.Need-seek-requires invariant-loop decreases-loop
@@ -60,9 +60,9 @@ loop-holds c =
     let x = s.requires.0 in
     let a = s.args in
     let m = c.before.before.before.before.before.before in
-    let may = sym (m.before.may-have.ensures (rulesOf a.table.now a.head) a.tokens.now x.leveled) ∙ m.if1.true in
+    let may = sym (m.before.may-have.ensures (rules_of a.table.now a.head) a.tokens.now x.leveled) ∙ m.if1.true in
     let all = c.before.before.before.before.all-rows.ensures in
-    let more = more-than x (and_right (ltb 0 a.k) _ may) all (a.k - 1) (omega (arith, s.ranges.k)) (sym c.before.before.Has-more.ensures ∙ c.before.if2.true) in
+    let more = more_than x (and_right (ltb 0 a.k) _ may) all (a.k - 1) (omega (arith, s.ranges.k)) (sym c.before.before.Has-more.ensures ∙ c.before.if2.true) in
     rw c.seek.ensures
     (walking_start x all (a.k - 1) a.out.now s.requires.1 _ _ refl refl (λ j l. ap value (get_or-replicate 1025 j (Count.Exact 1) (Count.Exact 0) l)) (omega (arith, s.ranges.k)) more)
 
@@ -141,7 +141,7 @@ array-copy-out-due-behind c =
     (has_room x l.loop.p k.result stands l.loop.invariant.most).1
 
 due-behind-requires : tie.Need-due-behind-requires invariant-loop decreases-loop
-unfolding ruleIn
+unfolding rule_in
 due-behind-requires c κs =
     let l = c.before.before.before.before.before.before.before.before in
     let s = l.before.before.before.before.before.before.before.before.before.before.before in
@@ -218,7 +218,7 @@ loop-less : tie.Need-loop-smaller invariant-loop decreases-loop
 loop-less c = omega (arith, c.before.before.before.before.before.before.before.before.before.before.before.before.loop-test.true)
 
 loop-again : tie.Need-loop-preserved invariant-loop decreases-loop
-unfolding ruleIn
+unfolding rule_in
 loop-again c =
     let l = c.before.before.before.before.before.before.before.before.before.before.before.before.before in
     let s = l.before.before.before.before.before.before.before.before.before.before.before in
@@ -232,7 +232,7 @@ loop-again c =
     let six = c.before.before.before.before.before.before.before.before.six-in.ensures in
     let due = c.before.before.before.before.due-behind in
     rw (c.before.before.seek2.ensures, c.store-later.ensures, c.before.before.before.inner_of.ensures, six)
-    (walking-next x all (a.k - 1) a.out.now s.requires.1 l.loop.invariant f.result h c.before.before.before.before.before.before.before.before.before.before.before.before.loop-test.true k.result.closing stands.closing due.result (rw six at due.ensures))
+    (walking_next x all (a.k - 1) a.out.now s.requires.1 l.loop.invariant f.result h c.before.before.before.before.before.before.before.before.before.before.before.before.loop-test.true k.result.closing stands.closing due.result (rw six at due.ensures))
 
 context-at-requires-2 : tie.Need-context-at-requires-2 invariant-loop decreases-loop
 context-at-requires-2 c κs =
@@ -287,13 +287,13 @@ returns c =
     let k = c.before.before.before.context-at2 in
     let stands = k.ensures a.head.well in
     let m = l.before.before.before.before.before.before.before in
-    let may = sym (m.before.may-have.ensures (rulesOf a.table.now a.head) a.tokens.now x.leveled) ∙ m.if1.true in
+    let may = sym (m.before.may-have.ensures (rules_of a.table.now a.head) a.tokens.now x.leveled) ∙ m.if1.true in
     let some = ltb-true 0 a.k (and_left _ _ may) in
-    let more = more-than x (and_right (ltb 0 a.k) _ may) l.before.before.before.before.before.all-rows.ensures (a.k - 1) (omega (arith, s.ranges.k)) (sym l.before.before.before.Has-more.ensures ∙ l.before.before.if2.true) in
+    let more = more_than x (and_right (ltb 0 a.k) _ may) l.before.before.before.before.before.all-rows.ensures (a.k - 1) (omega (arith, s.ranges.k)) (sym l.before.before.before.Has-more.ensures ∙ l.before.before.if2.true) in
     let f = c.before.search2 in
     let all = l.before.before.before.before.before.all-rows.ensures in
     let h = chosen x _ l.loop.p k.result stands l.loop.sought f.result f.ensures in
-    kth-is (entries (grammarIn a.table.now a.head) (tokensOf a.tokens.now)) a.k (length a.tokens.now + 1) a.out.now _ some more
+    kth_is (entries (grammar_in a.table.now a.head) (tokens_of a.tokens.now)) a.k (length a.tokens.now + 1) a.out.now _ some more
     (walked x all (a.k - 1) a.out.now s.requires.1 l.loop.invariant f.result h e)
 
 returns-2 : tie.Need-returns-2 invariant-loop decreases-loop
@@ -302,18 +302,18 @@ returns-2 c =
     let s = m.before.before.before.before in
     let x = s.requires.0 in
     let a = s.args in
-    let may = sym (m.before.may-have.ensures (rulesOf a.table.now a.head) a.tokens.now x.leveled) ∙ m.if1.true in
+    let may = sym (m.before.may-have.ensures (rules_of a.table.now a.head) a.tokens.now x.leveled) ∙ m.if1.true in
     let none = no_more x (and_right (ltb 0 a.k) _ may) c.before.before.before.all-rows.ensures (a.k - 1) (omega (arith, s.ranges.k)) (sym c.before.Has-more.ensures ∙ c.if2.false) in
-    kth-above (entries (grammarIn a.table.now a.head) (tokensOf a.tokens.now)) a.k (length a.tokens.now + 1) a.out.now (ltb-true 0 a.k (and_left _ _ may)) none
+    kth_above (entries (grammar_in a.table.now a.head) (tokens_of a.tokens.now)) a.k (length a.tokens.now + 1) a.out.now (ltb-true 0 a.k (and_left _ _ may)) none
 
 returns-3 : tie.Need-returns-3 invariant-loop decreases-loop
 returns-3 c =
     let s = c.before.before.before.before in
     let a = s.args in
-    kth-none s.requires.0 a.k (length a.tokens.now + 1) a.out.now (sym (c.before.may-have.ensures (rulesOf a.table.now a.head) a.tokens.now s.requires.0.leveled) ∙ c.if1.false)
+    kth-none s.requires.0 a.k (length a.tokens.now + 1) a.out.now (sym (c.before.may-have.ensures (rules_of a.table.now a.head) a.tokens.now s.requires.0.leveled) ∙ c.if1.false)
 
-pub kth-spec : {M : Type 1} → statement M
-kth-spec =
+pub kth_spec : {M : Type 1} → statement M
+kth_spec =
     tie.close
     (tie.spec
     invariant-loop

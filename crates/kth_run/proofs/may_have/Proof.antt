@@ -14,5 +14,5 @@ returns c = λ g ts x. rw (lt-ltb 0 c.before.before.args.k c.before.if1.true) (c
 returns-2 : tie.Need-returns-2
 returns-2 c = λ g ts x. rw (le-ltb 0 c.before.args.k c.if1.false) refl
 
-pub may-have-spec : {M : Type 1} → statement M
-may-have-spec = tie.close (tie.spec derives-all-requires returns returns-2)
+pub may_have_spec : {M : Type 1} → statement M
+may_have_spec = tie.close (tie.spec derives-all-requires returns returns-2)

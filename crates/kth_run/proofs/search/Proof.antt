@@ -1,8 +1,8 @@
 -- `search`: the empty rule, or one of the class.
 use borrow.Author.Rules.{rules}
 use mathlib.Core.Path.{sym, ◌∙◌}
-use Rattle.moves.proofs.Walking.{empty-smallest}
-use Rattle.kth_run.proofs.Sizes.{end-finds}
+use Rattle.moves.proofs.Walking.{empty_smallest}
+use Rattle.kth_run.proofs.Sizes.{end_finds}
 use Rattle.kth_run.proofs.search.Statement.{statement}
 use Rattle.kth_run.proofs.search.Tie as tie
 
@@ -19,7 +19,7 @@ returns c =
     let a = s.args in
     let h = sym i.before.may-end.ensures ∙ i.if1.true in
     let r = c.empty-rule.result in
-    end-finds s.requires.0 a.sought a.context a.rows.now r h (empty-smallest a.table.now a.head a.sought.nonterminal a.context r h c.empty-rule.ensures)
+    end_finds s.requires.0 a.sought a.context a.rows.now r h (empty_smallest a.table.now a.head a.sought.nonterminal a.context r h c.empty-rule.ensures)
 
 class-search-requires : tie.Need-class-search-requires
 class-search-requires c κs =
@@ -29,7 +29,7 @@ class-search-requires c κs =
 returns-2 : tie.Need-returns-2
 returns-2 c = search rules
 
-pub search-spec : {M : Type 1} → statement M
-search-spec =
+pub search_spec : {M : Type 1} → statement M
+search_spec =
     tie.close
     (tie.spec may-end-requires empty-rule-requires returns class-search-requires returns-2)

@@ -18,7 +18,7 @@ product-requires c κs = search rules
 returns : tie.Need-returns
 returns c = simp (c.product.ensures, c.before.parts-of.ensures, c.before.before.rule-of.ensures)
 
-pub size-of-spec : {M : Type 1} → statement M
-size-of-spec =
+pub size_of_spec : {M : Type 1} → statement M
+size_of_spec =
     tie.close
     (tie.spec overs-behind-requires rule-of-requires parts-of-requires product-requires returns)

@@ -5,7 +5,7 @@ use native.Mathlib.Nat.{mod-lt}
 use native.Mathlib.Numerals.{add-one}
 use native.Mathlib.Omega.{arith}
 use lib.ListN.{get_or}
-use Rattle.levels.proofs.Levels.{tokens-length, stands-closed, stands-open}
+use Rattle.levels.proofs.Levels.{tokens_length, stands-closed, stands_open}
 use Rattle.levels.proofs.context_in.Statement.{statement}
 use Rattle.levels.proofs.context_in.Tie as tie
 
@@ -58,7 +58,7 @@ returns c =
     let s = named.before.before.before in
     let a = s.args in
     let e = n.before.before.before.close_at.ensures in
-    let j = s.requires.1 a.p (omega arith) (rw tokens-length (lt-le s.requires.0.1)) in
+    let j = s.requires.1 a.p (omega arith) (rw tokens_length (lt-le s.requires.0.1)) in
     rw (named.name_of.ensures, add-one a.p, e, j, add-one)
     ((λ W. stands-closed W a.tokens.now a.masks.now a.p s.requires.0.1 n.close-name.result (rw (e, j) at n.before.before.if1.true) (rw (e, j) at n.close-name.ensures)), mod-lt (get_or a.tokens.now a.p 0) {m = 4} (omega arith))
 
@@ -68,12 +68,12 @@ returns-2 c =
     let s = named.before.before.before in
     let a = s.args in
     let e = c.before.close_at.ensures in
-    let j = s.requires.1 a.p (omega arith) (rw tokens-length (lt-le s.requires.0.1)) in
+    let j = s.requires.1 a.p (omega arith) (rw tokens_length (lt-le s.requires.0.1)) in
     rw (named.name_of.ensures, add-one a.p, e, j)
-    ((λ W. stands-open W a.tokens.now a.masks.now a.p s.requires.0.1 (record { 0 = 0 }) (rw (e, j) at c.if1.false)), mod-lt (get_or a.tokens.now a.p 0) {m = 4} (omega arith))
+    ((λ W. stands_open W a.tokens.now a.masks.now a.p s.requires.0.1 (record { 0 = 0 }) (rw (e, j) at c.if1.false)), mod-lt (get_or a.tokens.now a.p 0) {m = 4} (omega arith))
 
-pub context-in-spec : {M : Type 1} → statement M
-context-in-spec =
+pub context_in_spec : {M : Type 1} → statement M
+context_in_spec =
     tie.close
     (tie.spec
     mul-t

@@ -21,7 +21,7 @@ has-wide-requires c κs = search rules
 returns : tie.Need-returns
 returns c = λ g ts l. c.has-wide.ensures ∙ l 0 (omega arith) (omega arith) _ c.before.before.before.requires false
 
-pub derives-all-spec : {M : Type 1} → statement M
-derives-all-spec =
+pub derives_all_spec : {M : Type 1} → statement M
+derives_all_spec =
     tie.close
     (tie.spec element-copy-out-has-wide cast-has-wide add-has-wide has-wide-requires returns)

@@ -3,12 +3,12 @@ use mathlib.Core.Path.{◌≡◌, ◌∙◌}
 use mathlib.Core.Logic.{⊎_elim}
 use native.Mathlib.Omega.{arith}
 use borrow.Author.Tests.{ne_eqb}
-use Rattle.history_file.specs.believed.HistoryFile.{tokenWith}
+use Rattle.history_file.specs.believed.HistoryFile.{token_with}
 use Rattle.levels.proofs.next_top.Statement.{statement}
 use Rattle.levels.proofs.next_top.Tie as tie
 
 returns : tie.Need-returns
-unfolding tokenWith
+unfolding token_with
 returns c name =
     let kind = c.before.before.args.kind in
     ⊎_elim
@@ -17,8 +17,8 @@ returns c name =
     c.before.if1.branch
 
 returns-2 : tie.Need-returns-2
-unfolding tokenWith
+unfolding token_with
 returns-2 c name = simp (ne_eqb c.before.before.args.kind 0 (omega arith), ne_eqb c.before.before.args.kind 1 (omega arith))
 
-pub next-top-spec : {M : Type 1} → statement M
-next-top-spec = tie.close (tie.spec returns returns-2)
+pub next_top_spec : {M : Type 1} → statement M
+next_top_spec = tie.close (tie.spec returns returns-2)

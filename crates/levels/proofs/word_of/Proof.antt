@@ -25,6 +25,6 @@ returns-2 c =
     let a = c.before.before.args in
     λ L l low. rw (c.joined2.ensures, le-ltb _ _ c.before.if1.false) (word-joined a.set a.set 0 (omega (arith, c.before.before.ranges.set)) (λ M. rw (le-leb 0 M (omega arith))) L l low)
 
-pub word-of-spec : {M : Type 1} → statement M
-word-of-spec =
+pub word_of_spec : {M : Type 1} → statement M
+word_of_spec =
     tie.close (tie.spec from-requires joined-requires returns joined-requires-2 returns-2)

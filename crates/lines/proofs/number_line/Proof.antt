@@ -23,7 +23,7 @@ returns c =
     let a = b.before.before.before.before.args in
     laid_then (a.p, a.out.now) _ _ (a.word.now ++ decimal a.n) 10 (laid_both (a.p, a.out.now) _ _ a.word.now (decimal a.n) b.put-bytes.ensures n.put-number.ensures) c.before.before.put_byte.ensures
 
-pub number-line-spec : {M : Type 1} → statement M
-number-line-spec =
+pub number_line_spec : {M : Type 1} → statement M
+number_line_spec =
     tie.close
     (tie.spec put-bytes-requires put-number-requires put-byte-requires same_length returns)

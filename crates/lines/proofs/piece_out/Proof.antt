@@ -16,5 +16,5 @@ start n = record { before = n; at = 0 }
 returns : tie.Need-returns
 returns c = ap start c.wrapping-add-usize.ensures
 
-pub piece-out-spec : {M : Type 1} → statement M
-piece-out-spec = tie.close (tie.spec write-all-requires wrapping-add-usize-requires returns)
+pub piece_out_spec : {M : Type 1} → statement M
+piece_out_spec = tie.close (tie.spec write-all-requires wrapping-add-usize-requires returns)

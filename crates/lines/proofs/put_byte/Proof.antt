@@ -32,8 +32,8 @@ returns-2 c = rw (lt-ltb _ _ c.before.if1.true, ne_eqb _ _ c.if2.false)
 returns-3 : tie.Need-returns-3
 returns-3 c = rw (le-ltb _ _ c.if1.false)
 
-pub put-byte-spec : {M : Type 1} → statement M
-put-byte-spec =
+pub put_byte_spec : {M : Type 1} → statement M
+put_byte_spec =
     tie.close
     (tie.spec
     slice-write-out

@@ -1,5 +1,5 @@
 use Rattle.std.proofs.Common.{ℕ, ◌-◌, List, [], ◌∷◌, length, sym, refl, ◌∙◌, arith, rules}
-use Rattle.lines.proofs.Laying.{Laying, laying-start, laying-next, laying-end, laid_one}
+use Rattle.lines.proofs.Laying.{Laying, laying_start, laying_next, laying_end, laid_one}
 use Rattle.lines.proofs.put_bytes.Statement.{statement}
 use Rattle.lines.proofs.put_bytes.Tie as tie
 
@@ -18,7 +18,7 @@ decreases-loop out₀ bytes cursor₀ i₀ out cursor i = length bytes - i
 loop-holds : tie.Need-loop-init invariant-loop decreases-loop
 loop-holds c =
     let a = c.before.before.args in
-    laying-start all one refl (λ b l. refl) a.out.now a.p a.bytes.now
+    laying_start all one refl (λ b l. refl) a.out.now a.p a.bytes.now
 
 shared-slice-read-put-byte : tie.Need-shared-slice-read-put-byte invariant-loop decreases-loop
 shared-slice-read-put-byte c = search rules
@@ -36,7 +36,7 @@ loop-again : tie.Need-loop-preserved invariant-loop decreases-loop
 loop-again c =
     let l = c.before.before.before.before.before.before in
     let a = l.before.before.before.args in
-    laying-next all one refl (λ b l. refl) a.out.now a.p a.bytes.now l.loop.invariant c.before.before.before.before.before.loop-test.true c.before.before.put_byte.result _ c.before.out.given (c.before.before.put_byte.ensures ∙ sym (laid_one _ _))
+    laying_next all one refl (λ b l. refl) a.out.now a.p a.bytes.now l.loop.invariant c.before.before.before.before.before.loop-test.true c.before.before.put_byte.result _ c.before.out.given (c.before.before.put_byte.ensures ∙ sym (laid_one _ _))
 
 same_length : tie.Need-same-length invariant-loop decreases-loop
 same_length c = c.before.loop.invariant.same
@@ -45,10 +45,10 @@ returns : tie.Need-returns invariant-loop decreases-loop
 returns c =
     let l = c.before in
     let a = l.before.before.before.args in
-    laying-end all one refl (λ b l. refl) a.out.now a.p a.bytes.now l.loop.invariant (omega arith)
+    laying_end all one refl (λ b l. refl) a.out.now a.p a.bytes.now l.loop.invariant (omega arith)
 
-pub put-bytes-spec : {M : Type 1} → statement M
-put-bytes-spec =
+pub put_bytes_spec : {M : Type 1} → statement M
+put_bytes_spec =
     tie.close
     (tie.spec
     invariant-loop

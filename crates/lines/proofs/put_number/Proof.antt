@@ -26,8 +26,8 @@ returns c =
     let a = d.before.before.before.args in
     c.before.before.put-bytes.ensures ∙ ap (laid (a.p, a.out.now)) (d.decimal.ensures.1.1 ∙ decimal-written a.n d.decimal.result (omega (arith, d.before.before.before.ranges.n)) d.decimal.ensures.1.0)
 
-pub put-number-spec : {M : Type 1} → statement M
-put-number-spec =
+pub put_number_spec : {M : Type 1} → statement M
+put_number_spec =
     tie.close
     (tie.spec
     decimal-requires

@@ -19,5 +19,5 @@ returns c =
     let a = b.before.before.before.args in
     laid_both (a.p, a.out.now) _ _ (32 ∷ []) (decimal a.x) (b.put_byte.ensures ∙ sym (laid_one (a.p, a.out.now) 32)) c.before.before.put-number.ensures
 
-pub put-rule-spec : {M : Type 1} → statement M
-put-rule-spec = tie.close (tie.spec put-byte-requires put-number-requires same_length returns)
+pub put_rule_spec : {M : Type 1} → statement M
+put_rule_spec = tie.close (tie.spec put-byte-requires put-number-requires same_length returns)

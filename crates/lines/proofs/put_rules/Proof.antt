@@ -1,22 +1,22 @@
 use Rattle.std.proofs.Common.{◌≡◌, ℕ, ◌-◌, List, [], ◌∷◌, ◌++◌, length, refl, arith, rules}
-use Rattle.lines.specs.believed.Text.{blank, decimal, readingText}
-use Rattle.lines.proofs.Laying.{Laying, laying-start, laying-next, laying-end}
+use Rattle.lines.specs.believed.Text.{blank, decimal, reading_text}
+use Rattle.lines.proofs.Laying.{Laying, laying_start, laying_next, laying_end}
 use Rattle.lines.proofs.put_rules.Statement.{statement}
 use Rattle.lines.proofs.put_rules.Tie as tie
 
 abbrev one : ℕ → List ℕ
 one r = blank ∷ decimal r
 
-nil : readingText [] ≡ []
-unfolding readingText
+nil : reading_text [] ≡ []
+unfolding reading_text
 nil = refl
 
-cons : (r : ℕ) (e : List ℕ) → readingText (r ∷ e) ≡ one r ++ readingText e
-unfolding readingText
+cons : (r : ℕ) (e : List ℕ) → reading_text (r ∷ e) ≡ one r ++ reading_text e
+unfolding reading_text
 cons r e = refl
 
 abbrev invariant-loop : tie.invariant-loop
-invariant-loop out₀ reading cursor₀ i₀ out cursor i = Laying readingText out₀ cursor₀ reading out cursor i
+invariant-loop out₀ reading cursor₀ i₀ out cursor i = Laying reading_text out₀ cursor₀ reading out cursor i
 
 abbrev decreases-loop : tie.decreases-loop
 decreases-loop out₀ reading cursor₀ i₀ out cursor i = length reading - i
@@ -24,7 +24,7 @@ decreases-loop out₀ reading cursor₀ i₀ out cursor i = length reading - i
 loop-holds : tie.Need-loop-init invariant-loop decreases-loop
 loop-holds c =
     let a = c.before.before.args in
-    laying-start readingText one nil cons a.out.now a.p a.reading.now
+    laying_start reading_text one nil cons a.out.now a.p a.reading.now
 
 shared-slice-read-put-rule : tie.Need-shared-slice-read-put-rule invariant-loop decreases-loop
 shared-slice-read-put-rule c = search rules
@@ -42,7 +42,7 @@ loop-again : tie.Need-loop-preserved invariant-loop decreases-loop
 loop-again c =
     let l = c.before.before.before.before.before.before in
     let a = l.before.before.before.args in
-    laying-next readingText one nil cons a.out.now a.p a.reading.now l.loop.invariant c.before.before.before.before.before.loop-test.true c.before.before.put-rule.result _ c.before.out.given c.before.before.put-rule.ensures
+    laying_next reading_text one nil cons a.out.now a.p a.reading.now l.loop.invariant c.before.before.before.before.before.loop-test.true c.before.before.put-rule.result _ c.before.out.given c.before.before.put-rule.ensures
 
 same_length : tie.Need-same-length invariant-loop decreases-loop
 same_length c = c.before.loop.invariant.same
@@ -51,10 +51,10 @@ returns : tie.Need-returns invariant-loop decreases-loop
 returns c =
     let l = c.before in
     let a = l.before.before.before.args in
-    laying-end readingText one nil cons a.out.now a.p a.reading.now l.loop.invariant (omega arith)
+    laying_end reading_text one nil cons a.out.now a.p a.reading.now l.loop.invariant (omega arith)
 
-pub put-rules-spec : {M : Type 1} → statement M
-put-rules-spec =
+pub put_rules_spec : {M : Type 1} → statement M
+put_rules_spec =
     tie.close
     (tie.spec
     invariant-loop

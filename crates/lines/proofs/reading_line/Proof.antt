@@ -1,5 +1,5 @@
 use Rattle.std.proofs.Common.{[], ◌∷◌, ◌++◌, rules}
-use Rattle.lines.specs.believed.Text.{colon, decimal, readingText}
+use Rattle.lines.specs.believed.Text.{colon, decimal, reading_text}
 use Rattle.lines.proofs.Laying.{laid_both, laid_then}
 use Rattle.lines.proofs.reading_line.Statement.{statement}
 use Rattle.lines.proofs.reading_line.Tie as tie
@@ -26,11 +26,11 @@ returns c =
     let r = c.before.before.before.before.before.before in
     let a = n.before.before.before.before.args in
     let upto-colon = laid_then (a.p, a.out.now) _ _ (decimal a.k) colon n.put-number.ensures k.put_byte.ensures in
-    let upto-rules = laid_both (a.p, a.out.now) _ _ (decimal a.k ++ (colon ∷ [])) (readingText a.reading.now) upto-colon r.put-rules.ensures in
-    laid_then (a.p, a.out.now) _ _ (decimal a.k ++ (colon ∷ []) ++ readingText a.reading.now) 10 upto-rules c.before.before.put-byte2.ensures
+    let upto-rules = laid_both (a.p, a.out.now) _ _ (decimal a.k ++ (colon ∷ [])) (reading_text a.reading.now) upto-colon r.put-rules.ensures in
+    laid_then (a.p, a.out.now) _ _ (decimal a.k ++ (colon ∷ []) ++ reading_text a.reading.now) 10 upto-rules c.before.before.put-byte2.ensures
 
-pub reading-line-spec : {M : Type 1} → statement M
-reading-line-spec =
+pub reading_line_spec : {M : Type 1} → statement M
+reading_line_spec =
     tie.close
     (tie.spec
     put-number-requires

@@ -12,7 +12,7 @@ pub data Call : Type 0 where
 
 -- a reading written, "none", "no further", or the number of a refusal
 pub data Answer : Type 0 where
-  written no-reading no-further : Answer
+  written no_reading no-further : Answer
   refused : ℕ → Answer
 
 -- `due k`: a file, or the buffer, is refused by k. `over l n`: both files pass, the buffer is long enough, and the entries are l, of n numbers each
@@ -21,8 +21,8 @@ pub data Subject : Type 0 where
   over : List (List ℕ) → ℕ → Subject
 
 -- both files pass and the buffer is long enough: g is the grammar, w are the history's tokens
-abbrev pub overEntries : Grammar → List Token → Subject
-overEntries g w = over (entries g w) (suc (length w))
+abbrev pub over_entries : Grammar → List Token → Subject
+over_entries g w = over (entries g w) (suc (length w))
 
 -- "an entry number k, or no entry"; entries are "numbered 1 to m"
 abbrev pub Shown : Type 0
@@ -61,9 +61,9 @@ start (due k) buf = none
 start (over l n) buf = find (take n buf) l
 
 -- "with m = 0 the answer is none and the state stays. Else k becomes 1 and the answer is a reading written"
-abbrev pub modelFirst : ℕ → Shown → Answer × Shown
-modelFirst zero s = (no-reading, s)
-modelFirst (suc m) s = (written, some 1)
+abbrev pub model_first : ℕ → Shown → Answer × Shown
+model_first zero s = (no_reading, s)
+model_first (suc m) s = (written, some 1)
 
 -- is k below m
 abbrev pub onward : Bool → ℕ → Answer × Shown
@@ -71,15 +71,15 @@ onward true k = (written, some (suc k))
 onward false k = (no-further, some k)
 
 -- "with no entry, 16. With k below m, k grows by 1 and the answer is a reading written. With k = m, no further, and k stays"
-abbrev pub modelNext : ℕ → Shown → Answer × Shown
-modelNext m none = (refused 16, none)
-modelNext m (some k) = onward (ltb k m) k
+abbrev pub model_next : ℕ → Shown → Answer × Shown
+model_next m none = (refused 16, none)
+model_next m (some k) = onward (ltb k m) k
 
 -- one call; where a file or the buffer is refused, "the state is no entry throughout, and every call's answer is the number due"
 abbrev pub model : Subject → Call → Shown → Answer × Shown
 model (due k) c s = (refused k, none)
-model (over l n) first s = modelFirst (length l) s
-model (over l n) next s = modelNext (length l) s
+model (over l n) first s = model_first (length l) s
+model (over l n) next s = model_next (length l) s
 
 -- "with an entry k the buffer's first n + 1 elements are entry k and all others are as first lent; with no entry every element is as first lent"
 abbrev pub shows : Subject → List ℕ → Shown → List ℕ

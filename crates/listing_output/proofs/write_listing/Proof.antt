@@ -11,13 +11,13 @@ use Rattle.listing_text.specs.believed.Listing.{listing}
 use Rattle.listing_text.specs.Passing.{at_start}
 use Rattle.listing_text.specs.believed.Written.{Written}
 use Rattle.listing_text.proofs.Pieces.{written-fits}
-use Rattle.listing_text.proofs.Sent.{lastPiece, laid-written}
-use Rattle.listing_text.proofs.Short.{listing-short}
+use Rattle.listing_text.proofs.Sent.{last_piece, laid-written}
+use Rattle.listing_text.proofs.Short.{listing_short}
 use Rattle.listing_output.proofs.write_listing.Statement.{statement}
 use Rattle.listing_output.proofs.write_listing.Tie as tie
 
-all-written : (grammar history out : List ℕ) (c : Cursor) (new : List ℕ) → (c, new) ≡ laid (at_start, out) (listing grammar history) → Written (listing grammar history) out (lastPiece c) new
-all-written grammar history out c new e = laid-written (listing grammar history) out (omega (arith, listing-short grammar history)) (c, new) e
+all-written : (grammar history out : List ℕ) (c : Cursor) (new : List ℕ) → (c, new) ≡ laid (at_start, out) (listing grammar history) → Written (listing grammar history) out (last_piece c) new
+all-written grammar history out c new e = laid-written (listing grammar history) out (omega (arith, listing_short grammar history)) (c, new) e
 
 list-requires : tie.Need-list-requires
 list-requires c κs = search rules
@@ -39,7 +39,7 @@ add-t12 : tie.Need-overflow-add-t12
 add-t12 c =
     let a = c.before.before.before.before.before.before.before.before.before.args in
     let k = (written-fits (all-written a.grammar.now a.history.now a.text.now _ _ c.before.before.before.before.list.ensures)).0 in
-    omega (arith, k, listing-short a.grammar.now a.history.now)
+    omega (arith, k, listing_short a.grammar.now a.history.now)
 
 same_length : tie.Need-same-length
 same_length c = search rules
@@ -49,8 +49,8 @@ returns c =
     let a = c.before.before.before.before.before.before.before.before.before.args in
     all-written a.grammar.now a.history.now a.text.now _ _ c.before.before.before.before.list.ensures
 
-pub write-listing-spec : {M : Type 1} → statement M
-write-listing-spec =
+pub write_listing_spec : {M : Type 1} → statement M
+write_listing_spec =
     tie.close
     (tie.spec
     list-requires

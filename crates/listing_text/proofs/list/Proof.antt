@@ -1,13 +1,13 @@
 -- `list`: both files are opened once.
 use mathlib.Core.Path.{sym, ◌∙◌, ap}
 use borrow.Author.Rules.{rules}
-use Rattle.grammar_file.specs.believed.GrammarFile.{grammarOf}
-use Rattle.history_file.specs.believed.HistoryFile.{historyOf}
-use Rattle.service.specs.believed.Opened.{filesIn}
-use Rattle.service.proofs.Opens.{nothing-asked}
+use Rattle.grammar_file.specs.believed.GrammarFile.{grammar_of}
+use Rattle.history_file.specs.believed.HistoryFile.{history_of}
+use Rattle.service.specs.believed.Opened.{files_in}
+use Rattle.service.proofs.Opens.{nothing_asked}
 use Rattle.lines.specs.Laid.{laid}
 use Rattle.listing_text.specs.Passing.{at_start}
-use Rattle.listing_text.proofs.Whole.{both-accepted}
+use Rattle.listing_text.proofs.Whole.{both_accepted}
 use Rattle.listing_text.proofs.list.Statement.{statement}
 use Rattle.listing_text.proofs.list.Tie as tie
 
@@ -33,8 +33,8 @@ returns : tie.Need-returns
 returns c =
     let a = c.before.before.before.before.before.before.before.before.before.before.before.before.before.args in
     let q = c.before.before.before.before.before.enum_told.given.1 in
-    let e = sym (nothing-asked (filesIn a.grammar.now a.history.now)) ∙ c.before.before.before.before.before.before.before.open-files.ensures.refuses _ q in
-    c.before.before.list-refused.ensures (historyOf a.history.now) (rw (c.before.before.before.before.refusal-of.ensures, q) e)
+    let e = sym (nothing_asked (files_in a.grammar.now a.history.now)) ∙ c.before.before.before.before.before.before.before.open-files.ensures.refuses _ q in
+    c.before.before.list-refused.ensures (history_of a.history.now) (rw (c.before.before.before.before.refusal-of.ensures, q) e)
 
 array-share-prefix-tokens : tie.Need-array-share-prefix-tokens
 array-share-prefix-tokens c = (c.before.before.before.before.open-files.ensures.passes _ _ c.before.before.opened.given.1).long
@@ -54,11 +54,11 @@ returns-2 : tie.Need-returns-2
 returns-2 c =
     let a = c.before.before.before.before.before.before.before.before.before.before.before.before.before.before.before.args in
     let k = c.before.before.before.before.before.before.before.before.before.open-files.ensures.passes _ _ c.before.before.before.before.before.before.before.opened.given.1 in
-    let e = sym (nothing-asked (filesIn a.grammar.now a.history.now)) ∙ k.is in
-    c.before.before.list-accepted.ensures ∙ ap (laid (at_start, a.text.now)) (sym (both-accepted (grammarOf a.grammar.now) (historyOf a.history.now) _ _ e))
+    let e = sym (nothing_asked (files_in a.grammar.now a.history.now)) ∙ k.is in
+    c.before.before.list-accepted.ensures ∙ ap (laid (at_start, a.text.now)) (sym (both_accepted (grammar_of a.grammar.now) (history_of a.history.now) _ _ e))
 
-pub list-spec : {M : Type 1} → statement M
-list-spec =
+pub list_spec : {M : Type 1} → statement M
+list_spec =
     tie.close
     (tie.spec
     open-files-requires

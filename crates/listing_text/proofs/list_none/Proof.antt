@@ -1,5 +1,5 @@
 -- `list_none`: two lines, one behind the other.
-use Rattle.lines.specs.believed.Text.{tokensLine, noneLine}
+use Rattle.lines.specs.believed.Text.{tokens_line, none_line}
 use Rattle.lines.proofs.Laying.{laid_both}
 use Rattle.listing_text.specs.Passing.{at_start}
 use borrow.Author.Rules.{rules}
@@ -21,9 +21,9 @@ same_length c = search rules
 returns : tie.Need-returns
 returns c =
     let a = c.before.before.before.before.before.before.before.before.before.before.args in
-    laid_both (at_start, a.text.now) _ _ (tokensLine a.n) noneLine (rw c.before.before.before.before.before.before.before.at-start.ensures at c.before.before.before.before.before.before.tokens-line.ensures) c.before.before.none-line.ensures
+    laid_both (at_start, a.text.now) _ _ (tokens_line a.n) none_line (rw c.before.before.before.before.before.before.before.at-start.ensures at c.before.before.before.before.before.before.tokens-line.ensures) c.before.before.none-line.ensures
 
-pub list-none-spec : {M : Type 1} → statement M
-list-none-spec =
+pub list_none_spec : {M : Type 1} → statement M
+list_none_spec =
     tie.close
     (tie.spec at-start-requires tokens-line-requires none-line-requires same_length returns)

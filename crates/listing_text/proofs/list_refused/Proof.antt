@@ -1,9 +1,9 @@
 -- `list_refused`: the grammar's refusal, or else the history's.
 use mathlib.Core.Path.{◌∙◌, ap}
-use Rattle.grammar_file.specs.believed.GrammarFile.{grammarOf}
+use Rattle.grammar_file.specs.believed.GrammarFile.{grammar_of}
 use Rattle.lines.specs.Laid.{laid}
 use Rattle.listing_text.specs.Passing.{at_start}
-use Rattle.listing_text.proofs.Whole.{grammar-refused, history-refused}
+use Rattle.listing_text.proofs.Whole.{grammar_refused, history_refused}
 use borrow.Author.Rules.{rules}
 use Rattle.listing_text.proofs.list_refused.Statement.{statement}
 use Rattle.listing_text.proofs.list_refused.Tie as tie
@@ -37,7 +37,7 @@ returns c =
     let a = c.before.before.before.before.before.before.before.before.before.before.args in
     λ h i.
     rw c.before.before.before.at-start.ensures at c.before.before.refused-grammar-line.ensures
-    ∙ ap (laid (at_start, a.text.now)) (grammar-refused (grammarOf a.grammar.now) _ a.e (rw c.before.before.before.before.before.enum_told.given.1 at c.before.before.before.before.before.before.before.grammar-check.ensures) h i)
+    ∙ ap (laid (at_start, a.text.now)) (grammar_refused (grammar_of a.grammar.now) _ a.e (rw c.before.before.before.before.before.enum_told.given.1 at c.before.before.before.before.before.before.before.grammar-check.ensures) h i)
 
 same-length-2 : tie.Need-same-length-2
 same-length-2 c = search rules
@@ -47,10 +47,10 @@ returns-2 c =
     let a = c.before.before.before.before.before.before.before.before.before.before.args in
     λ h i.
     rw c.before.before.before.at-start2.ensures at c.before.before.refused-history-line.ensures
-    ∙ ap (laid (at_start, a.text.now)) (history-refused (grammarOf a.grammar.now) _ _ a.e (rw c.before.before.before.before.before.enum-told2.given.1 at c.before.before.before.before.before.before.before.grammar-check.ensures) h i)
+    ∙ ap (laid (at_start, a.text.now)) (history_refused (grammar_of a.grammar.now) _ _ a.e (rw c.before.before.before.before.before.enum-told2.given.1 at c.before.before.before.before.before.before.before.grammar-check.ensures) h i)
 
-pub list-refused-spec : {M : Type 1} → statement M
-list-refused-spec =
+pub list_refused_spec : {M : Type 1} → statement M
+list_refused_spec =
     tie.close
     (tie.spec
     grammar-check-requires

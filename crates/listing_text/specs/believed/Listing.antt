@@ -2,35 +2,35 @@
 -- Clauses: 9.3 to 9.6 (docs/SPECIFICATION.md)
 use Rattle.std.specs.Prelude.{ℕ, zero, suc, List, [], ◌∷◌, ◌++◌, length}
 use Rattle.vpg.specs.Runs.{entries}
-use Rattle.sets_theory.specs.believed.Sets.{choiceCount}
-use Rattle.grammar_file.specs.believed.GrammarFile.{GrammarFile, grammarOf}
+use Rattle.sets_theory.specs.believed.Sets.{choice_count}
+use Rattle.grammar_file.specs.believed.GrammarFile.{GrammarFile, grammar_of}
 use Rattle.grammar_file.specs.believed.GrammarFile
-use Rattle.history_file.specs.believed.HistoryFile.{HistoryFile, historyOf, tokensOf}
+use Rattle.history_file.specs.believed.HistoryFile.{HistoryFile, history_of, tokens_of}
 use Rattle.history_file.specs.believed.HistoryFile
-use Rattle.lines.specs.believed.Text.{tokensLine, choicesLine, noneLine, readingLine, endLine, moreLine, refusedGrammarLine, refusedHistoryLine}
+use Rattle.lines.specs.believed.Text.{tokens_line, choices_line, none_line, reading_line, end_line, more_line, refused_grammar_line, refused_history_line}
 
 -- the readings behind the first k, of which `left` may still be listed: "each reading's place in the order and its rule numbers, and how many
 -- were printed"; "after 1,000 readings with another to follow, the last line is more 1000"
-unfoldable pub listedFrom : ℕ → ℕ → List (List ℕ) → List ℕ
-listedFrom left k [] = endLine k
-listedFrom zero k (e ∷ l) = moreLine k
-listedFrom (suc left) k (e ∷ l) = readingLine (suc k) e ++ listedFrom left (suc k) l
+unfoldable pub listed_from : ℕ → ℕ → List (List ℕ) → List ℕ
+listed_from left k [] = end_line k
+listed_from zero k (e ∷ l) = more_line k
+listed_from (suc left) k (e ∷ l) = reading_line (suc k) e ++ listed_from left (suc k) l
 
-abbrev pub mostListed : ℕ
-mostListed = 1000
+abbrev pub most_listed : ℕ
+most_listed = 1000
 
 -- k: the choice count. "With no reading: tokens n, none"
-abbrev pub readingsListed : ℕ → List (List ℕ) → List ℕ
-readingsListed k [] = noneLine
-readingsListed k (e ∷ l) = choicesLine k ++ listedFrom mostListed 0 (e ∷ l)
+abbrev pub readings_listed : ℕ → List (List ℕ) → List ℕ
+readings_listed k [] = none_line
+readings_listed k (e ∷ l) = choices_line k ++ listed_from most_listed 0 (e ∷ l)
 
 -- "refused grammar K or refused history K alone, K the number"; "grammar comes before history"
-abbrev pub filesListed : GrammarFile → HistoryFile → List ℕ
-filesListed (GrammarFile.refused k) h = refusedGrammarLine k
-filesListed (GrammarFile.accepted g) (HistoryFile.refused k) = refusedHistoryLine k
-filesListed (GrammarFile.accepted g) (HistoryFile.accepted ts) =
-    tokensLine (length ts) ++ readingsListed (choiceCount g (tokensOf ts)) (entries g (tokensOf ts))
+abbrev pub files_listed : GrammarFile → HistoryFile → List ℕ
+files_listed (GrammarFile.refused k) h = refused_grammar_line k
+files_listed (GrammarFile.accepted g) (HistoryFile.refused k) = refused_history_line k
+files_listed (GrammarFile.accepted g) (HistoryFile.accepted ts) =
+    tokens_line (length ts) ++ readings_listed (choice_count g (tokens_of ts)) (entries g (tokens_of ts))
 
 -- from the bytes of both files
 abbrev pub listing : List ℕ → List ℕ → List ℕ
-listing grammar history = filesListed (grammarOf grammar) (historyOf history)
+listing grammar history = files_listed (grammar_of grammar) (history_of history)

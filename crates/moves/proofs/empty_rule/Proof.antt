@@ -17,5 +17,5 @@ returns-2 c =
     let s = c.before in
     none_above s.requires.ready s.args.nonterminal c.if1.false
 
-pub empty-rule-spec : {M : Type 1} → statement M
-empty-rule-spec = tie.close (tie.spec end-of-requires returns returns-2)
+pub empty_rule_spec : {M : Type 1} → statement M
+empty_rule_spec = tie.close (tie.spec end-of-requires returns returns-2)

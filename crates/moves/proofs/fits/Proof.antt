@@ -17,5 +17,5 @@ returns c = let d = c.before.before in simp (c.applies.ensures, eq-eqb _ _ (sym 
 returns-2 : tie.Need-returns-2
 returns-2 c = simp (ne_eqb _ _ (λ q. c.if1.false (c.before.left_in.ensures ∙ q)))
 
-pub fits-spec : {M : Type 1} → statement M
-fits-spec = tie.close (tie.spec left-in-requires applies-requires returns returns-2)
+pub fits_spec : {M : Type 1} → statement M
+fits_spec = tie.close (tie.spec left-in-requires applies-requires returns returns-2)

@@ -17,5 +17,5 @@ returns c = let d = c.before.before in simp (c.takes.ensures, eq-eqb _ _ (sym d.
 returns-2 : tie.Need-returns-2
 returns-2 c = simp (ne_eqb _ _ (λ q. c.if1.false (c.before.left_in.ensures ∙ q)))
 
-pub takes-spec : {M : Type 1} → statement M
-takes-spec = tie.close (tie.spec left-in-requires takes-requires returns returns-2)
+pub takes_spec : {M : Type 1} → statement M
+takes_spec = tie.close (tie.spec left-in-requires takes-requires returns returns-2)

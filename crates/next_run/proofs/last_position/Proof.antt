@@ -4,14 +4,14 @@ use Prim.Native.Nat.{suc, ◌+◌, ◌-◌, ◌≤◌, ◌<◌}
 use mathlib.Core.Path.{◌≡◌, refl, sym, ◌∙◌}
 use native.Mathlib.Omega.{arith}
 use lib.ListN.{length, get_or}
-use Rattle.tables.specs.Table.{ruleIn}
+use Rattle.tables.specs.Table.{rule_in}
 use Rattle.rule_index.specs.Classes.{class_of}
 use Rattle.rule_index.proofs.Walk.{goes_on}
-use Rattle.history_file.specs.believed.HistoryFile.{tokensOf}
-use Rattle.levels.proofs.Levels.{tokens-length}
+use Rattle.history_file.specs.believed.HistoryFile.{tokens_of}
+use Rattle.levels.proofs.Levels.{tokens_length}
 use Rattle.next_run.specs.Next.{NoneFrom}
 use Rattle.next_run.proofs.Behind.{NoneBetween, between_first, between_more}
-use Rattle.next_run.proofs.Positions.{none_end, fits-here, none-next, found_at}
+use Rattle.next_run.proofs.Positions.{none_end, fits_here, none-next, found_at}
 use Rattle.next_run.proofs.last_position.Statement.{statement}
 use Rattle.next_run.proofs.last_position.Tie as tie
 
@@ -19,13 +19,13 @@ abbrev invariant-loop : tie.invariant-loop
 invariant-loop table head tokens closes masks at reading count p context nonterminal old r₀ r =
     (get_or reading p 0 < r)
     × NoneBetween head.well table (get_or reading p 0) nonterminal context r
-    × (r < count → class_of (ruleIn table r) ≡ class_of (ruleIn table (get_or reading p 0)))
+    × (r < count → class_of (rule_in table r) ≡ class_of (rule_in table (get_or reading p 0)))
 
 abbrev decreases-loop : tie.decreases-loop
 decreases-loop table head tokens closes masks at reading count p context nonterminal old r₀ r = count - r
 
 abbrev invariant-search : tie.invariant-search
-invariant-search table head tokens closes masks at reading count p₀ p = (p ≤ length tokens + 1) × NoneFrom table head (tokensOf tokens) at reading p
+invariant-search table head tokens closes masks at reading count p₀ p = (p ≤ length tokens + 1) × NoneFrom table head (tokens_of tokens) at reading p
 
 abbrev decreases-search : tie.decreases-search
 decreases-search table head tokens closes masks at reading count p₀ p = p
@@ -37,7 +37,7 @@ search-holds : tie.Need-search-init invariant-loop decreases-loop invariant-sear
 search-holds c =
     let s = c.before.before in
     let a = s.args in
-    (omega arith, none_end a.table.now a.head s.requires.0.indexed.ready (tokensOf a.tokens.now) a.masks.now a.at.now a.reading.now s.requires.0.leveled (length a.tokens.now + 1) (omega (arith, tokens-length a.tokens.now)))
+    (omega arith, none_end a.table.now a.head s.requires.0.indexed.ready (tokens_of a.tokens.now) a.masks.now a.at.now a.reading.now s.requires.0.leveled (length a.tokens.now + 1) (omega (arith, tokens_length a.tokens.now)))
 
 sub-p : tie.Need-overflow-sub-p invariant-loop decreases-loop invariant-search decreases-search
 sub-p c = search rules
@@ -67,7 +67,7 @@ next-of-requires : tie.Need-next-of-requires invariant-loop decreases-loop invar
 next-of-requires c κs =
     let l = c.before.before.before.before in
     let s = l.before.before.before in
-    omega (arith, s.requires.0.indexed.ready.few, (s.requires.1.1 (l.search.p - 1) (omega (arith, tokens-length s.args.tokens.now))).0)
+    omega (arith, s.requires.0.indexed.ready.few, (s.requires.1.1 (l.search.p - 1) (omega (arith, tokens_length s.args.tokens.now))).0)
 
 loop-holds : tie.Need-loop-init invariant-loop decreases-loop invariant-search decreases-search
 loop-holds c =
@@ -78,10 +78,10 @@ loop-holds c =
     let p = l.search.p - 1 in
     let b = get_or a.reading.now p 0 in
     let x = q.context-at.result in
-    let h = s.requires.1.1 p (omega (arith, tokens-length a.tokens.now)) in
-    let k = fits-here a.table.now a.head s.requires.0.indexed.ready (tokensOf a.tokens.now) a.masks.now a.at.now a.reading.now s.requires.0.leveled p x (q.context-at.ensures a.head.well) b h.0 h.1 in
+    let h = s.requires.1.1 p (omega (arith, tokens_length a.tokens.now)) in
+    let k = fits_here a.table.now a.head s.requires.0.indexed.ready (tokens_of a.tokens.now) a.masks.now a.at.now a.reading.now s.requires.0.leveled p x (q.context-at.ensures a.head.well) b h.0 h.1 in
     let f = goes_on s.requires.0.indexed b _ c.next_of.result h.0 refl c.next_of.ensures in
-    (f.from, between_first a.head.well a.table.now b (get_or a.at.now p 0) x k f (λ i m n. absurd (omega arith)), f.of-class)
+    (f.from, between_first a.head.well a.table.now b (get_or a.at.now p 0) x k f (λ i m n. absurd (omega arith)), f.of_class)
 
 search-less : tie.Need-search-smaller invariant-loop decreases-loop invariant-search decreases-search
 search-less c = search rules
@@ -95,7 +95,7 @@ search-again c =
     let q = c.before.before.before.before.before in
     let p = l.search.p - 1 in
     let e : suc p ≡ l.search.p = omega arith in
-    (omega arith, none-next a.table.now a.head s.requires.0.indexed.ready (tokensOf a.tokens.now) a.masks.now a.at.now a.reading.now s.requires.0.leveled p q.context-at.result (q.context-at.ensures a.head.well) i.loop.r c.loop-test.false i.loop.invariant.1 (rw e l.search.invariant.1))
+    (omega arith, none-next a.table.now a.head s.requires.0.indexed.ready (tokens_of a.tokens.now) a.masks.now a.at.now a.reading.now s.requires.0.leveled p q.context-at.result (q.context-at.ensures a.head.well) i.loop.r c.loop-test.false i.loop.invariant.1 (rw e l.search.invariant.1))
 
 fits-requires : tie.Need-fits-requires invariant-loop decreases-loop invariant-search decreases-search
 fits-requires c κs =
@@ -128,11 +128,11 @@ loop-again c =
     let a = s.args in
     let p = q.before.before.search.p - 1 in
     let b = get_or a.reading.now p 0 in
-    let t = s.requires.1.1 p (omega (arith, tokens-length a.tokens.now)) in
-    let y = fits-here a.table.now a.head s.requires.0.indexed.ready (tokensOf a.tokens.now) a.masks.now a.at.now a.reading.now s.requires.0.leveled p x (q.context-at.ensures a.head.well) b t.0 t.1 in
+    let t = s.requires.1.1 p (omega (arith, tokens_length a.tokens.now)) in
+    let y = fits_here a.table.now a.head s.requires.0.indexed.ready (tokens_of a.tokens.now) a.masks.now a.at.now a.reading.now s.requires.0.leveled p x (q.context-at.ensures a.head.well) b t.0 t.1 in
     let no = sym c.before.before.fits2.ensures ∙ c.before.if2.false in
     let h = between_more a.head.well a.table.now b (get_or a.at.now p 0) x i.loop.r i.loop.invariant.1 no in
-    (omega (arith, f.from), between_first a.head.well a.table.now b (get_or a.at.now p 0) x y f (λ j m k. h j m (omega arith)), f.of-class)
+    (omega (arith, f.from), between_first a.head.well a.table.now b (get_or a.at.now p 0) x y f (λ j m k. h j m (omega arith)), f.of_class)
 
 returns : tie.Need-returns invariant-loop decreases-loop invariant-search decreases-search
 returns c =
@@ -149,11 +149,11 @@ returns-2 c =
     let p = l.search.p - 1 in
     let e : suc p ≡ l.search.p = omega arith in
     let yes = sym c.before.fits2.ensures ∙ c.if2.true in
-    found_at a.table.now a.head s.requires.0.indexed.ready (tokensOf a.tokens.now) a.masks.now a.at.now a.reading.now s.requires.0.leveled p q.context-at.result (q.context-at.ensures a.head.well) i.loop.r (omega (arith, tokens-length a.tokens.now)) i.loop.invariant.0 c.before.before.loop-test.true
+    found_at a.table.now a.head s.requires.0.indexed.ready (tokens_of a.tokens.now) a.masks.now a.at.now a.reading.now s.requires.0.leveled p q.context-at.result (q.context-at.ensures a.head.well) i.loop.r (omega (arith, tokens_length a.tokens.now)) i.loop.invariant.0 c.before.before.loop-test.true
     yes i.loop.invariant.1 (rw e l.search.invariant.1)
 
-pub last-position-spec : {M : Type 1} → statement M
-last-position-spec =
+pub last_position_spec : {M : Type 1} → statement M
+last_position_spec =
     tie.close
     (tie.spec
     invariant-loop

@@ -1,7 +1,7 @@
 -- `next_run::next` meets its contract.
 use native.Mathlib.Omega.{arith}
-use Rattle.levels.proofs.Levels.{tokens-length}
-use Rattle.next_run.proofs.Successor.{none-refused, each_fits, no-further-is, rewrite-derives, written_is}
+use Rattle.levels.proofs.Levels.{tokens_length}
+use Rattle.next_run.proofs.Successor.{none-refused, each_fits, no_further_is, rewrite_derives, written_is}
 use borrow.Author.Rules.{rules}
 use Rattle.next_run.proofs.next.Statement.{statement}
 use Rattle.next_run.proofs.next.Tie as tie
@@ -25,7 +25,7 @@ returns : tie.Need-returns
 returns c =
     let s = c.before.before.before.before.before.before.before.before.before.before.before in
     let k = rw c.before.before.before.before.before.before.if1.true at c.before.before.before.before.before.before.before.replay.ensures in
-    no-further-is s.requires.0 s.args.reading.now s.requires.1 k (rw c.enum_told.given.1 at c.before.before.last-position.ensures)
+    no_further_is s.requires.0 s.args.reading.now s.requires.1 k (rw c.enum_told.given.1 at c.before.before.last-position.ensures)
 
 enum-known-found : tie.Need-enum-known-found
 enum-known-found c = search rules
@@ -36,7 +36,7 @@ rewrite-requires c κs =
     let a = s.args in
     let k = rw c.before.before.before.before.before.before.before.before.before.if1.true at c.before.before.before.before.before.before.before.before.before.before.replay.ensures in
     let h = rw c.before.before.before.found.given.1 at c.before.before.before.before.before.last-position.ensures in
-    (s.requires.0, ((omega (arith, h.position, tokens-length a.tokens.now), h.rule, k.room-behind, s.requires.1), λ l. rewrite-derives s.requires.0 a.reading.now s.requires.1 k _ _ h l))
+    (s.requires.0, ((omega (arith, h.position, tokens_length a.tokens.now), h.rule, k.room_behind, s.requires.1), λ l. rewrite_derives s.requires.0 a.reading.now s.requires.1 k _ _ h l))
 
 same-length-2 : tie.Need-same-length-2
 same-length-2 c = search rules
@@ -56,8 +56,8 @@ returns-3 c =
     let s = c.before.before.before.before.before in
     none-refused s.requires.0 s.args.reading.now s.requires.1 (rw c.if1.false at c.before.replay.ensures)
 
-pub next-spec : {M : Type 1} → statement M
-next-spec =
+pub next_spec : {M : Type 1} → statement M
+next_spec =
     tie.close
     (tie.spec
     replay-requires

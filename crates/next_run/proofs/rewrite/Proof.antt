@@ -3,11 +3,11 @@ use mathlib.Core.Path.{◌∙◌, ap}
 use native.Mathlib.Omega.{arith}
 use native.Mathlib.Numerals.{add-one}
 use lib.ListN.{length, length-set}
-use Rattle.tables.specs.Table.{ruleIn}
-use Rattle.history_file.specs.believed.HistoryFile.{tokenOf, tokensOf}
-use Rattle.levels.proofs.Levels.{tokens-length, tokens-at}
-use Rattle.levels.proofs.Setting.{close-room}
-use Rattle.next_run.proofs.Rewriting.{rewritten-on, rewritten-end}
+use Rattle.tables.specs.Table.{rule_in}
+use Rattle.history_file.specs.believed.HistoryFile.{token_of, tokens_of}
+use Rattle.levels.proofs.Levels.{tokens_length, tokens_at}
+use Rattle.levels.proofs.Setting.{close_room}
+use Rattle.next_run.proofs.Rewriting.{rewritten_on, rewritten_end}
 use borrow.Author.Rules.{rules}
 use Rattle.next_run.proofs.rewrite.Statement.{statement}
 use Rattle.next_run.proofs.rewrite.Tie as tie
@@ -36,13 +36,13 @@ inner-of-requires c κs = search rules
 store-later-requires : tie.Need-store-later-requires
 store-later-requires c κs =
     let s = c.before.before.before.before.before.before.before.before in
-    (s.requires.1.0.2, rw c.before.before.before.close_at.ensures (close-room s.requires.0 s.args.branch.position (omega arith)))
+    (s.requires.1.0.2, rw c.before.before.before.close_at.ensures (close_room s.requires.0 s.args.branch.position (omega arith)))
 
 add-position : tie.Need-overflow-add-position
 add-position c = search rules
 
 fill-requires : tie.Need-fill-requires
-unfolding ruleIn
+unfolding rule_in
 fill-requires c κs =
     let s = c.before.before.before.before.before.before.before.before.before.before in
     let p = s.args.branch.position in
@@ -55,14 +55,14 @@ same_length c =
     c.before.reading.given ∙ length-set a.reading.now a.branch.position a.branch.rule
 
 returns : tie.Need-returns
-unfolding ruleIn
+unfolding rule_in
 returns c =
     let k = c.before.before.before in
     let s = k.before.before.before.before.before.before.before.before.before.before in
     let a = s.args in
     let within = k.before.before.before.before.before.before.before.if1.true in
-    let here = tokens-at a.tokens.now a.branch.position within in
-    rewritten-on a.table.now a.head (tokensOf a.tokens.now) a.closes.now a.branch a.reading.now (rw tokens-length s.requires.1.0.3) (tokenOf _) _ (rw tokens-length within) here
+    let here = tokens_at a.tokens.now a.branch.position within in
+    rewritten_on a.table.now a.head (tokens_of a.tokens.now) a.closes.now a.branch a.reading.now (rw tokens_length s.requires.1.0.3) (token_of _) _ (rw tokens_length within) here
     (rw (k.before.store-later.ensures, k.before.before.before.inner_of.ensures, k.before.before.before.before.before.close_at.ensures, k.before.before.before.before.before.before.six-in.ensures, add-one a.branch.position) at c.before.before.fill.ensures)
 
 same-length-2 : tie.Need-same-length-2
@@ -72,10 +72,10 @@ returns-2 : tie.Need-returns-2
 returns-2 c =
     let s = c.before.before.before in
     let a = s.args in
-    rewritten-end a.table.now a.head (tokensOf a.tokens.now) a.closes.now a.branch a.reading.now (rw tokens-length s.requires.1.0.3) (omega (arith, tokens-length a.tokens.now))
+    rewritten_end a.table.now a.head (tokens_of a.tokens.now) a.closes.now a.branch a.reading.now (rw tokens_length s.requires.1.0.3) (omega (arith, tokens_length a.tokens.now))
 
-pub rewrite-spec : {M : Type 1} → statement M
-rewrite-spec =
+pub rewrite_spec : {M : Type 1} → statement M
+rewrite_spec =
     tie.close
     (tie.spec
     cast-reading

@@ -38,8 +38,8 @@ returns-3 c =
     let d = c.before.before.before.before in
     simp (← d.number_at.ensures, c.before.before.read.given.1, le-ltb _ _ c.if1.false)
 
-pub field-at-spec : {M : Type 1} → statement M
-field-at-spec =
+pub field_at_spec : {M : Type 1} → statement M
+field_at_spec =
     tie.close
     (tie.spec
     number-at-requires

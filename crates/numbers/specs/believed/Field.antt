@@ -21,5 +21,5 @@ positive (Field n p) refusal = cond (eqb n 0) (FieldRefused refusal) (Field n p)
 positive (FieldRefused e) refusal = FieldRefused e
 
 -- the number at a place, from 1 to the most
-unfoldable pub countAt : (ℕ → NumberRead) → ℕ → ℕ → ℕ → FieldRead
-countAt number at most refusal = positive (field_at number at (most + 1) refusal) refusal
+unfoldable pub count_at : (ℕ → NumberRead) → ℕ → ℕ → ℕ → FieldRead
+count_at number at most refusal = positive (field_at number at (most + 1) refusal) refusal

@@ -1,6 +1,6 @@
 -- `after_close`: the words after a close that is taken alone, and those after the step, from those before its open, by the contexts that may be finished.
 use borrow.Author.Rules.{rules}
-use Rattle.pair_states.proofs.Derivatives.{alone-size, close-encodes}
+use Rattle.pair_states.proofs.Derivatives.{alone-size, close_encodes}
 use Rattle.pair_states.proofs.after_close.Statement.{statement}
 use Rattle.pair_states.proofs.after_close.Tie as tie
 
@@ -26,7 +26,7 @@ returns c = λ S S₁ x y.
     let s = w.before.before in
     let a = s.args in
     rw (c.words-behind.ensures, w.words-after.ensures, c.before.before.finished-of.ensures, e.ends.ensures)
-    (close-encodes _ _ s.requires a.b a.a a.words.now a.saved.now S S₁ x y)
+    (close_encodes _ _ s.requires a.b a.a a.words.now a.saved.now S S₁ x y)
 
-pub after-close-spec : {M : Type 1} → statement M
-after-close-spec = tie.close (tie.spec words-after-requires ends-requires finished-of-requires words-behind-requires returns)
+pub after_close_spec : {M : Type 1} → statement M
+after_close_spec = tie.close (tie.spec words-after-requires ends-requires finished-of-requires words-behind-requires returns)

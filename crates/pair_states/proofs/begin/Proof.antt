@@ -1,5 +1,5 @@
 -- `begin`: the start has itself alone as context, and no other nonterminal has any.
-use Rattle.pair_states.proofs.Derivatives.{single-encodes}
+use Rattle.pair_states.proofs.Derivatives.{single_encodes}
 use borrow.Author.Rules.{rules}
 use Rattle.pair_states.proofs.begin.Statement.{statement}
 use Rattle.pair_states.proofs.begin.Tie as tie
@@ -17,7 +17,7 @@ array-write-words : tie.Need-array-write-words
 array-write-words c = search rules
 
 returns : tie.Need-returns
-returns c = rw (c.with.ensures, c.before.wide.ensures) (single-encodes c.before.before.args.start c.before.before.requires)
+returns c = rw (c.with.ensures, c.before.wide.ensures) (single_encodes c.before.before.args.start c.before.before.requires)
 
-pub begin-spec : {M : Type 1} → statement M
-begin-spec = tie.close (tie.spec wide-requires with-requires mul_words array-write-words returns)
+pub begin_spec : {M : Type 1} → statement M
+begin_spec = tie.close (tie.spec wide-requires with-requires mul_words array-write-words returns)

@@ -6,19 +6,19 @@ use mathlib.Core.Path.{◌≡◌, ◌∙◌, ap}
 use borrow.Author.Rules.{rules}
 use lib.Bits.{bit_or}
 use lib.ListN.{get_or}
-use Rattle.pair_states.specs.Finished.{finishedOf}
+use Rattle.pair_states.specs.Finished.{finished_of_lem}
 use Rattle.pair_states.proofs.Finished.{finished-turn}
 use Rattle.pair_states.proofs.finished_of.Statement.{statement}
 use Rattle.pair_states.proofs.finished_of.Tie as tie
 
 abbrev invariant-loop : tie.invariant-loop
-invariant-loop words empties set₀ k₀ set k = (k ≤ 32) × (set ≡ finishedOf words empties k)
+invariant-loop words empties set₀ k₀ set k = (k ≤ 32) × (set ≡ finished_of_lem words empties k)
 
 abbrev decreases-loop : tie.decreases-loop
 decreases-loop words empties set₀ k₀ set k = 32 - k
 
 loop-holds : tie.Need-loop-init invariant-loop decreases-loop
-unfolding finishedOf
+unfolding finished_of_lem
 loop-holds c = search rules
 
 mul-join-if : tie.Need-overflow-mul-join-if invariant-loop decreases-loop
@@ -52,8 +52,8 @@ loop-again c =
 returns : tie.Need-returns invariant-loop decreases-loop
 returns c = let e : c.before.loop.k ≡ 32 = omega arith in c.before.loop.invariant.1 ∙ rw e
 
-pub finished-of-spec : {M : Type 1} → statement M
-finished-of-spec =
+pub finished_of_spec : {M : Type 1} → statement M
+finished_of_spec =
     tie.close
     (tie.spec
     invariant-loop

@@ -9,5 +9,5 @@ returns c = rw c.if1.true
 returns-2 : tie.Need-returns-2
 returns-2 c = search rules
 
-pub join-if-spec : {M : Type 1} → statement M
-join-if-spec = tie.close (tie.spec returns returns-2)
+pub join_if_spec : {M : Type 1} → statement M
+join_if_spec = tie.close (tie.spec returns returns-2)

@@ -12,5 +12,5 @@ some-requires c κs = search rules
 returns : tie.Need-returns
 returns c = rw (← c.before.finished-of.ensures) c.some.ensures
 
-pub may-end-spec : {M : Type 1} → statement M
-may-end-spec = tie.close (tie.spec finished-of-requires some-requires returns)
+pub may_end_spec : {M : Type 1} → statement M
+may_end_spec = tie.close (tie.spec finished-of-requires some-requires returns)

@@ -13,5 +13,5 @@ returns c = rw (eq-eqb _ _ c.before.if1.true) c.itself.ensures
 returns-2 : tie.Need-returns-2
 returns-2 c = rw (ne_eqb _ _ c.if1.false)
 
-pub contexts-spec : {M : Type 1} → statement M
-contexts-spec = tie.close (tie.spec itself-requires returns returns-2)
+pub contexts_spec : {M : Type 1} → statement M
+contexts_spec = tie.close (tie.spec itself-requires returns returns-2)

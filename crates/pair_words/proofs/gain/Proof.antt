@@ -2,7 +2,7 @@
 use native.Mathlib.Omega.{arith}
 use mathlib.Core.Path.{sym, ◌∙◌}
 use borrow.Author.Rules.{rules}
-use Rattle.pair_words.proofs.Sixes.{begins-below, gains, gains-none}
+use Rattle.pair_words.proofs.Sixes.{begins_below, gains, gains_none}
 use Rattle.pair_words.proofs.gain.Statement.{statement}
 use Rattle.pair_words.proofs.gain.Tie as tie
 
@@ -25,7 +25,7 @@ element-copy-out-out : tie.Need-element-copy-out-out
 element-copy-out-out c =
     let x = c.before.before.before.before.before in
     let s = x.before in
-    let b = begins-below s.args.table.now s.args.k s.args.token _ x.six-in.ensures s.requires.0.2 s.requires.0.1 in
+    let b = begins_below s.args.table.now s.args.k s.args.token _ x.six-in.ensures s.requires.0.2 s.requires.0.1 in
     omega (arith, b.1, c.wide2.ensures)
 
 mul-contexts : tie.Need-overflow-mul-contexts
@@ -35,14 +35,14 @@ element-copy-out-contexts : tie.Need-element-copy-out-contexts
 element-copy-out-contexts c =
     let x = c.before.before.before.before.before.before in
     let s = x.before in
-    let b = begins-below s.args.table.now s.args.k s.args.token _ x.six-in.ensures s.requires.0.2 s.requires.0.1 in
+    let b = begins_below s.args.table.now s.args.k s.args.token _ x.six-in.ensures s.requires.0.2 s.requires.0.1 in
     omega (arith, b.0, c.before.before.wide.ensures)
 
 contexts-requires : tie.Need-contexts-requires
 contexts-requires c κs =
     let x = c.before.before.before.before.before.before.before in
     let s = x.before in
-    let b = begins-below s.args.table.now s.args.k s.args.token _ x.six-in.ensures s.requires.0.2 s.requires.0.1 in
+    let b = begins_below s.args.table.now s.args.k s.args.token _ x.six-in.ensures s.requires.0.2 s.requires.0.1 in
     omega (arith, b.1, c.before.before.wide2.ensures)
 
 mul-out-2 : tie.Need-overflow-mul-out-2
@@ -52,7 +52,7 @@ element-write-out : tie.Need-element-write-out
 element-write-out c =
     let x = c.before.before.before.before.before.before.before.before in
     let s = x.before in
-    let b = begins-below s.args.table.now s.args.k s.args.token _ x.six-in.ensures s.requires.0.2 s.requires.0.1 in
+    let b = begins_below s.args.table.now s.args.k s.args.token _ x.six-in.ensures s.requires.0.2 s.requires.0.1 in
     omega (arith, b.1, c.before.before.before.wide2.ensures)
 
 returns : tie.Need-returns
@@ -71,10 +71,10 @@ returns-2 c =
     let x = c.before.before.before in
     let s = x.before in
     let a = s.args in
-    gains-none a.table.now a.k a.token _ x.six-in.ensures s.requires.0.2 a.from.now a.out.now (λ e. c.if1.false (e ∙ sym c.before.before.name_of.ensures))
+    gains_none a.table.now a.k a.token _ x.six-in.ensures s.requires.0.2 a.from.now a.out.now (λ e. c.if1.false (e ∙ sym c.before.before.name_of.ensures))
 
-pub gain-spec : {M : Type 1} → statement M
-gain-spec =
+pub gain_spec : {M : Type 1} → statement M
+gain_spec =
     tie.close
     (tie.spec
     six-in-requires

@@ -3,7 +3,7 @@ use native.Mathlib.Omega.{arith}
 use mathlib.Core.Path.{sym, ◌∙◌, ap}
 use borrow.Author.Rules.{rules}
 use Rattle.bits.specs.Bit.{bit}
-use Rattle.pair_words.proofs.Sixes.{step-below, gains-behind, gains-unfinished, gains-unlike}
+use Rattle.pair_words.proofs.Sixes.{step_below, gains_behind, gains_unfinished, gains_unlike}
 use Rattle.pair_words.proofs.gain_behind.Statement.{statement}
 use Rattle.pair_words.proofs.gain_behind.Tie as tie
 
@@ -20,7 +20,7 @@ has-requires : tie.Need-has-requires
 has-requires c κs =
     let x = c.before.before.before in
     let s = x.before in
-    let b = step-below s.args.table.now s.args.k s.args.a s.args.b _ x.six-in.ensures (sym c.before.before.is-step.ensures ∙ c.before.if1.true) s.requires.0.1 in
+    let b = step_below s.args.table.now s.args.k s.args.a s.args.b _ x.six-in.ensures (sym c.before.before.is-step.ensures ∙ c.before.if1.true) s.requires.0.1 in
     omega (arith, b.1, c.wide.ensures)
 
 wide-requires-2 : tie.Need-wide-requires-2
@@ -37,7 +37,7 @@ element-copy-out-out c =
     let i = c.before.before.before.before.before in
     let x = i.before.before in
     let s = x.before in
-    let b = step-below s.args.table.now s.args.k s.args.a s.args.b _ x.six-in.ensures (sym i.before.is-step.ensures ∙ i.if1.true) s.requires.0.1 in
+    let b = step_below s.args.table.now s.args.k s.args.a s.args.b _ x.six-in.ensures (sym i.before.is-step.ensures ∙ i.if1.true) s.requires.0.1 in
     omega (arith, b.2, c.wide3.ensures)
 
 mul-out-2 : tie.Need-overflow-mul-out-2
@@ -48,7 +48,7 @@ element-copy-out-out-2 c =
     let i = c.before.before.before.before.before.before in
     let x = i.before.before in
     let s = x.before in
-    let b = step-below s.args.table.now s.args.k s.args.a s.args.b _ x.six-in.ensures (sym i.before.is-step.ensures ∙ i.if1.true) s.requires.0.1 in
+    let b = step_below s.args.table.now s.args.k s.args.a s.args.b _ x.six-in.ensures (sym i.before.is-step.ensures ∙ i.if1.true) s.requires.0.1 in
     omega (arith, b.0, c.before.before.wide2.ensures)
 
 mul-out-3 : tie.Need-overflow-mul-out-3
@@ -59,7 +59,7 @@ element-write-out c =
     let i = c.before.before.before.before.before.before.before in
     let x = i.before.before in
     let s = x.before in
-    let b = step-below s.args.table.now s.args.k s.args.a s.args.b _ x.six-in.ensures (sym i.before.is-step.ensures ∙ i.if1.true) s.requires.0.1 in
+    let b = step_below s.args.table.now s.args.k s.args.a s.args.b _ x.six-in.ensures (sym i.before.is-step.ensures ∙ i.if1.true) s.requires.0.1 in
     omega (arith, b.2, c.before.before.wide3.ensures)
 
 returns : tie.Need-returns
@@ -68,7 +68,7 @@ returns c =
     let i = h.before.before in
     let x = i.before.before in
     let a = x.before.args in
-    gains-behind a.table.now a.k a.a a.b _ x.six-in.ensures a.done a.from.now a.out.now _ _ (sym i.before.is-step.ensures ∙ i.if1.true)
+    gains_behind a.table.now a.k a.a a.b _ x.six-in.ensures a.done a.from.now a.out.now _ _ (sym i.before.is-step.ensures ∙ i.if1.true)
     (ap (bit a.done) (sym h.before.wide.ensures) ∙ sym h.has.ensures ∙ c.before.before.before.before.if2.true)
     c.before.before.before.wide2.ensures
     c.before.before.wide3.ensures
@@ -79,17 +79,17 @@ returns-2 c =
     let i = h.before.before in
     let x = i.before.before in
     let a = x.before.args in
-    gains-unfinished a.table.now a.k a.a a.b _ x.six-in.ensures a.done a.from.now a.out.now (sym i.before.is-step.ensures ∙ i.if1.true)
+    gains_unfinished a.table.now a.k a.a a.b _ x.six-in.ensures a.done a.from.now a.out.now (sym i.before.is-step.ensures ∙ i.if1.true)
     (ap (bit a.done) (sym h.before.wide.ensures) ∙ sym h.has.ensures ∙ c.if2.false)
 
 returns-3 : tie.Need-returns-3
 returns-3 c =
     let x = c.before.before in
     let a = x.before.args in
-    gains-unlike a.table.now a.k a.a a.b _ x.six-in.ensures a.done a.from.now a.out.now (sym c.before.is-step.ensures ∙ c.if1.false)
+    gains_unlike a.table.now a.k a.a a.b _ x.six-in.ensures a.done a.from.now a.out.now (sym c.before.is-step.ensures ∙ c.if1.false)
 
-pub gain-behind-spec : {M : Type 1} → statement M
-gain-behind-spec =
+pub gain_behind_spec : {M : Type 1} → statement M
+gain_behind_spec =
     tie.close
     (tie.spec
     six-in-requires

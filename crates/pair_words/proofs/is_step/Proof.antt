@@ -13,5 +13,5 @@ returns c = rw (eq-eqb _ _ c.before.before.before.before.if1.true) c.both.ensure
 returns-2 : tie.Need-returns-2
 returns-2 c = rw (ne_eqb _ _ c.if1.false)
 
-pub is-step-spec : {M : Type 1} → statement M
-is-step-spec = tie.close (tie.spec both-requires returns returns-2)
+pub is_step_spec : {M : Type 1} → statement M
+is_step_spec = tie.close (tie.spec both-requires returns returns-2)

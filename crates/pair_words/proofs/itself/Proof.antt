@@ -16,5 +16,5 @@ returns c = rw (sym c.before.before.some.ensures ∙ c.before.if1.true) c.with.e
 returns-2 : tie.Need-returns-2
 returns-2 c = rw (sym c.before.some.ensures ∙ c.if1.false)
 
-pub itself-spec : {M : Type 1} → statement M
-itself-spec = tie.close (tie.spec some-requires with-requires returns returns-2)
+pub itself_spec : {M : Type 1} → statement M
+itself_spec = tie.close (tie.spec some-requires with-requires returns returns-2)

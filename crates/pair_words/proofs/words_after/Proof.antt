@@ -5,16 +5,16 @@ use mathlib.Core.Path.{◌≡◌, ◌∙◌, ap}
 use borrow.Author.Rules.{rules}
 use lib.ListN.{length, replicate, length-replicate}
 use Rattle.rule_index.specs.Classes.{class_at}
-use Rattle.rule_index.specs.Index.{firstIn}
-use Rattle.rule_index.proofs.Classes.{class-small}
-use Rattle.pair_words.specs.Words.{givesAt}
+use Rattle.rule_index.specs.Index.{first_in}
+use Rattle.rule_index.proofs.Classes.{class_small}
+use Rattle.pair_words.specs.Words.{gives_at}
 use Rattle.pair_words.proofs.Digits.{words_size}
-use Rattle.pair_words.proofs.Walks.{Walked, at-class, walk_first, walk-next}
+use Rattle.pair_words.proofs.Walks.{Walked, at_class, walk_first, walk_next}
 use Rattle.pair_words.proofs.words_after.Statement.{statement}
 use Rattle.pair_words.proofs.words_after.Tie as tie
 
 abbrev invariant-loop : tie.invariant-loop
-invariant-loop table token from out₀ count k₀ out k = Walked (givesAt token from) (replicate 32 0) table count (class_at token) k out
+invariant-loop table token from out₀ count k₀ out k = Walked (gives_at token from) (replicate 32 0) table count (class_at token) k out
 
 abbrev decreases-loop : tie.decreases-loop
 decreases-loop table token from out₀ count k₀ out k = count - k
@@ -23,14 +23,14 @@ class-at-requires : tie.Need-class-at-requires invariant-loop decreases-loop
 class-at-requires c κs = search rules
 
 first-of-requires : tie.Need-first-of-requires invariant-loop decreases-loop
-first-of-requires c κs = rw c.class-at.ensures (class-small c.before.before.args.token)
+first-of-requires c κs = rw c.class-at.ensures (class_small c.before.before.args.token)
 
 loop-holds : tie.Need-loop-init invariant-loop decreases-loop
 loop-holds c =
     let s = c.before.before.before in
     let a = s.args in
-    walk_first (givesAt a.token a.from.now) (replicate 32 0) a.table.now a.head s.requires (class_at a.token) (at-class a.token a.from.now) c.first_of.result (class-small a.token)
-    (c.first_of.ensures ∙ ap (firstIn a.table.now) c.before.class-at.ensures)
+    walk_first (gives_at a.token a.from.now) (replicate 32 0) a.table.now a.head s.requires (class_at a.token) (at_class a.token a.from.now) c.first_of.result (class_small a.token)
+    (c.first_of.ensures ∙ ap (first_in a.table.now) c.before.class-at.ensures)
 
 gain-requires : tie.Need-gain-requires invariant-loop decreases-loop
 gain-requires c κs =
@@ -38,8 +38,8 @@ gain-requires c κs =
     let s = c.before.before.before.before.before.before in
     let a = s.args in
     let t = c.before.loop-test.true in (
-      (omega (arith, s.requires.ready.few), s.requires.ready.small l.k t, l.invariant.of-class t),
-      ap length l.invariant.is ∙ words_size (givesAt a.token a.from.now) (replicate 32 0) (length-replicate {A = ℕ} 32 0) a.table.now l.k,
+      (omega (arith, s.requires.ready.few), s.requires.ready.small l.k t, l.invariant.of_class t),
+      ap length l.invariant.is ∙ words_size (gives_at a.token a.from.now) (replicate 32 0) (length-replicate {A = ℕ} 32 0) a.table.now l.k,
     )
 
 next-of-requires : tie.Need-next-of-requires invariant-loop decreases-loop
@@ -57,7 +57,7 @@ loop-again c =
     let s = c.before.before.before.before.before.before.before.before in
     let a = s.args in
     let l = c.before.before.before.before.loop in
-    walk-next (givesAt a.token a.from.now) (replicate 32 0) a.table.now a.head s.requires (class_at a.token) (at-class a.token a.from.now) l.k c.next_of.result l.out _ l.invariant
+    walk_next (gives_at a.token a.from.now) (replicate 32 0) a.table.now a.head s.requires (class_at a.token) (at_class a.token a.from.now) l.k c.next_of.result l.out _ l.invariant
     c.before.before.before.loop-test.true c.before.gain.ensures c.next_of.ensures
 
 returns : tie.Need-returns invariant-loop decreases-loop
@@ -66,8 +66,8 @@ returns c =
     let e : l.k ≡ c.before.before.before.before.before.args.head.rules = omega (arith, l.invariant.most) in
     l.invariant.is ∙ rw e
 
-pub words-after-spec : {M : Type 1} → statement M
-words-after-spec =
+pub words_after_spec : {M : Type 1} → statement M
+words_after_spec =
     tie.close
     (tie.spec
     invariant-loop

@@ -6,16 +6,16 @@ use borrow.Author.Rules.{rules}
 use lib.ListN.{length}
 use Rattle.vpg.specs.declared.Token.{Token}
 use Rattle.rule_index.specs.Classes.{class_at}
-use Rattle.rule_index.specs.Index.{firstIn}
-use Rattle.rule_index.proofs.Classes.{class-small}
-use Rattle.pair_words.specs.Words.{givesBehind}
+use Rattle.rule_index.specs.Index.{first_in}
+use Rattle.rule_index.proofs.Classes.{class_small}
+use Rattle.pair_words.specs.Words.{gives_behind}
 use Rattle.pair_words.proofs.Digits.{words_size}
-use Rattle.pair_words.proofs.Walks.{Walked, behind-class, walk_first, walk-next}
+use Rattle.pair_words.proofs.Walks.{Walked, behind_class, walk_first, walk_next}
 use Rattle.pair_words.proofs.words_behind.Statement.{statement}
 use Rattle.pair_words.proofs.words_behind.Tie as tie
 
 abbrev invariant-loop : tie.invariant-loop
-invariant-loop table a b done from out₀ count k₀ out k = Walked (givesBehind a b done from) out₀ table count (class_at (Token.Open a)) k out
+invariant-loop table a b done from out₀ count k₀ out k = Walked (gives_behind a b done from) out₀ table count (class_at (Token.Open a)) k out
 
 abbrev decreases-loop : tie.decreases-loop
 decreases-loop table a b done from out₀ count k₀ out k = count - k
@@ -24,15 +24,15 @@ class-by-requires : tie.Need-class-by-requires invariant-loop decreases-loop
 class-by-requires c κs = search rules
 
 first-of-requires : tie.Need-first-of-requires invariant-loop decreases-loop
-first-of-requires c κs = rw c.class-by.ensures (class-small (Token.Open c.before.args.a))
+first-of-requires c κs = rw c.class-by.ensures (class_small (Token.Open c.before.args.a))
 
 loop-holds : tie.Need-loop-init invariant-loop decreases-loop
 loop-holds c =
     let s = c.before.before in
     let a = s.args in
-    walk_first (givesBehind a.a a.b a.done a.from.now) a.out.now a.table.now a.head s.requires.0 (class_at (Token.Open a.a)) (behind-class a.a a.b a.done a.from.now) c.first_of.result
-    (class-small (Token.Open a.a))
-    (c.first_of.ensures ∙ ap (firstIn a.table.now) c.before.class-by.ensures)
+    walk_first (gives_behind a.a a.b a.done a.from.now) a.out.now a.table.now a.head s.requires.0 (class_at (Token.Open a.a)) (behind_class a.a a.b a.done a.from.now) c.first_of.result
+    (class_small (Token.Open a.a))
+    (c.first_of.ensures ∙ ap (first_in a.table.now) c.before.class-by.ensures)
 
 gain-behind-requires : tie.Need-gain-behind-requires invariant-loop decreases-loop
 gain-behind-requires c κs =
@@ -40,7 +40,7 @@ gain-behind-requires c κs =
     let s = c.before.before.before.before.before in
     let a = s.args in (
       (omega (arith, s.requires.0.ready.few), s.requires.0.ready.small l.k c.before.loop-test.true),
-      ap length l.invariant.is ∙ words_size (givesBehind a.a a.b a.done a.from.now) a.out.now s.requires.1 a.table.now l.k,
+      ap length l.invariant.is ∙ words_size (gives_behind a.a a.b a.done a.from.now) a.out.now s.requires.1 a.table.now l.k,
     )
 
 next-of-requires : tie.Need-next-of-requires invariant-loop decreases-loop
@@ -58,7 +58,7 @@ loop-again c =
     let s = c.before.before.before.before.before.before.before in
     let a = s.args in
     let l = c.before.before.before.before.loop in
-    walk-next (givesBehind a.a a.b a.done a.from.now) a.out.now a.table.now a.head s.requires.0 (class_at (Token.Open a.a)) (behind-class a.a a.b a.done a.from.now) l.k c.next_of.result l.out _
+    walk_next (gives_behind a.a a.b a.done a.from.now) a.out.now a.table.now a.head s.requires.0 (class_at (Token.Open a.a)) (behind_class a.a a.b a.done a.from.now) l.k c.next_of.result l.out _
     l.invariant c.before.before.before.loop-test.true c.before.gain-behind.ensures c.next_of.ensures
 
 returns : tie.Need-returns invariant-loop decreases-loop
@@ -67,8 +67,8 @@ returns c =
     let e : l.k ≡ c.before.before.before.before.args.head.rules = omega (arith, l.invariant.most) in
     l.invariant.is ∙ rw e
 
-pub words-behind-spec : {M : Type 1} → statement M
-words-behind-spec =
+pub words_behind_spec : {M : Type 1} → statement M
+words_behind_spec =
     tie.close
     (tie.spec
     invariant-loop

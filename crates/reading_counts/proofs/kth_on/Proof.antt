@@ -4,9 +4,9 @@ use mathlib.Core.Path.{◌∙◌, ap}
 use Prim.Native.Nat.{◌+◌}
 use lib.ListN.{length}
 use Rattle.vpg.specs.Runs.{entries}
-use Rattle.tables.specs.Ready.{grammarIn}
-use Rattle.history_file.specs.believed.HistoryFile.{tokensOf}
-use Rattle.reading_counts.proofs.Told.{kthSaid, kth-numbered}
+use Rattle.tables.specs.Ready.{grammar_in}
+use Rattle.history_file.specs.believed.HistoryFile.{tokens_of}
+use Rattle.reading_counts.proofs.Told.{kth_said, kth-numbered}
 use Rattle.reading_counts.proofs.kth_on.Statement.{statement}
 use Rattle.reading_counts.proofs.kth_on.Tie as tie
 
@@ -28,8 +28,8 @@ same_length c = search rules
 returns : tie.Need-returns
 returns c =
     let a = c.before.before.before.before.before.before.before.before.before.before.before.before.before.args in
-    ap kthSaid (rw c.enum_told.given.1 at c.before.before.before.before.kth.ensures)
-    ∙ kth-numbered (entries (grammarIn a.table.now a.head) (tokensOf a.tokens.now)) a.k (length a.tokens.now + 1) a.reading.now
+    ap kth_said (rw c.enum_told.given.1 at c.before.before.before.before.kth.ensures)
+    ∙ kth-numbered (entries (grammar_in a.table.now a.head) (tokens_of a.tokens.now)) a.k (length a.tokens.now + 1) a.reading.now
 
 same-length-2 : tie.Need-same-length-2
 same-length-2 c = search rules
@@ -37,11 +37,11 @@ same-length-2 c = search rules
 returns-2 : tie.Need-returns-2
 returns-2 c =
     let a = c.before.before.before.before.before.before.before.before.before.before.before.before.before.args in
-    ap kthSaid (rw c.enum-told2.given.1 at c.before.before.before.before.kth.ensures)
-    ∙ kth-numbered (entries (grammarIn a.table.now a.head) (tokensOf a.tokens.now)) a.k (length a.tokens.now + 1) a.reading.now
+    ap kth_said (rw c.enum-told2.given.1 at c.before.before.before.before.kth.ensures)
+    ∙ kth-numbered (entries (grammar_in a.table.now a.head) (tokens_of a.tokens.now)) a.k (length a.tokens.now + 1) a.reading.now
 
-pub kth-on-spec : {M : Type 1} → statement M
-kth-on-spec =
+pub kth_on_spec : {M : Type 1} → statement M
+kth_on_spec =
     tie.close
     (tie.spec
     prepare-requires

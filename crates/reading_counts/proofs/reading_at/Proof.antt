@@ -2,7 +2,7 @@
 use mathlib.Core.Path.{sym}
 use lib.ListN.{take, length-map}
 use native.Mathlib.Omega.{arith}
-use Rattle.history_file.specs.believed.HistoryFile.{tokenOf}
+use Rattle.history_file.specs.believed.HistoryFile.{token_of}
 use borrow.Author.Rules.{rules}
 use Rattle.reading_counts.proofs.reading_at.Statement.{statement}
 use Rattle.reading_counts.proofs.reading_at.Tie as tie
@@ -50,10 +50,10 @@ returns-2 : tie.Need-returns-2
 returns-2 c =
     let o = c.before.before.before.before.before.before.before.before.before.open-files.ensures in
     let k = o.passes _ _ c.before.before.before.before.before.before.before.opened.given.1 in
-    rw (k.is, length-map (take _ _) tokenOf, c.before.before.kth-on.ensures)
+    rw (k.is, length-map (take _ _) token_of, c.before.before.kth-on.ensures)
 
-pub reading-at-spec : {M : Type 1} → statement M
-reading-at-spec =
+pub reading_at_spec : {M : Type 1} → statement M
+reading_at_spec =
     tie.close
     (tie.spec
     open-files-requires

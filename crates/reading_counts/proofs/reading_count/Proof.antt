@@ -1,9 +1,9 @@
 -- `reading_counts::reading_count` meets its contract.
 use native.Mathlib.Omega.{arith}
 use mathlib.Core.Path.{sym, ◌∙◌}
-use Rattle.service.specs.believed.Opened.{filesIn}
-use Rattle.service.proofs.Opens.{nothing-asked}
-use Rattle.reading_counts.proofs.Told.{all-due}
+use Rattle.service.specs.believed.Opened.{files_in}
+use Rattle.service.proofs.Opens.{nothing_asked}
+use Rattle.reading_counts.proofs.Told.{all_due}
 use borrow.Author.Rules.{rules}
 use Rattle.reading_counts.proofs.reading_count.Statement.{statement}
 use Rattle.reading_counts.proofs.reading_count.Tie as tie
@@ -25,7 +25,7 @@ returns c =
     let o = c.before.before.before.open-files.ensures in
     let q = c.before.enum_told.given.1 in
     let a = c.before.before.before.before.before.before.before.before.args in
-    rw (c.refusal-of.ensures, q, sym (nothing-asked (filesIn a.grammar.now a.history.now)) ∙ o.refuses _ q)
+    rw (c.refusal-of.ensures, q, sym (nothing_asked (files_in a.grammar.now a.history.now)) ∙ o.refuses _ q)
 
 array-share-prefix-tokens : tie.Need-array-share-prefix-tokens
 array-share-prefix-tokens c =
@@ -56,11 +56,11 @@ returns-2 c =
     let o = c.before.before.before.before.before.before.before.before.open-files.ensures in
     let k = o.passes _ _ c.before.before.before.before.before.before.opened.given.1 in
     let a = c.before.before.before.before.before.before.before.before.before.before.before.before.before.args in
-    let passed = sym (nothing-asked (filesIn a.grammar.now a.history.now)) ∙ k.is in
-    c.counted.ensures ∙ all-due a.grammar.now a.history.now passed c.before.before.anywhere.result.position c.before.before.anywhere.result.rule c.before.count-on.ensures (omega (arith, k.tokens.few, c.before.before.anywhere.ensures.0))
+    let passed = sym (nothing_asked (files_in a.grammar.now a.history.now)) ∙ k.is in
+    c.counted.ensures ∙ all_due a.grammar.now a.history.now passed c.before.before.anywhere.result.position c.before.before.anywhere.result.rule c.before.count-on.ensures (omega (arith, k.tokens.few, c.before.before.anywhere.ensures.0))
 
-pub reading-count-spec : {M : Type 1} → statement M
-reading-count-spec =
+pub reading_count_spec : {M : Type 1} → statement M
+reading_count_spec =
     tie.close
     (tie.spec
     open-files-requires

@@ -27,8 +27,8 @@ same-length-2 c = search rules
 returns-2 : tie.Need-returns-2
 returns-2 c = rw c.enum-told2.given.1 at c.before.before.before.before.first.ensures
 
-pub first-on-spec : {M : Type 1} → statement M
-first-on-spec =
+pub first_on_spec : {M : Type 1} → statement M
+first_on_spec =
     tie.close
     (tie.spec
     prepare-requires

@@ -48,8 +48,8 @@ returns-2 c =
     let k = o.passes _ _ c.before.before.before.before.before.before.before.opened.given.1 in
     rw k.is c.before.before.first_on.ensures
 
-pub first-reading-spec : {M : Type 1} → statement M
-first-reading-spec =
+pub first_reading_spec : {M : Type 1} → statement M
+first_reading_spec =
     tie.close
     (tie.spec
     open-files-requires

@@ -36,8 +36,8 @@ same-length-3 c = search rules
 returns-3 : tie.Need-returns-3
 returns-3 c = rw c.enum-told3.given.1 at c.before.before.before.before.next.ensures
 
-pub next-on-spec : {M : Type 1} → statement M
-next-on-spec =
+pub next_on_spec : {M : Type 1} → statement M
+next_on_spec =
     tie.close
     (tie.spec
     prepare-requires

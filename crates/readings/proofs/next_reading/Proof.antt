@@ -48,8 +48,8 @@ returns-2 c =
     let k = o.passes _ _ c.before.before.before.before.before.before.before.opened.given.1 in
     rw k.is c.before.before.next-on.ensures
 
-pub next-reading-spec : {M : Type 1} → statement M
-next-reading-spec =
+pub next_reading_spec : {M : Type 1} → statement M
+next_reading_spec =
     tie.close
     (tie.spec
     open-files-requires

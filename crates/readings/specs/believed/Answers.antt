@@ -1,18 +1,18 @@
 -- What first reading and next reading answer, and what a list of their calls is about.
 -- Clauses: 7.4, 7.5, 8.5 (docs/SPECIFICATION.md)
 use Rattle.std.specs.Prelude.{ℕ, List}
-use Rattle.listing_model.specs.believed.Listing.{written, no-reading, no-further, Subject, due, overEntries}
+use Rattle.listing_model.specs.believed.Listing.{written, no_reading, no-further, Subject, due, over_entries}
 use Rattle.listing_model.specs.believed.Listing as model
-use Rattle.service.specs.believed.Opened.{filesIn, opened, served}
+use Rattle.service.specs.believed.Opened.{files_in, opened, served}
 use Rattle.readings.specs.declared.Answer.{Answer}
 
 -- each case of the enum: a reading written, "none", "no further", or the number
 abbrev pub said : Answer → model.Answer
 said Answer.Written = written
-said Answer.NoReading = no-reading
+said Answer.NoReading = no_reading
 said Answer.NoFurther = no-further
 said (Answer.Refused k) = model.refused k
 
 -- from the bytes of both files and the length of the buffer; a reading is n + 1 bytes
 abbrev pub subject : List ℕ → List ℕ → ℕ → Subject
-subject grammar history size = served due overEntries (opened 1 size (filesIn grammar history))
+subject grammar history size = served due over_entries (opened 1 size (files_in grammar history))

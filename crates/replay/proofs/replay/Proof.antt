@@ -1,7 +1,7 @@
 -- `replay::replay` meets its contract.
 use borrow.Author.Rules.{rules}
 use mathlib.Core.Path.{sym, ◌∙◌}
-use Rattle.replay.proofs.Replaying.{none-derives}
+use Rattle.replay.proofs.Replaying.{none_derives}
 use Rattle.replay.proofs.replay.Statement.{statement}
 use Rattle.replay.proofs.replay.Tie as tie
 
@@ -20,7 +20,7 @@ returns c = c.replay-on.ensures
 returns-2 : tie.Need-returns-2
 returns-2 c =
     let s = c.before.before.before.before in
-    none-derives _ _ _ _ _ s.requires.0 (sym (c.before.derives-all.ensures _ s.args.tokens.now s.requires.0.leveled) ∙ c.if1.false) _
+    none_derives _ _ _ _ _ s.requires.0 (sym (c.before.derives-all.ensures _ s.args.tokens.now s.requires.0.leveled) ∙ c.if1.false) _
 
-pub replay-spec : {M : Type 1} → statement M
-replay-spec = tie.close (tie.spec derives-all-requires replay-on-requires returns returns-2)
+pub replay_spec : {M : Type 1} → statement M
+replay_spec = tie.close (tie.spec derives-all-requires replay-on-requires returns returns-2)

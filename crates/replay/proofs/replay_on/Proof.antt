@@ -3,10 +3,10 @@ use borrow.Author.Rules.{rules}
 use Prim.Native.Nat.{suc, ◌-◌}
 use mathlib.Core.Path.{sym, ◌∙◌}
 use native.Mathlib.Omega.{arith}
-use Rattle.tables.specs.Table.{ruleIn}
+use Rattle.tables.specs.Table.{rule_in}
 use lib.ListN.{length, take}
-use Rattle.levels.proofs.Setting.{close-room}
-use Rattle.replay.proofs.Replaying.{Replaying, replaying-start, replaying-refused, rule-below, replaying-next, replaying-last}
+use Rattle.levels.proofs.Setting.{close_room}
+use Rattle.replay.proofs.Replaying.{Replaying, replaying_start, replaying_refused, rule_below, replaying_next, replaying_last}
 use Rattle.replay.proofs.replay_on.Statement.{statement}
 use Rattle.replay.proofs.replay_on.Tie as tie
 
@@ -23,7 +23,7 @@ loop-holds : tie.Need-loop-init invariant-loop decreases-loop
 loop-holds c =
     let s = c.before.before in
     let a = s.args in
-    replaying-start s.requires.0 a.reading.now s.requires.1.0 s.requires.1.1
+    replaying_start s.requires.0 a.reading.now s.requires.1.0 s.requires.1.1
 
 shared-slice-read-r : tie.Need-shared-slice-read-r invariant-loop decreases-loop
 shared-slice-read-r c = search rules
@@ -60,7 +60,7 @@ six-in-requires c κs =
     let l = c.before.before.before.before.before in
     let s = l.before.before.before in
     let a = s.args in
-    omega (arith, s.requires.0.indexed.ready.few, rule-below s.requires.0 a.reading.now s.requires.1.0 s.requires.1.1 l.loop.invariant c.before.before.context-at.result (c.before.before.context-at.ensures a.head.well) (sym c.before.stands.ensures ∙ c.if1.true))
+    omega (arith, s.requires.0.indexed.ready.few, rule_below s.requires.0 a.reading.now s.requires.1.0 s.requires.1.1 l.loop.invariant c.before.before.context-at.result (c.before.before.context-at.ensures a.head.well) (sym c.before.stands.ensures ∙ c.if1.true))
 
 close-at-requires : tie.Need-close-at-requires invariant-loop decreases-loop
 close-at-requires c κs =
@@ -103,7 +103,7 @@ store-later-requires : tie.Need-store-later-requires invariant-loop decreases-lo
 store-later-requires c κs =
     let l = c.before.before.before.before.before.before.before.before.before in
     let s = l.before.before.before in
-    (l.loop.invariant.room-behind, rw c.before.before.close_at.ensures (close-room s.requires.0 l.loop.p (omega arith)))
+    (l.loop.invariant.room_behind, rw c.before.before.close_at.ensures (close_room s.requires.0 l.loop.p (omega arith)))
 
 add-p : tie.Need-overflow-add-p invariant-loop decreases-loop
 add-p c = omega (arith, c.before.before.before.before.before.before.before.before.before.loop-test.true, c.before.before.before.before.before.before.before.before.before.before.before.before.before.requires.0.tokens.few)
@@ -112,21 +112,21 @@ loop-less : tie.Need-loop-smaller invariant-loop decreases-loop
 loop-less c = search rules
 
 loop-again : tie.Need-loop-preserved invariant-loop decreases-loop
-unfolding ruleIn
+unfolding rule_in
 loop-again c =
     let l = c.before.before.before.before.before.before.before.before.before.before in
     let s = l.before.before.before in
     let a = s.args in
     let context = c.before.before.before.before.before.before.before.context-at in
     rw (c.store-later.ensures, c.before.before.inner_of.ensures, c.before.before.before.close_at.ensures, c.before.before.before.before.six-in.ensures)
-    (replaying-next s.requires.0 a.reading.now s.requires.1.0 s.requires.1.1 l.loop.invariant context.result (context.ensures a.head.well) (sym c.before.before.before.before.before.before.stands.ensures ∙ c.before.before.before.before.before.if1.true) c.before.before.before.before.before.before.before.before.before.loop-test.true)
+    (replaying_next s.requires.0 a.reading.now s.requires.1.0 s.requires.1.1 l.loop.invariant context.result (context.ensures a.head.well) (sym c.before.before.before.before.before.before.stands.ensures ∙ c.before.before.before.before.before.if1.true) c.before.before.before.before.before.before.before.before.before.loop-test.true)
 
 returns : tie.Need-returns invariant-loop decreases-loop
 returns c =
     let l = c.before.before.before.before.before in
     let s = l.before.before.before in
     let a = s.args in
-    replaying-refused s.requires.0 a.reading.now s.requires.1.0 s.requires.1.1 l.loop.invariant c.before.before.context-at.result (c.before.before.context-at.ensures a.head.well) (sym c.before.stands.ensures ∙ c.if1.false)
+    replaying_refused s.requires.0 a.reading.now s.requires.1.0 s.requires.1.1 l.loop.invariant c.before.before.context-at.result (c.before.before.context-at.ensures a.head.well) (sym c.before.stands.ensures ∙ c.if1.false)
 
 context-at-requires-2 : tie.Need-context-at-requires-2 invariant-loop decreases-loop
 context-at-requires-2 c κs =
@@ -163,10 +163,10 @@ returns-2 c =
     let l = c.before.before.before.before in
     let s = l.before.before.before in
     let a = s.args in
-    replaying-last s.requires.0 a.reading.now s.requires.1.0 s.requires.1.1 l.loop.invariant c.before.before.context-at2.result (c.before.before.context-at2.ensures a.head.well) c.stands2.result c.stands2.ensures (omega arith)
+    replaying_last s.requires.0 a.reading.now s.requires.1.0 s.requires.1.1 l.loop.invariant c.before.before.context-at2.result (c.before.before.context-at2.ensures a.head.well) c.stands2.result c.stands2.ensures (omega arith)
 
-pub replay-on-spec : {M : Type 1} → statement M
-replay-on-spec =
+pub replay_on_spec : {M : Type 1} → statement M
+replay_on_spec =
     tie.close
     (tie.spec
     invariant-loop

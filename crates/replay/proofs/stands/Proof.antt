@@ -13,5 +13,5 @@ returns c = simp (lt-ltb _ _ c.before.if1.true, c.fits2.ensures)
 returns-2 : tie.Need-returns-2
 returns-2 c = simp (le-ltb _ _ c.if1.false)
 
-pub stands-spec : {M : Type 1} → statement M
-stands-spec = tie.close (tie.spec fits-requires returns returns-2)
+pub stands_spec : {M : Type 1} → statement M
+stands_spec = tie.close (tie.spec fits-requires returns returns-2)

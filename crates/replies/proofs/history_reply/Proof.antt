@@ -1,7 +1,7 @@
 -- `replies::history_reply` meets its contract.
 use mathlib.Core.Path.{sym, ap}
-use Rattle.files.specs.believed.Checks.{historySaid}
-use Rattle.replies.specs.believed.Wire.{historyWire}
+use Rattle.files.specs.believed.Checks.{history_said}
+use Rattle.replies.specs.believed.Wire.{history_wire}
 use borrow.Author.Rules.{rules}
 use Rattle.replies.proofs.history_reply.Statement.{statement}
 use Rattle.replies.proofs.history_reply.Tie as tie
@@ -13,10 +13,10 @@ enum-known-check-2 : tie.Need-enum-known-check-2
 enum-known-check-2 c = search rules
 
 returns : tie.Need-returns
-returns c = ap historyWire (ap historySaid (sym c.before.check.given.1))
+returns c = ap history_wire (ap history_said (sym c.before.check.given.1))
 
 returns-2 : tie.Need-returns-2
-returns-2 c = ap historyWire (ap historySaid (sym c.before.check2.given.1))
+returns-2 c = ap history_wire (ap history_said (sym c.before.check2.given.1))
 
-pub history-reply-spec : {M : Type 1} → statement M
-history-reply-spec = tie.close (tie.spec enum-known-check enum-known-check-2 returns returns-2)
+pub history_reply_spec : {M : Type 1} → statement M
+history_reply_spec = tie.close (tie.spec enum-known-check enum-known-check-2 returns returns-2)

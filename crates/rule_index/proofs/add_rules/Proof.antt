@@ -4,11 +4,11 @@ use native.Mathlib.Omega.{arith}
 use mathlib.Core.Path.{◌≡◌, refl, ◌∙◌}
 use borrow.Author.Rules.{rules}
 use Rattle.vpg.specs.believed.Grammar.{left}
-use Rattle.tables.specs.Table.{ruleIn}
+use Rattle.tables.specs.Table.{rule_in}
 use Rattle.rule_index.specs.Building.{SameRules, IndexedFrom}
-use Rattle.rule_index.proofs.Classes.{rule-class-small}
-use Rattle.rule_index.proofs.Building.{linked-same, index-linked}
-use Rattle.rule_index.proofs.Kept.{same_self, same-on, ready-kept}
+use Rattle.rule_index.proofs.Classes.{rule_class_small}
+use Rattle.rule_index.proofs.Building.{linked-same, index_linked}
+use Rattle.rule_index.proofs.Kept.{same_self, same_on, ready_kept}
 use Rattle.rule_index.proofs.add_rules.Statement.{statement}
 use Rattle.rule_index.proofs.add_rules.Tie as tie
 
@@ -27,8 +27,8 @@ sub-add-rule c = search rules
 add-rule-requires : tie.Need-add-rule-requires invariant-loop decreases-loop
 add-rule-requires c κs =
     let l = c.before.before in
-    let k = ready-kept _ _ l.loop.invariant.1 _ l.before.requires.1 in
-    let small : (r : ℕ) → r < l.before.args.head.rules → left (ruleIn l.loop.table r) < 32 = λ r h. (k.small r h).0 in
+    let k = ready_kept _ _ l.loop.invariant.1 _ l.before.requires.1 in
+    let small : (r : ℕ) → r < l.before.args.head.rules → left (rule_in l.loop.table r) < 32 = λ r h. (k.small r h).0 in
     (omega (arith, k.few), small _ (omega arith))
 
 sub-due : tie.Need-overflow-sub-due invariant-loop decreases-loop
@@ -42,12 +42,12 @@ loop-again c =
     let l = c.before.before.before in
     let t = l.loop.table in
     let r = l.loop.due - 1 in
-    let k = ready-kept _ t l.loop.invariant.1 _ l.before.requires.1 in
+    let k = ready_kept _ t l.loop.invariant.1 _ l.before.requires.1 in
     let e : r + 1 ≡ l.loop.due = omega arith in (
       omega arith,
-      rw c.add-rule.ensures (same-on l.loop.invariant.1 (linked-same t _ _)),
+      rw c.add-rule.ensures (same_on l.loop.invariant.1 (linked-same t _ _)),
       rw c.add-rule.ensures
-          (index-linked t _ r _ (l.loop.invariant.1.size ∙ l.before.requires.0) k.few (omega arith) refl (rule-class-small (ruleIn t r) (k.small r (omega arith)).0) (rw e l.loop.invariant.2)),
+          (index_linked t _ r _ (l.loop.invariant.1.size ∙ l.before.requires.0) k.few (omega arith) refl (rule_class_small (rule_in t r) (k.small r (omega arith)).0) (rw e l.loop.invariant.2)),
     )
 
 returns : tie.Need-returns invariant-loop decreases-loop
@@ -56,8 +56,8 @@ returns c =
     let e : l.loop.due ≡ 0 = omega arith in
     (l.loop.invariant.1, rw e at l.loop.invariant.2)
 
-pub add-rules-spec : {M : Type 1} → statement M
-add-rules-spec =
+pub add_rules_spec : {M : Type 1} → statement M
+add_rules_spec =
     tie.close
     (tie.spec
     invariant-loop

@@ -24,7 +24,7 @@ returns-2 c = search rules
 returns-3 : tie.Need-returns-3
 returns-3 c = simp (c.goal-of.ensures, c.before.before.rule.given.1)
 
-pub after-goal-spec : {M : Type 1} → statement M
-after-goal-spec =
+pub after_goal_spec : {M : Type 1} → statement M
+after_goal_spec =
     tie.close
     (tie.spec enum_told enum-told-2 enum-known-rule goal-of-requires returns returns-2 returns-3)

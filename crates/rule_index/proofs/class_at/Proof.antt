@@ -45,8 +45,8 @@ returns-2 c = simp (c.spread-of2.ensures.0, c.before.before.token2.given.1)
 returns-3 : tie.Need-returns-3
 returns-3 c = simp (c.spread-of3.ensures.0, c.before.before.token3.given.1)
 
-pub class-at-spec : {M : Type 1} → statement M
-class-at-spec =
+pub class_at_spec : {M : Type 1} → statement M
+class_at_spec =
     tie.close
     (tie.spec
     enum-known-token

@@ -28,8 +28,8 @@ add-result-2 c = search rules
 returns-2 : tie.Need-returns-2
 returns-2 c = simp (c.spread-of2.ensures.0, lt-leb _ _ c.before.if1.false)
 
-pub class-by-spec : {M : Type 1} → statement M
-class-by-spec =
+pub class_by_spec : {M : Type 1} → statement M
+class_by_spec =
     tie.close
     (tie.spec
     spread-of-requires

@@ -42,8 +42,8 @@ returns-2 c = search rules
 returns-3 : tie.Need-returns-3
 returns-3 c = simp (c.spread-of.ensures.0, c.before.before.rule3.given.1)
 
-pub class-of-spec : {M : Type 1} → statement M
-class-of-spec =
+pub class_of_spec : {M : Type 1} → statement M
+class_of_spec =
     tie.close
     (tie.spec
     enum-known-rule

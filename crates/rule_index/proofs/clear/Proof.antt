@@ -5,8 +5,8 @@ use mathlib.Core.Path.{◌≡◌}
 use borrow.Author.Rules.{rules}
 use lib.ListN.{length, get_or}
 use Rattle.rule_index.specs.Building.{SameRules}
-use Rattle.rule_index.proofs.Building.{filled, index-none}
-use Rattle.rule_index.proofs.Kept.{same_self, same-on, set-behind}
+use Rattle.rule_index.proofs.Building.{filled, index_none}
+use Rattle.rule_index.proofs.Kept.{same_self, same_on, set-behind}
 use Rattle.rule_index.proofs.clear.Statement.{statement}
 use Rattle.rule_index.proofs.clear.Tie as tie
 
@@ -40,10 +40,10 @@ loop-again c =
     let a = l.before.args in
     let t = l.loop.table in
     let room : l.loop.i < length t = omega (arith, l.loop.invariant.2.size, l.before.requires.0) in
-    (omega arith, omega arith, same-on l.loop.invariant.2 (set-behind t l.loop.i a.rules (omega arith)), filled t l.loop.i a.rules room l.loop.invariant.3)
+    (omega arith, omega arith, same_on l.loop.invariant.2 (set-behind t l.loop.i a.rules (omega arith)), filled t l.loop.i a.rules room l.loop.invariant.3)
 
 returns : tie.Need-returns invariant-loop decreases-loop
-returns c = let l = c.before in (l.loop.invariant.2, index-none l.loop.table _ (λ i h m. l.loop.invariant.3 i h (omega arith)))
+returns c = let l = c.before in (l.loop.invariant.2, index_none l.loop.table _ (λ i h m. l.loop.invariant.3 i h (omega arith)))
 
 pub clear_spec : {M : Type 1} → statement M
 clear_spec =

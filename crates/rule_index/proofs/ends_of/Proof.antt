@@ -38,8 +38,8 @@ returns c =
     let e : l.loop.nonterminal ≡ l.before.args.n = omega arith in
     rw e at l.loop.invariant.1
 
-pub ends-of-spec : {M : Type 1} → statement M
-ends-of-spec =
+pub ends_of_spec : {M : Type 1} → statement M
+ends_of_spec =
     tie.close
     (tie.spec
     invariant-loop

@@ -13,5 +13,5 @@ add-result c = search rules
 returns-2 : tie.Need-returns-2
 returns-2 c = rw c.if1.false refl
 
-pub goal-of-spec : {M : Type 1} → statement M
-goal-of-spec = tie.close (tie.spec returns add-result returns-2)
+pub goal_of_spec : {M : Type 1} → statement M
+goal_of_spec = tie.close (tie.spec returns add-result returns-2)

@@ -24,8 +24,8 @@ returns-2 c = simp (c.goal-of.ensures, c.before.before.rule.given.1)
 returns-3 : tie.Need-returns-3
 returns-3 c = simp c.before.rule2.given.1
 
-pub inside-goal-spec : {M : Type 1} → statement M
-inside-goal-spec =
+pub inside_goal_spec : {M : Type 1} → statement M
+inside_goal_spec =
     tie.close
     (tie.spec
     enum_told

@@ -33,8 +33,8 @@ element-write-table-2 c = search rules
 returns : tie.Need-returns
 returns c = simp (c.after-goal.ensures, c.before.inside-goal.ensures, c.before.before.rule-of.ensures)
 
-pub put-goals-spec : {M : Type 1} → statement M
-put-goals-spec =
+pub put_goals_spec : {M : Type 1} → statement M
+put_goals_spec =
     tie.close
     (tie.spec
     rule-of-requires

@@ -18,5 +18,5 @@ add-result-2 c = search rules
 returns : tie.Need-returns
 returns c = rw c.number.ensures (refl, mod-lt _ {m = 64} (omega arith))
 
-pub spread-of-spec : {M : Type 1} → statement M
-spread-of-spec = tie.close (tie.spec number-requires add-result add-result-2 returns)
+pub spread_of_spec : {M : Type 1} → statement M
+spread_of_spec = tie.close (tie.spec number-requires add-result add-result-2 returns)

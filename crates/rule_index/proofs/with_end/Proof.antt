@@ -20,5 +20,5 @@ returns c =
 returns-2 : tie.Need-returns-2
 returns-2 c = let h = rw c.before.end_of_lem.ensures at c.if1.false in rw (le-ltb _ _ h)
 
-pub with-end-spec : {M : Type 1} → statement M
-with-end-spec = tie.close (tie.spec end-of-requires with-requires returns returns-2)
+pub with_end_spec : {M : Type 1} → statement M
+with_end_spec = tie.close (tie.spec end-of-requires with-requires returns returns-2)

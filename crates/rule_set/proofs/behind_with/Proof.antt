@@ -28,8 +28,8 @@ returns-2 c = search rules
 returns-3 : tie.Need-returns-3
 returns-3 c = simp (c.with.ensures, c.before.before.rule.given.1)
 
-pub behind-with-spec : {M : Type 1} → statement M
-behind-with-spec =
+pub behind_with_spec : {M : Type 1} → statement M
+behind_with_spec =
     tie.close
     (tie.spec
     enum_told

@@ -3,9 +3,9 @@ use borrow.Author.Rules.{rules}
 use mathlib.Core.Path.{refl, sym, ap, ◌∙◌}
 use Rattle.rule_index.specs.Classes.{class_at}
 use Rattle.rule_index.proofs.Walk.{starts}
-use Rattle.contexts.specs.Context.{tokenHere}
-use Rattle.rule_set.specs.Ends.{endWays}
-use Rattle.rule_set.proofs.Ends.{ways-ends, all_among, only_end, low-among, only-close}
+use Rattle.contexts.specs.Context.{token_here}
+use Rattle.rule_set.specs.Ends.{end_ways}
+use Rattle.rule_set.proofs.Ends.{ways_ends, all_among, only_end, low_among, only_close}
 use Rattle.rule_set.proofs.close_set.Statement.{statement}
 use Rattle.rule_set.proofs.close_set.Tie as tie
 
@@ -27,7 +27,7 @@ low-ends-requires c κs = search rules
 ends-words-requires : tie.Need-ends-words-requires
 ends-words-requires c κs =
     let s = c.before.before.before.before.before.before in
-    ((s.requires.0.0, rw c.before.low-ends.ensures (low-among s.requires.0.0 s.args.context)), s.requires.1)
+    ((s.requires.0.0, rw c.before.low-ends.ensures (low_among s.requires.0.0 s.args.context)), s.requires.1)
 
 ends-ways-requires : tie.Need-ends-ways-requires
 ends-ways-requires c κs = search rules
@@ -41,12 +41,12 @@ returns-2 c =
     let x = s.requires.0.0 in
     let p = s.args.context in
     let e = c.before.before.before.before.before.low-ends.ensures in
-    let f = starts x (tokenHere p) (class_at (tokenHere p)) c.before.before.before.before.before.before.before.before.first-here.result refl c.before.before.before.before.before.before.before.before.first-here.ensures in
-    let o = only-close x p s.requires.0.2 s.requires.0.1 f c.before.before.before.before.before.before.if1.false in
-    (c.ends-ways.ensures ∙ ap (endWays s.args.here) e ∙ sym (ways-ends x p (low-among x p) o s.args.here), c.before.before.before.ends_words.ensures p (rw e o))
+    let f = starts x (token_here p) (class_at (token_here p)) c.before.before.before.before.before.before.before.before.first-here.result refl c.before.before.before.before.before.before.before.before.first-here.ensures in
+    let o = only_close x p s.requires.0.2 s.requires.0.1 f c.before.before.before.before.before.before.if1.false in
+    (c.ends-ways.ensures ∙ ap (end_ways s.args.here) e ∙ sym (ways_ends x p (low_among x p) o s.args.here), c.before.before.before.ends_words.ensures p (rw e o))
 
-pub close-set-spec : {M : Type 1} → statement M
-close-set-spec =
+pub close_set_spec : {M : Type 1} → statement M
+close_set_spec =
     tie.close
     (tie.spec
     first-here-requires

@@ -3,9 +3,9 @@ use borrow.Author.Rules.{rules}
 use mathlib.Core.Path.{refl, sym, ap, ◌∙◌}
 use Rattle.rule_index.specs.Classes.{class_at}
 use Rattle.rule_index.proofs.Walk.{starts}
-use Rattle.contexts.specs.Context.{tokenHere}
-use Rattle.rule_set.specs.Ends.{endWays}
-use Rattle.rule_set.proofs.Ends.{ways-ends, all_among, only_end, low-among, only-close}
+use Rattle.contexts.specs.Context.{token_here}
+use Rattle.rule_set.specs.Ends.{end_ways}
+use Rattle.rule_set.proofs.Ends.{ways_ends, all_among, only_end, low_among, only_close}
 use Rattle.rule_set.proofs.close_ways.Statement.{statement}
 use Rattle.rule_set.proofs.close_ways.Tie as tie
 
@@ -29,12 +29,12 @@ returns-2 c =
     let s = c.before.before.before.before.before in
     let x = s.requires.0 in
     let p = s.args.context in
-    let f = starts x (tokenHere p) (class_at (tokenHere p)) c.before.before.before.before.first-here.result refl c.before.before.before.before.first-here.ensures in
-    let o = only-close x p s.requires.2 s.requires.1 f c.before.before.if1.false in
-    c.ends-ways.ensures ∙ ap (endWays s.args.here) c.before.low-ends.ensures ∙ sym (ways-ends x p (low-among x p) o s.args.here)
+    let f = starts x (token_here p) (class_at (token_here p)) c.before.before.before.before.first-here.result refl c.before.before.before.before.first-here.ensures in
+    let o = only_close x p s.requires.2 s.requires.1 f c.before.before.if1.false in
+    c.ends-ways.ensures ∙ ap (end_ways s.args.here) c.before.low-ends.ensures ∙ sym (ways_ends x p (low_among x p) o s.args.here)
 
-pub close-ways-spec : {M : Type 1} → statement M
-close-ways-spec =
+pub close_ways_spec : {M : Type 1} → statement M
+close_ways_spec =
     tie.close
     (tie.spec
     first-here-requires

@@ -11,5 +11,5 @@ cast-t4 c = omega (arith, and_le_l c.args.here c.args.ends)
 returns : tie.Need-returns
 returns c = search rules
 
-pub ends-ways-spec : {M : Type 1} → statement M
-ends-ways-spec = tie.close (tie.spec cast-t4 returns)
+pub ends_ways_spec : {M : Type 1} → statement M
+ends_ways_spec = tie.close (tie.spec cast-t4 returns)

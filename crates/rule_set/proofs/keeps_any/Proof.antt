@@ -17,5 +17,5 @@ returns c = rw (sym c.before.before.left_here.ensures ∙ c.before.if1.true, c.a
 returns-2 : tie.Need-returns-2
 returns-2 c = rw (sym c.before.left_here.ensures ∙ c.if1.false)
 
-pub keeps-any-spec : {M : Type 1} → statement M
-keeps-any-spec = tie.close (tie.spec left-here-requires applies-requires returns returns-2)
+pub keeps_any_spec : {M : Type 1} → statement M
+keeps_any_spec = tie.close (tie.spec left-here-requires applies-requires returns returns-2)

@@ -15,5 +15,5 @@ has-requires c κs = rw c.left_in.ensures c.before.requires.1.0
 returns : tie.Need-returns
 returns c = rw (c.has.ensures, c.before.left_in.ensures)
 
-pub left-here-spec : {M : Type 1} → statement M
-left-here-spec = tie.close (tie.spec left-in-requires cast-has has-requires returns)
+pub left_here_spec : {M : Type 1} → statement M
+left_here_spec = tie.close (tie.spec left-in-requires cast-has has-requires returns)

@@ -34,8 +34,8 @@ returns-2 c = simp (c.with.ensures, c.before.before.rule.given.1)
 returns-3 : tie.Need-returns-3
 returns-3 c = simp (c.with2.ensures, c.before.before.rule2.given.1)
 
-pub next-with-spec : {M : Type 1} → statement M
-next-with-spec =
+pub next_with_spec : {M : Type 1} → statement M
+next_with_spec =
     tie.close
     (tie.spec
     enum_told

@@ -1,8 +1,8 @@
 -- `set_at` meets its contract.
 use borrow.Author.Rules.{rules}
 use mathlib.Core.Path.{refl, sym, ap, ◌∙◌}
-use Rattle.rule_set.specs.Ends.{endWays}
-use Rattle.rule_set.proofs.Ends.{ways-ends, all_among, only_end, low-among, only-close}
+use Rattle.rule_set.specs.Ends.{end_ways}
+use Rattle.rule_set.proofs.Ends.{ways_ends, all_among, only_end, low_among, only_close}
 use Rattle.rule_set.proofs.set_at.Statement.{statement}
 use Rattle.rule_set.proofs.set_at.Tie as tie
 
@@ -27,7 +27,7 @@ returns c =
     let p = s.args.context in
     let e = c.before.before.before.before.before.ends.ensures in
     let o = only_end x p c.before.before.before.before.before.before.if1.true in
-    (c.ends-ways.ensures ∙ ap (endWays s.args.here) e ∙ sym (ways-ends x p (all_among x p) o s.args.here), c.before.before.before.ends_words.ensures p (rw e o))
+    (c.ends-ways.ensures ∙ ap (end_ways s.args.here) e ∙ sym (ways_ends x p (all_among x p) o s.args.here), c.before.before.before.ends_words.ensures p (rw e o))
 
 close-set-requires : tie.Need-close-set-requires
 close-set-requires c κs =
@@ -51,8 +51,8 @@ same-length-3 c = search rules
 returns-3 : tie.Need-returns-3
 returns-3 c = search rules
 
-pub set-at-spec : {M : Type 1} → statement M
-set-at-spec =
+pub set_at_spec : {M : Type 1} → statement M
+set_at_spec =
     tie.close
     (tie.spec
     ends-requires

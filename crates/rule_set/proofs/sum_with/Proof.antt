@@ -16,5 +16,5 @@ add-result c = omega (arith, c.before.requires.1)
 returns : tie.Need-returns
 returns c = rw c.with.ensures
 
-pub sum-with-spec : {M : Type 1} → statement M
-sum-with-spec = tie.close (tie.spec with-requires cast-result add-result returns)
+pub sum_with_spec : {M : Type 1} → statement M
+sum_with_spec = tie.close (tie.spec with-requires cast-result add-result returns)

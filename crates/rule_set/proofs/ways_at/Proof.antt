@@ -1,8 +1,8 @@
 -- `ways_at` meets its contract.
 use borrow.Author.Rules.{rules}
 use mathlib.Core.Path.{refl, sym, ap, ◌∙◌}
-use Rattle.rule_set.specs.Ends.{endWays}
-use Rattle.rule_set.proofs.Ends.{ways-ends, all_among, only_end, low-among, only-close}
+use Rattle.rule_set.specs.Ends.{end_ways}
+use Rattle.rule_set.proofs.Ends.{ways_ends, all_among, only_end, low_among, only_close}
 use Rattle.rule_set.proofs.ways_at.Statement.{statement}
 use Rattle.rule_set.proofs.ways_at.Tie as tie
 
@@ -17,7 +17,7 @@ returns c =
     let s = c.before.before.before.before in
     let x = s.requires in
     let p = s.args.context in
-    c.ends-ways.ensures ∙ ap (endWays s.args.here) c.before.ends.ensures ∙ sym (ways-ends x p (all_among x p) (only_end x p c.before.before.if1.true) s.args.here)
+    c.ends-ways.ensures ∙ ap (end_ways s.args.here) c.before.ends.ensures ∙ sym (ways_ends x p (all_among x p) (only_end x p c.before.before.if1.true) s.args.here)
 
 close-ways-requires : tie.Need-close-ways-requires
 close-ways-requires c κs =
@@ -33,8 +33,8 @@ class-ways-requires c κs = let s = c.before.before.before.before in (s.requires
 returns-3 : tie.Need-returns-3
 returns-3 c = search rules
 
-pub ways-at-spec : {M : Type 1} → statement M
-ways-at-spec =
+pub ways_at_spec : {M : Type 1} → statement M
+ways_at_spec =
     tie.close
     (tie.spec
     ends-requires

@@ -19,5 +19,5 @@ returns c = rw (sym c.before.before.keeps.ensures ∙ c.before.if1.true, c.ways-
 returns-2 : tie.Need-returns-2
 returns-2 c = rw (sym c.before.keeps.ensures ∙ c.if1.false)
 
-pub ways-turn-spec : {M : Type 1} → statement M
-ways-turn-spec = tie.close (tie.spec keeps-requires ways-with-requires returns returns-2)
+pub ways_turn_spec : {M : Type 1} → statement M
+ways_turn_spec = tie.close (tie.spec keeps-requires ways-with-requires returns returns-2)

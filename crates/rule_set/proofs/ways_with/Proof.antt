@@ -30,8 +30,8 @@ returns c =
     let rule = c.before.before.before.rule-of.ensures in
     simp (c.behind-with.ensures, c.before.next-with.ensures, c.before.before.sum-with.ensures, rule, left)
 
-pub ways-with-spec : {M : Type 1} → statement M
-ways-with-spec =
+pub ways_with_spec : {M : Type 1} → statement M
+ways_with_spec =
     tie.close
     (tie.spec
     left-in-requires

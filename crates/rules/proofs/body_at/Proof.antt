@@ -2,7 +2,7 @@
 use borrow.Author.Rules.{rules}
 use mathlib.Core.Path.{refl, ◌∙◌}
 use Rattle.rules.specs.believed.Rule.{body_at}
-use Rattle.rules.proofs.Pairs.{refusal-stands, first-form, other-form}
+use Rattle.rules.proofs.Pairs.{refusal_stands, first_form, other_form}
 use Rattle.rules.proofs.body_at.Statement.{statement}
 use Rattle.rules.proofs.body_at.Tie as tie
 
@@ -20,23 +20,23 @@ pair-refusal-requires c κs = search rules
 
 returns : tie.Need-returns
 unfolding body_at
-returns c = refusal-stands c.before.before.before.pair-at.ensures _ c.before.enum_told.given.1 c.pair-refusal.ensures
+returns c = refusal_stands c.before.before.before.pair-at.ensures _ c.before.enum_told.given.1 c.pair-refusal.ensures
 
 step-at-requires : tie.Need-step-at-requires
 step-at-requires c κs = search rules
 
 returns-2 : tie.Need-returns-2
 unfolding body_at
-returns-2 c = first-form c.before.before.before.before.pair-at.ensures c.before.before.read.given.1 _ _ _ refl c.if1.true
+returns-2 c = first_form c.before.before.before.before.pair-at.ensures c.before.before.read.given.1 _ _ _ refl c.if1.true
 
 returns-3 : tie.Need-returns-3
 unfolding body_at
 returns-3 c =
     c.step-at.ensures
-    ∙ other-form c.before.before.before.before.before.pair-at.ensures c.before.before.before.read.given.1 _ _ _ refl c.before.if1.false
+    ∙ other_form c.before.before.before.before.before.pair-at.ensures c.before.before.before.read.given.1 _ _ _ refl c.before.if1.false
 
-pub body-at-spec : {M : Type 1} → statement M
-body-at-spec =
+pub body_at_spec : {M : Type 1} → statement M
+body_at_spec =
     tie.close
     (tie.spec
     pair-at-requires

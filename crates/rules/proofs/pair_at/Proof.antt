@@ -56,8 +56,8 @@ returns-3 c =
       c.before.two.given.1,
     )
 
-pub pair-at-spec : {M : Type 1} → statement M
-pair-at-spec =
+pub pair_at_spec : {M : Type 1} → statement M
+pair_at_spec =
     tie.close
     (tie.spec
     field-at-requires

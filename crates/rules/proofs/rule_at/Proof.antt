@@ -1,8 +1,8 @@
 -- `rules::rule_at` meets its contract.
 use borrow.Author.Rules.{rules}
 use mathlib.Core.Path.{refl, ◌∙◌}
-use Rattle.rules.specs.believed.Rule.{ruleAt}
-use Rattle.rules.proofs.Pairs.{refusal-stands, first-form, other-form}
+use Rattle.rules.specs.believed.Rule.{rule_at}
+use Rattle.rules.proofs.Pairs.{refusal_stands, first_form, other_form}
 use Rattle.rules.proofs.rule_at.Statement.{statement}
 use Rattle.rules.proofs.rule_at.Tie as tie
 
@@ -19,24 +19,24 @@ pair-refusal-requires : tie.Need-pair-refusal-requires
 pair-refusal-requires c κs = search rules
 
 returns : tie.Need-returns
-unfolding ruleAt
-returns c = refusal-stands c.before.before.before.pair-at.ensures _ c.before.enum_told.given.1 c.pair-refusal.ensures
+unfolding rule_at
+returns c = refusal_stands c.before.before.before.pair-at.ensures _ c.before.enum_told.given.1 c.pair-refusal.ensures
 
 body-at-requires : tie.Need-body-at-requires
 body-at-requires c κs = search rules
 
 returns-2 : tie.Need-returns-2
-unfolding ruleAt
-returns-2 c = first-form c.before.before.before.before.pair-at.ensures c.before.before.read.given.1 _ _ _ refl c.if1.true
+unfolding rule_at
+returns-2 c = first_form c.before.before.before.before.pair-at.ensures c.before.before.read.given.1 _ _ _ refl c.if1.true
 
 returns-3 : tie.Need-returns-3
-unfolding ruleAt
+unfolding rule_at
 returns-3 c =
     c.body_at.ensures
-    ∙ other-form c.before.before.before.before.before.pair-at.ensures c.before.before.before.read.given.1 _ _ _ refl c.before.if1.false
+    ∙ other_form c.before.before.before.before.before.pair-at.ensures c.before.before.before.read.given.1 _ _ _ refl c.before.if1.false
 
-pub rule-at-spec : {M : Type 1} → statement M
-rule-at-spec =
+pub rule_at_spec : {M : Type 1} → statement M
+rule_at_spec =
     tie.close
     (tie.spec
     pair-at-requires

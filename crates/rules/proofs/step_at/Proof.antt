@@ -1,7 +1,7 @@
 -- `rules::step_at` meets its contract.
 use borrow.Author.Rules.{rules}
-use Rattle.rules.specs.believed.Rule.{stepAt}
-use Rattle.rules.proofs.Pairs.{refusal-stands, rest-follows}
+use Rattle.rules.specs.believed.Rule.{step_at}
+use Rattle.rules.proofs.Pairs.{refusal_stands, rest_follows}
 use Rattle.rules.proofs.step_at.Statement.{statement}
 use Rattle.rules.proofs.step_at.Tie as tie
 
@@ -18,14 +18,14 @@ pair-refusal-requires : tie.Need-pair-refusal-requires
 pair-refusal-requires c κs = search rules
 
 returns : tie.Need-returns
-unfolding stepAt
-returns c = refusal-stands c.before.before.before.pair-at.ensures _ c.before.enum_told.given.1 c.pair-refusal.ensures
+unfolding step_at
+returns c = refusal_stands c.before.before.before.pair-at.ensures _ c.before.enum_told.given.1 c.pair-refusal.ensures
 
 returns-2 : tie.Need-returns-2
-unfolding stepAt
-returns-2 c = rest-follows c.before.before.before.pair-at.ensures _ c.before.read.given.1
+unfolding step_at
+returns-2 c = rest_follows c.before.before.before.pair-at.ensures _ c.before.read.given.1
 
-pub step-at-spec : {M : Type 1} → statement M
-step-at-spec =
+pub step_at_spec : {M : Type 1} → statement M
+step_at_spec =
     tie.close
     (tie.spec pair-at-requires enum-known-read enum_told pair-refusal-requires returns returns-2)

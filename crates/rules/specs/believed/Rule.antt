@@ -40,8 +40,8 @@ after (Pair a b p) rest = rest a b p
 after (PairRefused e) rest = RuleRefused e
 
 -- L a L₁ is read: b L₂
-unfoldable pub stepAt : (ℕ → NumberRead) → ℕ → ℕ → ℕ → ℕ → ℕ → RuleRead
-stepAt number at nonterminals from name to =
+unfoldable pub step_at : (ℕ → NumberRead) → ℕ → ℕ → ℕ → ℕ → ℕ → RuleRead
+step_at number at nonterminals from name to =
     after (pair_at number at names 7 nonterminals) λ close last next.
     Read (Rule.Step from (record { 0 = name }) to (record { 0 = close }) last) next
 
@@ -49,10 +49,10 @@ stepAt number at nonterminals from name to =
 unfoldable pub body_at : (ℕ → NumberRead) → ℕ → ℕ → ℕ → ℕ → RuleRead
 body_at number at nonterminals form from =
     after (pair_at number at names 7 nonterminals) λ name to next.
-    cond (eqb form 1) (Read (Rule.Next from (Token.Mark (record { 0 = name })) to) next) (stepAt number next nonterminals from name to)
+    cond (eqb form 1) (Read (Rule.Next from (Token.Mark (record { 0 = name })) to) next) (step_at number next nonterminals from name to)
 
 -- "its form, then L; or L c L1; or L a L1 b L2": the form and L, then what the form asks for
-unfoldable pub ruleAt : (ℕ → NumberRead) → ℕ → ℕ → RuleRead
-ruleAt number at nonterminals =
+unfoldable pub rule_at : (ℕ → NumberRead) → ℕ → ℕ → RuleRead
+rule_at number at nonterminals =
     after (pair_at number at forms 5 nonterminals) λ form from next.
     cond (eqb form 0) (Read (Rule.Empty from) next) (body_at number next nonterminals form from)

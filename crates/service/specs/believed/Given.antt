@@ -12,9 +12,9 @@ abbrev pub written : Given Unit
 written = given tt
 
 -- each case of the enum
-abbrev pub outcomeSaid : Outcome → Given Unit
-outcomeSaid Outcome.Done = written
-outcomeSaid (Outcome.Refused k) = refused k
+abbrev pub outcome_said : Outcome → Given Unit
+outcome_said Outcome.Done = written
+outcome_said (Outcome.Refused k) = refused k
 
 -- "the answer is the number alone; lent memory keeps every element": what a service that writes gives where it is refused
 abbrev pub untouched : {A B : Type 0} → B → ℕ → Given A × B

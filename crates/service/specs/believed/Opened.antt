@@ -3,13 +3,13 @@
 use Rattle.std.specs.Prelude.{ℕ, ◌+◌, ◌*◌, cond, List, ltb, length}
 use Rattle.vpg.specs.declared.Token.{Token}
 use Rattle.vpg.specs.believed.Grammar.{Grammar}
-use Rattle.grammar_file.specs.believed.GrammarFile.{grammarOf}
-use Rattle.history_file.specs.believed.HistoryFile.{historyOf, tokensOf}
+use Rattle.grammar_file.specs.believed.GrammarFile.{grammar_of}
+use Rattle.history_file.specs.believed.HistoryFile.{history_of, tokens_of}
 use Rattle.files.specs.believed.Files.{Files, accepted, refused, files_of}
 
 -- what both files say
-abbrev pub filesIn : List ℕ → List ℕ → Files
-filesIn grammar history = files_of (grammarOf grammar) (historyOf history)
+abbrev pub files_in : List ℕ → List ℕ → Files
+files_in grammar history = files_of (grammar_of grammar) (history_of history)
 
 -- 15: "a lent buffer shorter than its service writes or reads, measured as if a reading existed": `each` elements for each of the n + 1
 -- positions of n tokens; `size` is the buffer's length
@@ -20,4 +20,4 @@ opened each size (accepted g ts) = cond (ltb size (each * (length ts + 1))) (ref
 -- what a service gives: `refuse` at the number due, else `serve` at the grammar and the tokens
 abbrev pub served : {A : Type 0} → (ℕ → A) → (Grammar → List Token → A) → Files → A
 served refuse serve (refused e) = refuse e
-served refuse serve (accepted g ts) = serve g (tokensOf ts)
+served refuse serve (accepted g ts) = serve g (tokens_of ts)

@@ -1,7 +1,7 @@
 -- `sets::choice_count` meets its contract.
 use mathlib.Core.Path.{sym, ◌∙◌}
-use Rattle.service.specs.believed.Opened.{filesIn}
-use Rattle.service.proofs.Opens.{nothing-asked}
+use Rattle.service.specs.believed.Opened.{files_in}
+use Rattle.service.proofs.Opens.{nothing_asked}
 use borrow.Author.Rules.{rules}
 use Rattle.sets.proofs.choice_count.Statement.{statement}
 use Rattle.sets.proofs.choice_count.Tie as tie
@@ -23,7 +23,7 @@ returns c =
     let o = c.before.before.before.open-files.ensures in
     let q = c.before.enum_told.given.1 in
     let a = c.before.before.before.before.before.before.before.before.args in
-    rw (c.refusal-of.ensures, q, sym (nothing-asked (filesIn a.grammar.now a.history.now)) ∙ o.refuses _ q)
+    rw (c.refusal-of.ensures, q, sym (nothing_asked (files_in a.grammar.now a.history.now)) ∙ o.refuses _ q)
 
 array-share-prefix-tokens : tie.Need-array-share-prefix-tokens
 array-share-prefix-tokens c =
@@ -46,10 +46,10 @@ returns-2 c =
     let o = c.before.before.before.before.before.before.open-files.ensures in
     let k = o.passes _ _ c.before.before.before.before.opened.given.1 in
     let a = c.before.before.before.before.before.before.before.before.before.before.before.args in
-    rw (sym (nothing-asked (filesIn a.grammar.now a.history.now)) ∙ k.is, c.choices-on.ensures)
+    rw (sym (nothing_asked (files_in a.grammar.now a.history.now)) ∙ k.is, c.choices-on.ensures)
 
-pub choice-count-spec : {M : Type 1} → statement M
-choice-count-spec =
+pub choice_count_spec : {M : Type 1} → statement M
+choice_count_spec =
     tie.close
     (tie.spec
     open-files-requires

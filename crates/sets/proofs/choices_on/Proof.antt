@@ -12,5 +12,5 @@ choices-requires c κs = c.before.before.prepare.ensures
 returns : tie.Need-returns
 returns c = search rules
 
-pub choices-on-spec : {M : Type 1} → statement M
-choices-on-spec = tie.close (tie.spec prepare-requires choices-requires returns)
+pub choices_on_spec : {M : Type 1} → statement M
+choices_on_spec = tie.close (tie.spec prepare-requires choices-requires returns)

@@ -2,7 +2,7 @@
 use mathlib.Core.Path.{sym}
 use lib.ListN.{take, length-map}
 use native.Mathlib.Omega.{arith}
-use Rattle.history_file.specs.believed.HistoryFile.{tokenOf}
+use Rattle.history_file.specs.believed.HistoryFile.{token_of}
 use borrow.Author.Rules.{rules}
 use Rattle.sets.proofs.sets.Statement.{statement}
 use Rattle.sets.proofs.sets.Tie as tie
@@ -48,10 +48,10 @@ returns-2 : tie.Need-returns-2
 returns-2 c =
     let o = c.before.before.before.before.before.before.before.before.before.open-files.ensures in
     let k = o.passes _ _ c.before.before.before.before.before.before.before.opened.given.1 in
-    rw (k.is, length-map (take _ _) tokenOf, c.before.before.sets-on.ensures.0, c.before.before.sets-on.ensures.1)
+    rw (k.is, length-map (take _ _) token_of, c.before.before.sets-on.ensures.0, c.before.before.sets-on.ensures.1)
 
-pub sets-spec : {M : Type 1} → statement M
-sets-spec =
+pub sets_spec : {M : Type 1} → statement M
+sets_spec =
     tie.close
     (tie.spec
     open-files-requires

@@ -15,5 +15,5 @@ same_length c = search rules
 returns : tie.Need-returns
 returns c = search rules
 
-pub sets-on-spec : {M : Type 1} → statement M
-sets-on-spec = tie.close (tie.spec prepare-requires sets-requires same_length returns)
+pub sets_on_spec : {M : Type 1} → statement M
+sets_on_spec = tie.close (tie.spec prepare-requires sets-requires same_length returns)

@@ -4,16 +4,16 @@ use Prim.Native.Nat.{◌+◌, ◌-◌, ◌≤◌}
 use mathlib.Core.Path.{◌≡◌}
 use native.Mathlib.Omega.{arith}
 use lib.ListN.{length}
-use Rattle.tables.specs.Ready.{grammarIn}
-use Rattle.history_file.specs.believed.HistoryFile.{tokensOf}
-use Rattle.levels.proofs.Levels.{tokens-length}
-use Rattle.sets_core.proofs.Pass.{Going, going_start, onward-room, going_next, choice-here}
-use Rattle.sets_core.proofs.Counts.{Choices, choices-none, choices-most, choices-next, choices-all}
+use Rattle.tables.specs.Ready.{grammar_in}
+use Rattle.history_file.specs.believed.HistoryFile.{tokens_of}
+use Rattle.levels.proofs.Levels.{tokens_length}
+use Rattle.sets_core.proofs.Pass.{Going, going_start, onward_room, going_next, choice_here}
+use Rattle.sets_core.proofs.Counts.{Choices, choices-none, choices_most, choices-next, choices-all}
 use Rattle.sets_core.proofs.choices.Statement.{statement}
 use Rattle.sets_core.proofs.choices.Tie as tie
 
 abbrev invariant-loop : tie.invariant-loop
-invariant-loop table head tokens closes masks behind₀ derives here₀ total₀ p₀ behind here total p = Going table head tokens p here behind × Choices (grammarIn table head) (tokensOf tokens) p total
+invariant-loop table head tokens closes masks behind₀ derives here₀ total₀ p₀ behind here total p = Going table head tokens p here behind × Choices (grammar_in table head) (tokens_of tokens) p total
 
 abbrev decreases-loop : tie.decreases-loop
 decreases-loop table head tokens closes masks behind₀ derives here₀ total₀ p₀ behind here total p = length tokens + 1 - p
@@ -48,7 +48,7 @@ low-half-requires c κs = search rules
 counted-requires : tie.Need-counted-requires invariant-loop decreases-loop
 counted-requires c κs =
     let l = c.before.before.before.before.before in
-    omega (arith, l.before.before.before.before.requires.tokens.few, choices-most l.loop.invariant.1)
+    omega (arith, l.before.before.before.before.requires.tokens.few, choices_most l.loop.invariant.1)
 
 close-at-requires : tie.Need-close-at-requires invariant-loop decreases-loop
 close-at-requires c κs = let i = c.before.before.before.before.before.before in omega (arith, i.loop-test.true, i.before.before.before.before.before.requires.tokens.few)
@@ -56,7 +56,7 @@ close-at-requires c κs = let i = c.before.before.before.before.before.before in
 onward-requires : tie.Need-onward-requires invariant-loop decreases-loop
 onward-requires c κs =
     let i = c.before.before.before.before.before.before.before in
-    rw c.close_at.ensures (onward-room i.before.before.before.before.before.requires i.before.loop.invariant.0 (omega (arith, i.loop-test.true)))
+    rw c.close_at.ensures (onward_room i.before.before.before.before.before.requires i.before.loop.invariant.0 (omega (arith, i.loop-test.true)))
 
 add-p : tie.Need-overflow-add-p invariant-loop decreases-loop
 add-p c = let i = c.before.before.before.before.before.before.before.before in omega (arith, i.loop-test.true, i.before.before.before.before.before.requires.tokens.few)
@@ -75,7 +75,7 @@ loop-again c =
     let stands = context.ensures s.args.head.well in
     let ways = c.before.before.before.before.before.before.ways-at.ensures in (
       going_next x l.invariant.0 h context.result stands ways c.onward.ensures.0 (rw c.before.close_at.ensures at c.onward.ensures.1),
-      choices-next l.invariant.1 (choice-here x l.invariant.0 h context.result stands ways) (rw c.before.before.before.before.low_half_lem.ensures at c.before.before.before.counted.ensures),
+      choices-next l.invariant.1 (choice_here x l.invariant.0 h context.result stands ways) (rw c.before.before.before.before.low_half_lem.ensures at c.before.before.before.counted.ensures),
     )
 
 returns : tie.Need-returns invariant-loop decreases-loop
@@ -83,10 +83,10 @@ returns c =
     let l = c.before.loop in
     let tokens = c.before.before.before.before.before.args.tokens.now in
     let e : l.p ≡ length tokens + 1 = omega (arith, l.invariant.0.within, c.loop-test.false) in
-    choices-all l.invariant.1 (tokens-length tokens) e
+    choices-all l.invariant.1 (tokens_length tokens) e
 
-pub choices-spec : {M : Type 1} → statement M
-choices-spec =
+pub choices_spec : {M : Type 1} → statement M
+choices_spec =
     tie.close
     (tie.spec
     invariant-loop

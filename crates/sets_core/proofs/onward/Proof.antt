@@ -25,8 +25,8 @@ element-write-behind c = search rules
 returns : tie.Need-returns
 returns c = (refl, refl)
 
-pub onward-spec : {M : Type 1} → statement M
-onward-spec =
+pub onward_spec : {M : Type 1} → statement M
+onward_spec =
     tie.close
     (tie.spec
     mul_next

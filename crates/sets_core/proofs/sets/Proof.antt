@@ -6,11 +6,11 @@ use mathlib.Core.Path.{◌≡◌, ◌∙◌}
 use native.Mathlib.Omega.{arith}
 use borrow.Rule.Slice.PartMut.{mid_len}
 use lib.ListN.{length}
-use Rattle.tables.specs.Ready.{grammarIn}
-use Rattle.history_file.specs.believed.HistoryFile.{tokensOf}
-use Rattle.levels.proofs.Levels.{tokens-length}
-use Rattle.sets_core.proofs.Pass.{Going, going_start, onward-room, going_next, words-here, choice-here}
-use Rattle.sets_core.proofs.Counts.{Choices, choices-none, choices-most, choices-next, choices-all}
+use Rattle.tables.specs.Ready.{grammar_in}
+use Rattle.history_file.specs.believed.HistoryFile.{tokens_of}
+use Rattle.levels.proofs.Levels.{tokens_length}
+use Rattle.sets_core.proofs.Pass.{Going, going_start, onward_room, going_next, words_here, choice_here}
+use Rattle.sets_core.proofs.Counts.{Choices, choices-none, choices_most, choices-next, choices-all}
 use Rattle.sets_core.proofs.Written.{Written, written_none, written-length, written_next, written_all}
 use Rattle.sets_core.proofs.sets.Statement.{statement}
 use Rattle.sets_core.proofs.sets.Tie as tie
@@ -18,8 +18,8 @@ use Rattle.sets_core.proofs.sets.Tie as tie
 abbrev invariant-loop : tie.invariant-loop
 invariant-loop table head tokens closes masks words₀ n behind₀ derives here₀ count₀ p₀ words behind here count p =
     Going table head tokens p here behind
-    × Written (grammarIn table head) (tokensOf tokens) words₀ p words
-    × Choices (grammarIn table head) (tokensOf tokens) p count
+    × Written (grammar_in table head) (tokens_of tokens) words₀ p words
+    × Choices (grammar_in table head) (tokens_of tokens) p count
 
 abbrev decreases-loop : tie.decreases-loop
 decreases-loop table head tokens closes masks words₀ n behind₀ derives here₀ count₀ p₀ words behind here count p = length tokens + 1 - p
@@ -82,7 +82,7 @@ low-half-requires c κs = search rules
 counted-requires : tie.Need-counted-requires invariant-loop decreases-loop
 counted-requires c κs =
     let l = c.before.before.before.before.before.before.before.before in
-    omega (arith, l.before.before.before.before.before.requires.0.tokens.few, choices-most l.loop.invariant.2)
+    omega (arith, l.before.before.before.before.before.requires.0.tokens.few, choices_most l.loop.invariant.2)
 
 close-at-requires : tie.Need-close-at-requires invariant-loop decreases-loop
 close-at-requires c κs = let i = c.before.before.before.before.before.before.before.before.before in omega (arith, i.loop-test.true, i.before.before.before.before.before.before.requires.0.tokens.few)
@@ -90,7 +90,7 @@ close-at-requires c κs = let i = c.before.before.before.before.before.before.be
 onward-requires : tie.Need-onward-requires invariant-loop decreases-loop
 onward-requires c κs =
     let i = c.before.before.before.before.before.before.before.before.before.before in
-    rw c.close_at.ensures (onward-room i.before.before.before.before.before.before.requires.0 i.before.loop.invariant.0 (omega (arith, i.loop-test.true)))
+    rw c.close_at.ensures (onward_room i.before.before.before.before.before.before.requires.0 i.before.loop.invariant.0 (omega (arith, i.loop-test.true)))
 
 add-p : tie.Need-overflow-add-p invariant-loop decreases-loop
 add-p c = let i = c.before.before.before.before.before.before.before.before.before.before.before in omega (arith, i.loop-test.true, i.before.before.before.before.before.before.requires.0.tokens.few)
@@ -109,8 +109,8 @@ loop-again c =
     let stands = context.ensures s.args.head.well in
     let set = c.before.before.before.before.before.before.before.before.set_at.ensures in (
       going_next x l.invariant.0 h context.result stands set.0 c.onward.ensures.0 (rw c.before.close_at.ensures at c.onward.ensures.1),
-      written_next l.invariant.1 (omega (arith, s.requires.1)) (words-here x l.invariant.0 h context.result stands set.1),
-      choices-next l.invariant.2 (choice-here x l.invariant.0 h context.result stands set.0) (rw c.before.before.before.before.low_half_lem.ensures at c.before.before.before.counted.ensures),
+      written_next l.invariant.1 (omega (arith, s.requires.1)) (words_here x l.invariant.0 h context.result stands set.1),
+      choices-next l.invariant.2 (choice_here x l.invariant.0 h context.result stands set.0) (rw c.before.before.before.before.low_half_lem.ensures at c.before.before.before.counted.ensures),
     )
 
 same_length : tie.Need-same-length invariant-loop decreases-loop
@@ -121,10 +121,10 @@ returns c =
     let l = c.before.loop in
     let tokens = c.before.before.before.before.before.before.args.tokens.now in
     let e : l.p ≡ length tokens + 1 = omega (arith, l.invariant.0.within, c.loop-test.false) in
-    (choices-all l.invariant.2 (tokens-length tokens) e, written_all l.invariant.1 (tokens-length tokens) e)
+    (choices-all l.invariant.2 (tokens_length tokens) e, written_all l.invariant.1 (tokens_length tokens) e)
 
-pub sets-spec : {M : Type 1} → statement M
-sets-spec =
+pub sets_spec : {M : Type 1} → statement M
+sets_spec =
     tie.close
     (tie.spec
     invariant-loop

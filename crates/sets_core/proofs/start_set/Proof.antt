@@ -12,5 +12,5 @@ returns c = simp (c.with.ensures, c.before.if1.true)
 returns-2 : tie.Need-returns-2
 returns-2 c = simp c.if1.false
 
-pub start-set-spec : {M : Type 1} → statement M
-start-set-spec = tie.close (tie.spec with-requires returns returns-2)
+pub start_set_spec : {M : Type 1} → statement M
+start_set_spec = tie.close (tie.spec with-requires returns returns-2)

@@ -33,8 +33,8 @@ count zero f = 0
 count (suc n) f = one (f n) + count n f
 
 -- document 02, 2.5, "the count of choices": how many of the positions 0 to n are choices
-unfoldable pub choiceCount : Grammar → List Token → ℕ
-choiceCount g w = count (suc (length w)) (choice g w)
+unfoldable pub choice_count : Grammar → List Token → ℕ
+choice_count g w = count (suc (length w)) (choice g w)
 
 -- 1 where there is an entry
 abbrev pub marked : List (List ℕ) → ℕ
@@ -42,8 +42,8 @@ marked [] = 0
 marked (e ∷ l) = 1
 
 -- "1 exactly when the first i tokens alone have a reading, else 0"
-unfoldable pub stopMark : Grammar → List Token → ℕ → ℕ
-stopMark g w i = marked (entries g (take i w))
+unfoldable pub stop_mark : Grammar → List Token → ℕ → ℕ
+stop_mark g w i = marked (entries g (take i w))
 
 -- f 0, f 1 and so on, n of them
 abbrev pub listed : {A : Type 0} → ℕ → (ℕ → A) → List A
@@ -51,8 +51,8 @@ listed zero f = []
 listed (suc n) f = f 0 ∷ listed n (λ i. f (suc i))
 
 -- document 01, "Services": the marks of the positions 0 to n, in order
-unfoldable pub stopMarks : Grammar → List Token → List ℕ
-stopMarks g w = listed (suc (length w)) (stopMark g w)
+unfoldable pub stop_marks : Grammar → List Token → List ℕ
+stop_marks g w = listed (suc (length w)) (stop_mark g w)
 
 -- the number whose digits 0 to n - 1 are 1 exactly where a test passes: "bit b (worth 2^b)"
 unfoldable pub word_of : ℕ → (ℕ → Bool) → ℕ
@@ -60,9 +60,9 @@ word_of zero f = 0
 word_of (suc n) f = one (f n) * 2 ^ n + word_of n f
 
 -- word k of position p: "rule 32k + b as bit b (worth 2^b) of word k, every bit outside the set 0"
-unfoldable pub setWord : Grammar → List Token → ℕ → ℕ → ℕ
-setWord g w p k = word_of 32 (λ b. kept g w p (32 * k + b))
+unfoldable pub set_word : Grammar → List Token → ℕ → ℕ → ℕ
+set_word g w p k = word_of 32 (λ b. kept g w p (32 * k + b))
 
 -- "four 32-bit words for each position, n + 1 positions, those of position p from element 4p on"
-unfoldable pub setWords : Grammar → List Token → List ℕ
-setWords g w = listed (4 * suc (length w)) (λ i. setWord g w (i / 4) (i % 4))
+unfoldable pub set_words : Grammar → List Token → List ℕ
+set_words g w = listed (4 * suc (length w)) (λ i. set_word g w (i / 4) (i % 4))

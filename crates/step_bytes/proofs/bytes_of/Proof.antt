@@ -3,8 +3,8 @@ use Prim.Native.Nat.{◌-◌, ◌*◌, ◌≤◌}
 use native.Mathlib.Omega.{arith}
 use borrow.Author.Rules.{rules}
 use lib.ListN.{length, get_or}
-use Rattle.numbers.proofs.Written.{shortest-most}
-use Rattle.step_bytes.proofs.Loops.{Sized, sizes-start, sizes-go, sizes-end}
+use Rattle.numbers.proofs.Written.{shortest_most}
+use Rattle.step_bytes.proofs.Loops.{Sized, sizes_start, sizes_go, sizes_end}
 use Rattle.step_bytes.proofs.bytes_of.Statement.{statement}
 use Rattle.step_bytes.proofs.bytes_of.Tie as tie
 
@@ -15,7 +15,7 @@ abbrev decreases-loop : tie.decreases-loop
 decreases-loop tokens total₀ i₀ total i = length tokens - i
 
 loop-holds : tie.Need-loop-init invariant-loop decreases-loop
-loop-holds c = (omega arith, omega arith, sizes-start c.before.args.tokens.now)
+loop-holds c = (omega arith, omega arith, sizes_start c.before.args.tokens.now)
 
 mul-size-of : tie.Need-overflow-mul-size-of invariant-loop decreases-loop
 mul-size-of c = search rules
@@ -29,7 +29,7 @@ size-of-requires c κs = search rules
 add_total : tie.Need-overflow-add-total invariant-loop decreases-loop
 add_total c =
     let l = c.before.before.before in
-    omega (arith, l.loop.invariant.1, l.before.before.requires, c.type_size.ensures, shortest-most (get_or l.before.before.args.tokens.now l.loop.i 0))
+    omega (arith, l.loop.invariant.1, l.before.before.requires, c.type_size.ensures, shortest_most (get_or l.before.before.args.tokens.now l.loop.i 0))
 
 add-i : tie.Need-overflow-add-i invariant-loop decreases-loop
 add-i c = search rules
@@ -43,15 +43,15 @@ loop-again c =
     let ts = l.before.before.args.tokens.now in
     let t = get_or ts l.loop.i 0 in
     let more = c.before.before.loop-test.true in
-    (omega (arith, more), omega (arith, l.loop.invariant.1, c.type_size.ensures, shortest-most t), rw c.type_size.ensures (sizes-go ts l.loop.total l.loop.i more l.loop.invariant.2))
+    (omega (arith, more), omega (arith, l.loop.invariant.1, c.type_size.ensures, shortest_most t), rw c.type_size.ensures (sizes_go ts l.loop.total l.loop.i more l.loop.invariant.2))
 
 returns : tie.Need-returns invariant-loop decreases-loop
 returns c =
     let l = c.before in
-    (sizes-end l.before.before.args.tokens.now l.loop.total l.loop.i c.loop-test.false l.loop.invariant.2, omega (arith, l.loop.invariant.1, l.before.before.requires))
+    (sizes_end l.before.before.args.tokens.now l.loop.total l.loop.i c.loop-test.false l.loop.invariant.2, omega (arith, l.loop.invariant.1, l.before.before.requires))
 
-pub bytes-of-spec : {M : Type 1} → statement M
-bytes-of-spec =
+pub bytes_of_spec : {M : Type 1} → statement M
+bytes_of_spec =
     tie.close
     (tie.spec
     invariant-loop

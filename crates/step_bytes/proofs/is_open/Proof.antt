@@ -16,5 +16,5 @@ returns c = simp (lt-ltb _ _ c.before.if1.true)
 returns-2 : tie.Need-returns-2
 returns-2 c = simp (le-ltb _ _ c.if1.false)
 
-pub is-open-spec : {M : Type 1} → statement M
-is-open-spec = tie.close (tie.spec mul-result shared-slice-read-result returns returns-2)
+pub is_open_spec : {M : Type 1} → statement M
+is_open_spec = tie.close (tie.spec mul-result shared-slice-read-result returns returns-2)

@@ -5,7 +5,7 @@ use native.Mathlib.Omega.{arith}
 use lib.ListN.{length}
 use lib.Seq.{length-take-le}
 use borrow.Author.Rules.{rules}
-use Rattle.numbers.proofs.Written.{shortest-most}
+use Rattle.numbers.proofs.Written.{shortest_most}
 use Rattle.step_bytes.proofs.Steps.{part-start}
 use Rattle.step_bytes.proofs.part_at.Statement.{statement}
 use Rattle.step_bytes.proofs.part_at.Tie as tie
@@ -47,7 +47,7 @@ bytes-of-requires-2 c κs = search rules
 add-t8 : tie.Need-overflow-add-t8
 add-t8 c =
     let s = c.before.before.before.before.before.before in
-    omega (arith, c.before.before.before.before.type_size.ensures, shortest-most (length s.args.tokens.now), c.before.before.bytes_of.ensures.1)
+    omega (arith, c.before.before.before.before.type_size.ensures, shortest_most (length s.args.tokens.now), c.before.before.bytes_of.ensures.1)
 
 returns : tie.Need-returns
 returns c =
@@ -55,8 +55,8 @@ returns c =
     let e : s.args.position + s.args.count - s.args.position ≡ s.args.count = omega arith in
     simp (c.before.before.before.before.type_size.ensures, c.before.before.bytes_of.ensures.0, c.bytes-of2.ensures.0, e, part-start s.args.tokens.now s.args.position)
 
-pub part-at-spec : {M : Type 1} → statement M
-part-at-spec =
+pub part_at_spec : {M : Type 1} → statement M
+part_at_spec =
     tie.close
     (tie.spec
     add-behind

@@ -5,7 +5,7 @@ use native.Mathlib.Nat.{zero-add}
 use native.Mathlib.Omega.{arith}
 use lib.ListN.{take, drop}
 use borrow.Author.Rules.{rules}
-use Rattle.step_bytes.proofs.Parts.{place-within, place-refused}
+use Rattle.step_bytes.proofs.Parts.{place_within, place_refused}
 use Rattle.step_bytes.proofs.step_bytes.Statement.{statement}
 use Rattle.step_bytes.proofs.step_bytes.Tie as tie
 
@@ -25,7 +25,7 @@ returns : tie.Need-returns
 returns c =
     let l = c.before.before.before in
     let a = l.before.before.args in
-    let e = place-refused a.history.now a.position _ (sym c.before.enum_told.given.1 ∙ l.locate.ensures) in
+    let e = place_refused a.history.now a.position _ (sym c.before.enum_told.given.1 ∙ l.locate.ensures) in
     simp e (refl, ap (λ (o : ℕ). (a.history.ptr.0, o)) (sym (zero-add _)))
 
 add-end : tie.Need-overflow-add-end
@@ -33,7 +33,7 @@ add-end c =
     let l = c.before.before.before in
     let a = l.before.before.args in
     let g = c.before.place.given in
-    let w = place-within a.history.now (λ i. omega (arith, l.before.shared-slice-known.given i)) a.position g.0.0 g.0.1.0 (sym g.1 ∙ l.locate.ensures) in
+    let w = place_within a.history.now (λ i. omega (arith, l.before.shared-slice-known.given i)) a.position g.0.0 g.0.1.0 (sym g.1 ∙ l.locate.ensures) in
     search (rules, w.inside)
 
 sub-result : tie.Need-overflow-sub-result
@@ -47,7 +47,7 @@ part-result-end c =
     let l = c.before.before.before in
     let a = l.before.before.args in
     let g = c.before.place.given in
-    let w = place-within a.history.now (λ i. omega (arith, l.before.shared-slice-known.given i)) a.position g.0.0 g.0.1.0 (sym g.1 ∙ l.locate.ensures) in
+    let w = place_within a.history.now (λ i. omega (arith, l.before.shared-slice-known.given i)) a.position g.0.0 g.0.1.0 (sym g.1 ∙ l.locate.ensures) in
     search (rules, w.inside)
 
 returns-2 : tie.Need-returns-2
@@ -55,12 +55,12 @@ returns-2 c =
     let l = c.before.before.before.before in
     let a = l.before.before.args in
     let g = c.before.before.place.given in
-    let w = place-within a.history.now (λ i. omega (arith, l.before.shared-slice-known.given i)) a.position g.0.0 g.0.1.0 (sym g.1 ∙ l.locate.ensures) in
+    let w = place_within a.history.now (λ i. omega (arith, l.before.shared-slice-known.given i)) a.position g.0.0 g.0.1.0 (sym g.1 ∙ l.locate.ensures) in
     let e : g.0.0 + g.0.1.0 - g.0.0 ≡ g.0.1.0 = omega arith in
     (ap (λ (n : ℕ). take n (drop g.0.0 a.history.now)) e ∙ w.holds, ap (λ (o : ℕ). (a.history.ref_ptr.0, o + a.history.ref_ptr.1)) w.starts)
 
-pub step-bytes-spec : {M : Type 1} → statement M
-step-bytes-spec =
+pub step_bytes_spec : {M : Type 1} → statement M
+step_bytes_spec =
     tie.close
     (tie.spec
     locate-requires

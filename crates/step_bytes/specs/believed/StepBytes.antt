@@ -4,7 +4,7 @@ use Rattle.std.specs.Prelude.{ℕ, suc, ◌+◌, cond, ◌&&◌, List, [], ◌�
 use Rattle.std.proofs.Math.Option.{Option, none, some}
 use Rattle.numbers.specs.Written.{written}
 use Rattle.history_file.specs.believed.HistoryFile
-use Rattle.history_file.specs.believed.HistoryFile.{HistoryFile, kind, depthAfter, historyOf}
+use Rattle.history_file.specs.believed.HistoryFile.{HistoryFile, kind, depth_after, history_of}
 use Rattle.step_bytes.specs.declared.StepCheck.{StepCheck}
 
 -- one more, where there is a number
@@ -14,9 +14,9 @@ later (some k) = some (suc k)
 
 -- how many tokens there are through the first one after which no step is open, with so many steps open before them: from an open on, through
 -- the close that ends its step. None where there is no such token
-unfoldable pub stepLength : ℕ → List ℕ → Option ℕ
-stepLength depth [] = none
-stepLength depth (t ∷ ts) = cond (eqb (depthAfter t depth) 0) (some 1) (later (stepLength (depthAfter t depth) ts))
+unfoldable pub step_length : ℕ → List ℕ → Option ℕ
+step_length depth [] = none
+step_length depth (t ∷ ts) = cond (eqb (depth_after t depth) 0) (some 1) (later (step_length (depth_after t depth) ts))
 
 -- the byte at which the part starts, and the token numbers that it holds; or the number of the refusal
 pub data StepPart : Type 0 where
@@ -24,27 +24,27 @@ pub data StepPart : Type 0 where
   refused : ℕ → StepPart
 
 -- "from that open's first byte through its close's last byte": in front of it stand the count and the tokens before the open
-abbrev pub partFrom : List ℕ → ℕ → Option ℕ → StepPart
-partFrom ts p none = refused 17
-partFrom ts p (some k) = part (length (written (length ts ∷ take p ts))) (take k (drop p ts))
+abbrev pub part_from : List ℕ → ℕ → Option ℕ → StepPart
+part_from ts p none = refused 17
+part_from ts p (some k) = part (length (written (length ts ∷ take p ts))) (take k (drop p ts))
 
 -- 17: "when the position is not that of an open"
-unfoldable pub stepIn : List ℕ → ℕ → StepPart
-stepIn ts p = cond (ltb p (length ts) && eqb (kind (get_or ts p 0)) 1) (partFrom ts p (stepLength 0 (drop p ts))) (refused 17)
+unfoldable pub step_in_lem : List ℕ → ℕ → StepPart
+step_in_lem ts p = cond (ltb p (length ts) && eqb (kind (get_or ts p 0)) 1) (part_from ts p (step_length 0 (drop p ts))) (refused 17)
 
 -- 17 is "found after the history has passed"
-abbrev pub stepFrom : HistoryFile → ℕ → StepPart
-stepFrom (HistoryFile.accepted ts) p = stepIn ts p
-stepFrom (HistoryFile.refused e) p = refused e
+abbrev pub step_from : HistoryFile → ℕ → StepPart
+step_from (HistoryFile.accepted ts) p = step_in_lem ts p
+step_from (HistoryFile.refused e) p = refused e
 
 -- of the bytes of a file
 abbrev pub step_of : List ℕ → ℕ → StepPart
-step_of s p = stepFrom (historyOf s) p
+step_of s p = step_from (history_of s) p
 
 -- what the part holds; "when turned down .. the part is empty"
-abbrev pub bytesIn : StepPart → List ℕ
-bytesIn (part start ts) = written ts
-bytesIn (refused e) = []
+abbrev pub bytes_in : StepPart → List ℕ
+bytes_in (part start ts) = written ts
+bytes_in (refused e) = []
 
 -- where it starts; an empty part stands at the file's first byte
 abbrev pub start_in : StepPart → ℕ
@@ -57,9 +57,9 @@ number_in (part start ts) = none
 number_in (refused e) = some e
 
 -- the number for each case of the enum
-abbrev pub numberSaid : StepCheck → Option ℕ
-numberSaid StepCheck.Found = none
-numberSaid (StepCheck.Refused e) = some e
+abbrev pub number_said : StepCheck → Option ℕ
+number_said StepCheck.Found = none
+number_said (StepCheck.Refused e) = some e
 
 -- the place k bytes behind another
 abbrev pub within : ℕ × ℕ → ℕ → ℕ × ℕ

@@ -2,8 +2,8 @@
 use mathlib.Core.Path.{sym}
 use lib.ListN.{take, length-map}
 use native.Mathlib.Omega.{arith}
-use Rattle.history_file.specs.believed.HistoryFile.{tokenOf}
-use Rattle.stop_marks_core.proofs.Depths.{wellformed-shallow}
+use Rattle.history_file.specs.believed.HistoryFile.{token_of}
+use Rattle.stop_marks_core.proofs.Depths.{wellformed_shallow}
 use borrow.Author.Rules.{rules}
 use Rattle.stop_marks.proofs.stop_marks.Statement.{statement}
 use Rattle.stop_marks.proofs.stop_marks.Tie as tie
@@ -40,7 +40,7 @@ marks-requires : tie.Need-marks-requires
 marks-requires c κs =
     let o = c.before.before.before.before.before.before.open-files.ensures in
     let k = o.passes _ _ c.before.before.before.before.opened.given.1 in
-    (k.indexed, (k.tokens, (wellformed-shallow _ k.wellformed, omega (arith, k.room, k.count))))
+    (k.indexed, (k.tokens, (wellformed_shallow _ k.wellformed, omega (arith, k.room, k.count))))
 
 same_length : tie.Need-same-length
 same_length c = search rules
@@ -49,10 +49,10 @@ returns-2 : tie.Need-returns-2
 returns-2 c =
     let o = c.before.before.before.before.before.before.before.before.before.open-files.ensures in
     let k = o.passes _ _ c.before.before.before.before.before.before.before.opened.given.1 in
-    rw (k.is, length-map (take _ _) tokenOf, c.before.before.marks.ensures)
+    rw (k.is, length-map (take _ _) token_of, c.before.before.marks.ensures)
 
-pub stop-marks-spec : {M : Type 1} → statement M
-stop-marks-spec =
+pub stop_marks_spec : {M : Type 1} → statement M
+stop_marks_spec =
     tie.close
     (tie.spec
     open-files-requires

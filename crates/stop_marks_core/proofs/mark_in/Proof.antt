@@ -15,5 +15,5 @@ mark-of-requires-2 c κs = search rules
 returns-2 : tie.Need-returns-2
 returns-2 c = rw c.before.if1.false c.mark-of2.ensures
 
-pub mark-in-spec : {M : Type 1} → statement M
-mark-in-spec = tie.close (tie.spec mark-of-requires returns mark-of-requires-2 returns-2)
+pub mark_in_spec : {M : Type 1} → statement M
+mark_in_spec = tie.close (tie.spec mark-of-requires returns mark-of-requires-2 returns-2)

@@ -37,8 +37,8 @@ returns-3 c =
     rw (ne_eqb _ _ i.before.before.if1.false, le-leb _ _ i.if2.false)
     (c.number2.ensures ∙ ap one (c.before.has.ensures ∙ ap₂ bit c.before.before.finished-of.ensures c.before.before.before.wide.ensures))
 
-pub mark-of-spec : {M : Type 1} → statement M
-mark-of-spec =
+pub mark_of_spec : {M : Type 1} → statement M
+mark_of_spec =
     tie.close
     (tie.spec
     may-end-requires

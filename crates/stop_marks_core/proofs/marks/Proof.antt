@@ -6,7 +6,7 @@ use mathlib.Core.Bool.{cond}
 use mathlib.Core.List.{List}
 use borrow.Author.Rules.{rules}
 use lib.ListN.{length, replicate, length-replicate, length-set}
-use Rattle.pair_states.specs.Wide.{wideGrammar}
+use Rattle.pair_states.specs.Wide.{wide_grammar}
 use Rattle.configurations.proofs.Stacks.{other}
 use Rattle.stop_marks_core.specs.MarkOf.{mark_of}
 use Rattle.stop_marks_core.proofs.Turns.{Turn, depths, first-turn, next-turn, last_turn}
@@ -14,7 +14,7 @@ use Rattle.stop_marks_core.proofs.marks.Statement.{statement}
 use Rattle.stop_marks_core.proofs.marks.Tie as tie
 
 abbrev invariant-loop : tie.invariant-loop
-invariant-loop table head tokens out₀ empties stack₀ names₀ a₀ b₀ depth₀ first₀ i₀ out stack names a b depth first i = (i ≤ length tokens) × Turn (wideGrammar table head) tokens out₀ i depth (cond first a b) stack names out
+invariant-loop table head tokens out₀ empties stack₀ names₀ a₀ b₀ depth₀ first₀ i₀ out stack names a b depth first i = (i ≤ length tokens) × Turn (wide_grammar table head) tokens out₀ i depth (cond first a b) stack names out
 
 abbrev decreases-loop : tie.decreases-loop
 decreases-loop table head tokens out₀ empties stack₀ names₀ a₀ b₀ depth₀ first₀ i₀ out stack names a b depth first i = length tokens - i
@@ -55,7 +55,7 @@ turn-requires : tie.Need-turn-requires invariant-loop decreases-loop
 turn-requires c κs =
     let t = c.before.before.before.before.before.before.before.before.before in
     let u = t.before.loop.invariant.1 in
-    (t.before.before.before.before.before.before.requires.0, (rw c.before.before.before.before.token-of.ensures (depths u t.loop-test.true), (u.stack-size, u.names-size)))
+    (t.before.before.before.before.before.before.requires.0, (rw c.before.before.before.before.token-of.ensures (depths u t.loop-test.true), (u.stack_size, u.names-size)))
 
 add-i : tie.Need-overflow-add-i invariant-loop decreases-loop
 add-i c = search rules
@@ -96,8 +96,8 @@ returns c =
     (c.mark-in2.ensures ∙ ap (λ (e : ℕ). mark_of l.depth (cond l.first l.a l.b) e a.head) t.before.before.before.ends.ensures)
     (omega arith)
 
-pub marks-spec : {M : Type 1} → statement M
-marks-spec =
+pub marks_spec : {M : Type 1} → statement M
+marks_spec =
     tie.close
     (tie.spec
     invariant-loop

@@ -20,6 +20,6 @@ has-requires c κs = search rules
 returns : tie.Need-returns
 returns c = c.has.ensures ∙ ap (has_key c.before.before.before.args.keys.now) c.before.before.key_of.ensures
 
-pub has-key-spec : {M : Type 1} → statement M
-has-key-spec =
+pub has_key_spec : {M : Type 1} → statement M
+has_key_spec =
     tie.close (tie.spec key-of-requires mul-has element-copy-out-has has-requires returns)

@@ -65,8 +65,8 @@ returns c =
     let a = b.before in
     simp (c.wide6.ensures.0, e.wide5.ensures.0, d.wide4.ensures.0, b.wide3.ensures.0, a.wide2.ensures.0, a.before.wide.ensures.0)
 
-pub key-of-spec : {M : Type 1} → statement M
-key-of-spec =
+pub key_of_spec : {M : Type 1} → statement M
+key_of_spec =
     tie.close
     (tie.spec
     wide-requires

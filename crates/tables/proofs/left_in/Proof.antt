@@ -20,6 +20,6 @@ element-copy-out-result c = search rules
 returns : tie.Need-returns
 returns c = sym (left_in c.before.args.table.now c.before.args.k)
 
-pub left-in-spec : {M : Type 1} → statement M
-left-in-spec =
+pub left_in_spec : {M : Type 1} → statement M
+left_in_spec =
     tie.close (tie.spec mul-result add-result mul-result-2 element-copy-out-result returns)

@@ -3,7 +3,7 @@ use borrow.Author.Rules.{rules}
 use Prim.Native.Nat.{◌/◌}
 use mathlib.Core.Path.{ap, ◌∙◌}
 use lib.ListN.{set}
-use Rattle.tables.specs.Keys.{withKey}
+use Rattle.tables.specs.Keys.{with_key}
 use Rattle.tables.proofs.mark_key.Statement.{statement}
 use Rattle.tables.proofs.mark_key.Tie as tie
 
@@ -29,10 +29,10 @@ returns : tie.Need-returns
 returns c =
     let k = c.before.before in
     let keys = k.before.args.keys.now in
-    ap (set keys (k.key_of.result / 32)) c.with.ensures ∙ ap (withKey keys) k.key_of.ensures
+    ap (set keys (k.key_of.result / 32)) c.with.ensures ∙ ap (with_key keys) k.key_of.ensures
 
-pub mark-key-spec : {M : Type 1} → statement M
-mark-key-spec =
+pub mark_key_spec : {M : Type 1} → statement M
+mark_key_spec =
     tie.close
     (tie.spec
     key-of-requires

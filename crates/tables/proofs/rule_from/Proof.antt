@@ -16,5 +16,5 @@ token-by-requires c κs = search rules
 returns-3 : tie.Need-returns-3
 returns-3 c = simp (ne_eqb _ _ c.before.before.before.if1.false, ne_eqb _ _ c.before.if2.false, c.token-by.ensures)
 
-pub rule-from-spec : {M : Type 1} → statement M
-rule-from-spec = tie.close (tie.spec returns returns-2 token-by-requires returns-3)
+pub rule_from_spec : {M : Type 1} → statement M
+rule_from_spec = tie.close (tie.spec returns returns-2 token-by-requires returns-3)

@@ -1,7 +1,7 @@
 -- `tables::rule_of` meets its contract.
 use borrow.Author.Rules.{rules}
 use mathlib.Core.Path.{ap, ◌∙◌}
-use Rattle.tables.specs.Table.{ruleFrom, ruleIn}
+use Rattle.tables.specs.Table.{rule_from, rule_in}
 use Rattle.tables.proofs.rule_of.Statement.{statement}
 use Rattle.tables.proofs.rule_of.Tie as tie
 
@@ -12,8 +12,8 @@ rule-from-requires : tie.Need-rule-from-requires
 rule-from-requires c κs = search rules
 
 returns : tie.Need-returns
-unfolding ruleIn
-returns c = c.rule-from.ensures ∙ ap ruleFrom c.before.six-in.ensures
+unfolding rule_in
+returns c = c.rule-from.ensures ∙ ap rule_from c.before.six-in.ensures
 
-pub rule-of-spec : {M : Type 1} → statement M
-rule-of-spec = tie.close (tie.spec six-in-requires rule-from-requires returns)
+pub rule_of_spec : {M : Type 1} → statement M
+rule_of_spec = tie.close (tie.spec six-in-requires rule-from-requires returns)

@@ -1,6 +1,6 @@
 -- `tables::same_rule` meets its contract.
 use borrow.Author.Rules.{rules}
-use Rattle.tables.specs.Table.{sameRule}
+use Rattle.tables.specs.Table.{same_rule}
 use Rattle.tables.proofs.same_rule.Statement.{statement}
 use Rattle.tables.proofs.same_rule.Tie as tie
 
@@ -26,7 +26,7 @@ both-requires-5 : tie.Need-both-requires-5
 both-requires-5 c κs = search rules
 
 returns : tie.Need-returns
-unfolding sameRule
+unfolding same_rule
 returns c =
     let k = c.before.before.before.before in
     let d = k.before.before.before.before.before.before.before.before.before.before.before.before.before in
@@ -40,8 +40,8 @@ returns c =
       d.before.six-of.ensures,
     )
 
-pub same-rule-spec : {M : Type 1} → statement M
-same-rule-spec =
+pub same_rule_spec : {M : Type 1} → statement M
+same_rule_spec =
     tie.close
     (tie.spec
     six-of-requires

@@ -2,7 +2,7 @@
 use borrow.Author.Rules.{rules}
 use mathlib.Core.Path.{sym, ap, ◌∙◌}
 use Rattle.tables.specs.declared.Six.{Six}
-use Rattle.tables.specs.Keys.{keyIn, has_key}
+use Rattle.tables.specs.Keys.{key_in, has_key}
 use Rattle.tables.proofs.Keys.{unmarked}
 use Rattle.tables.proofs.seen.Statement.{statement}
 use Rattle.tables.proofs.seen.Tie as tie
@@ -25,8 +25,8 @@ returns-2 c =
     let f = k.before.before in
     let keys = f.args.keys.now in
     let six = k.before.six-of.ensures in
-    sym (unmarked _ _ keys _ f.requires.1 (ap (λ (v : Six). has_key keys (keyIn v)) (sym six) ∙ (sym k.has_key_lem.ensures ∙ c.if1.false)))
+    sym (unmarked _ _ keys _ f.requires.1 (ap (λ (v : Six). has_key keys (key_in v)) (sym six) ∙ (sym k.has_key_lem.ensures ∙ c.if1.false)))
 
-pub seen-spec : {M : Type 1} → statement M
-seen-spec =
+pub seen_spec : {M : Type 1} → statement M
+seen_spec =
     tie.close (tie.spec six-of-requires has-key-requires seen-among-requires returns returns-2)

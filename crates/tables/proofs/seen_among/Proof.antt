@@ -5,14 +5,14 @@ use borrow.Author.Rules.{rules}
 use native.Mathlib.Omega.{arith}
 use mathlib.Core.Bool.{or-true, or-false}
 use Rattle.tables.specs.declared.Six.{Six}
-use Rattle.tables.specs.Table.{earlier, rulesIn}
-use Rattle.tables.proofs.Tables.{left-of-six}
+use Rattle.tables.specs.Table.{earlier, rules_in}
+use Rattle.tables.proofs.Tables.{left_of_six}
 use Rattle.tables.proofs.Earlier.{earlier-at}
 use Rattle.tables.proofs.seen_among.Statement.{statement}
 use Rattle.tables.proofs.seen_among.Tie as tie
 
 abbrev invariant-loop : tie.invariant-loop
-invariant-loop table n rule l j₀ j = (j ≤ n) × (earlier rule (rulesIn table n) ≡ earlier rule (rulesIn table j))
+invariant-loop table n rule l j₀ j = (j ≤ n) × (earlier rule (rules_in table n) ≡ earlier rule (rules_in table j))
 
 abbrev decreases-loop : tie.decreases-loop
 decreases-loop table n rule l j₀ j = j
@@ -29,7 +29,7 @@ sub-j c = search rules
 same-at-requires : tie.Need-same-at-requires invariant-loop decreases-loop
 same-at-requires c κs =
     let f = c.before.before in
-    (omega arith, ap (λ (x : Six). x.1) f.six-of.ensures ∙ left-of-six f.before.args.rule)
+    (omega arith, ap (λ (x : Six). x.1) f.six-of.ensures ∙ left_of_six f.before.args.rule)
 
 returns : tie.Need-returns invariant-loop decreases-loop
 returns c =
@@ -61,13 +61,13 @@ loop-again c =
     )
 
 returns-2 : tie.Need-returns-2 invariant-loop decreases-loop
-unfolding earlier rulesIn
+unfolding earlier rules_in
 returns-2 c =
     let e : c.before.loop.j ≡ 0 = omega arith in
     rw (c.before.loop.invariant.1, e)
 
-pub seen-among-spec : {M : Type 1} → statement M
-seen-among-spec =
+pub seen_among_spec : {M : Type 1} → statement M
+seen_among_spec =
     tie.close
     (tie.spec
     invariant-loop

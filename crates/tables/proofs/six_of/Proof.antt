@@ -27,8 +27,8 @@ returns-2 c = simp (c.before.before.before.rule2.given.1, c.name_of.ensures, c.b
 returns-3 : tie.Need-returns-3
 returns-3 c = simp c.before.rule3.given.1
 
-pub six-of-spec : {M : Type 1} → statement M
-six-of-spec =
+pub six_of_spec : {M : Type 1} → statement M
+six_of_spec =
     tie.close
     (tie.spec
     enum-known-rule

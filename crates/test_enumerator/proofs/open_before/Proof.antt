@@ -34,8 +34,8 @@ returns c = search rules
 returns-2 : tie.Need-returns-2 invariant-loop decreases-loop
 returns-2 c = search rules
 
-pub open-before-spec : {M : Type 1} → statement M
-open-before-spec =
+pub open_before_spec : {M : Type 1} → statement M
+open_before_spec =
     tie.close
     (tie.spec
     invariant-loop

@@ -31,7 +31,7 @@ slice-aggregate-compare-read-2 : tie.Need-slice-aggregate-compare-read-2
 slice-aggregate-compare-read-2 c = sym (length-take-le _ _ (omega arith))
 
 compare-read-requires : tie.Need-compare-read-requires
-compare-read-requires c κs = omega (arith, length-take-le c.before.before.before.before.before.before.token-count.result c.before.before.before.tokens-of.result (omega arith))
+compare-read-requires c κs = omega (arith, length-take-le c.before.before.before.before.before.before.token_count.result c.before.before.before.tokens-of.result (omega arith))
 
 same_length : tie.Need-same-length
 same_length c = search rules
@@ -39,8 +39,8 @@ same_length c = search rules
 returns : tie.Need-returns
 returns c = search rules
 
-pub compare-case-spec : {M : Type 1} → statement M
-compare-case-spec =
+pub compare_case_spec : {M : Type 1} → statement M
+compare_case_spec =
     tie.close
     (tie.spec
     token-count-requires

@@ -27,8 +27,8 @@ same_length c = search rules
 returns : tie.Need-returns
 returns c = search rules
 
-pub write-packed-spec : {M : Type 1} → statement M
-write-packed-spec =
+pub write_packed_spec : {M : Type 1} → statement M
+write_packed_spec =
     tie.close
     (tie.spec
     elements-of-requires

@@ -1,5 +1,5 @@
 -- Grammars, derivations and readings: Definition 2.2 of the paper and document 01, "Tokens, stages, rules" and "Readings". Where no rule takes an
--- open or a close alone, as in every file of document 01, this is Definition 2.1 (Matched.antt, `matched-readings`).
+-- open or a close alone, as in every file of document 01, this is Definition 2.1 (Matched.antt, `matched_readings`).
 -- Clauses: 2.1, 2.2, 2.4, 2.5, 3.1, 3.2 (docs/SPECIFICATION.md)
 use Rattle.std.specs.Prelude.{ℕ, ◌<◌, ◌≡◌, List, [], ◌∷◌, ◌++◌}
 use Rattle.std.proofs.Math.Option.{some}
@@ -19,7 +19,7 @@ left (Rule.Empty L) = L
 left (Rule.Next L i L₁) = L
 left (Rule.Step L a L₁ b L₂) = L
 
--- (V, Σ, P, L₀) of the paper: V is the numbers below `nonterminals` (document 01: stages), V⁰, the well-matched ones, those below `well`, P the
+-- (V, Σ, P, L₀) of the paper: V is the numbers below `nonterminals` (document 01: stages), V⁰, the well_matched ones, those below `well`, P the
 -- rules, L₀ the start
 pub record Grammar : Type 0 where
   pub nonterminals : ℕ
@@ -55,12 +55,12 @@ pub data Tree : Type 0 where
 -- `Derives g L w t`: by the rules of g, L derives the tokens w, and t says how. One constructor for each form of Definition 2.2
 pub data Derives (g : Rules) : ℕ → List Token → Tree → Type 0 where
   -- (1) L becomes nothing
-  by-empty : {r L : ℕ} → get_elem? g r ≡ some (Rule.Empty L) → Derives g L [] (leaf r)
+  by_empty : {r L : ℕ} → get_elem? g r ≡ some (Rule.Empty L) → Derives g L [] (leaf r)
   -- (2) L becomes the token i, then L₁
   by_next : {r L : ℕ} {i : Token} {L₁ : ℕ} {w : List Token} {t : Tree} →
       get_elem? g r ≡ some (Rule.Next L i L₁) → Derives g L₁ w t → Derives g L (i ∷ w) (next r t)
   -- (3) L becomes open a, L₁, close b, then L₂
-  by-step : {r L : ℕ} {a : OpenName} {L₁ : ℕ} {b : CloseName} {L₂ : ℕ} {v w : List Token} {t u : Tree} →
+  by_step : {r L : ℕ} {a : OpenName} {L₁ : ℕ} {b : CloseName} {L₂ : ℕ} {v w : List Token} {t u : Tree} →
       get_elem? g r ≡ some (Rule.Step L a L₁ b L₂) → Derives g L₁ v t → Derives g L₂ w u →
       Derives g L (Token.Open a ∷ (v ++ (Token.Close b ∷ w))) (step r t u)
 

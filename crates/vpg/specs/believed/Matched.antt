@@ -1,5 +1,5 @@
--- Definition 2.1 of the paper, well-matched grammars: no rule takes an open or a close alone. Document 01's files say such grammars.
--- Law: matched-readings, entries-matched (vpg/proofs/Matched.antt)
+-- Definition 2.1 of the paper, well_matched grammars: no rule takes an open or a close alone. Document 01's files say such grammars.
+-- Law: matched_readings, entries_matched (vpg/proofs/Matched.antt)
 -- Clauses: 2.1, 2.2, 2.4, 2.5, 3.1, 3.2 (docs/SPECIFICATION.md)
 use Rattle.std.specs.Prelude.{ℕ, ◌≡◌, List, [], ◌∷◌, ◌++◌}
 use Rattle.std.proofs.Math.Option.{some}
@@ -22,12 +22,12 @@ PlainRules g = (r : ℕ) (R : Rule) → get_elem? g r ≡ some R → PlainRule R
 -- `Matched g L w t`: by the rules of g, L derives the tokens w, and t says how. One constructor for each form of Definition 2.1
 pub data Matched (g : Rules) : ℕ → List Token → Tree → Type 0 where
   -- (1) L becomes nothing
-  by-empty : {r L : ℕ} → get_elem? g r ≡ some (Rule.Empty L) → Matched g L [] (leaf r)
+  by_empty : {r L : ℕ} → get_elem? g r ≡ some (Rule.Empty L) → Matched g L [] (leaf r)
   -- (2) L becomes mark c, then L₁
-  by-mark : {r L : ℕ} {c : MarkName} {L₁ : ℕ} {w : List Token} {t : Tree} →
+  by_mark : {r L : ℕ} {c : MarkName} {L₁ : ℕ} {w : List Token} {t : Tree} →
       get_elem? g r ≡ some (Rule.Next L (Token.Mark c) L₁) → Matched g L₁ w t → Matched g L (Token.Mark c ∷ w) (next r t)
   -- (3) L becomes open a, L₁, close b, then L₂
-  by-step : {r L : ℕ} {a : OpenName} {L₁ : ℕ} {b : CloseName} {L₂ : ℕ} {v w : List Token} {t u : Tree} →
+  by_step : {r L : ℕ} {a : OpenName} {L₁ : ℕ} {b : CloseName} {L₂ : ℕ} {v w : List Token} {t u : Tree} →
       get_elem? g r ≡ some (Rule.Step L a L₁ b L₂) → Matched g L₁ v t → Matched g L₂ w u →
       Matched g L (Token.Open a ∷ (v ++ (Token.Close b ∷ w))) (step r t u)
 

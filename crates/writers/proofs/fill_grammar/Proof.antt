@@ -4,7 +4,7 @@ use mathlib.Core.Path.{sym, ◌∙◌, ap}
 use borrow.Author.Rules.{rules}
 use Rattle.numbers.proofs.Written.{below_all}
 use Rattle.writers.specs.Passing.{passed}
-use Rattle.writers.proofs.Passing.{grammar-passes, grammar-fails}
+use Rattle.writers.proofs.Passing.{grammar_passes, grammar_fails}
 use Rattle.writers.proofs.fill_grammar.Statement.{statement}
 use Rattle.writers.proofs.fill_grammar.Tie as tie
 
@@ -22,7 +22,7 @@ fill-longer-requires c κs =
     let a = s.before.args in
     let bytes = below_all 256 a.file.now (λ i. omega (arith, s.shared-slice-known.given i)) in
     let p = ap passed (sym k.grammar-check.ensures) ∙ (sym d.before.grammar-passes.ensures ∙ d.if1.true) in
-    (grammar-passes a.file.now a.out.now bytes p).1
+    (grammar_passes a.file.now a.out.now bytes p).1
 
 same_length : tie.Need-same-length
 same_length c = search rules
@@ -35,7 +35,7 @@ returns c =
     let a = s.before.args in
     let bytes = below_all 256 a.file.now (λ i. omega (arith, s.shared-slice-known.given i)) in
     let p = ap passed (sym k.grammar-check.ensures) ∙ (sym d.before.grammar-passes.ensures ∙ d.if1.true) in
-    c.before.before.fill-longer.ensures ∙ sym (grammar-passes a.file.now a.out.now bytes p).0
+    c.before.before.fill-longer.ensures ∙ sym (grammar_passes a.file.now a.out.now bytes p).0
 
 grammar-number-requires : tie.Need-grammar-number-requires
 grammar-number-requires c κs = search rules
@@ -46,10 +46,10 @@ returns-2 c =
     let k = d.before in
     let a = k.before.before.before.args in
     let p = ap passed (sym k.grammar-check.ensures) ∙ (sym d.grammar-passes.ensures ∙ c.before.if1.false) in
-    rw (c.grammar-number.ensures, k.grammar-check.ensures) (sym (grammar-fails a.file.now a.out.now p))
+    rw (c.grammar-number.ensures, k.grammar-check.ensures) (sym (grammar_fails a.file.now a.out.now p))
 
-pub fill-grammar-spec : {M : Type 1} → statement M
-fill-grammar-spec =
+pub fill_grammar_spec : {M : Type 1} → statement M
+fill_grammar_spec =
     tie.close
     (tie.spec
     grammar-check-requires

@@ -4,7 +4,7 @@ use mathlib.Core.Path.{sym, ◌∙◌, ap}
 use borrow.Author.Rules.{rules}
 use Rattle.numbers.proofs.Written.{below_all}
 use Rattle.writers.specs.Passing.{passed}
-use Rattle.writers.proofs.Passing.{history-passes, history-fails}
+use Rattle.writers.proofs.Passing.{history_passes, history_fails}
 use Rattle.writers.proofs.fill_history.Statement.{statement}
 use Rattle.writers.proofs.fill_history.Tie as tie
 
@@ -28,7 +28,7 @@ returns c =
     let a = s.before.args in
     let bytes = below_all 256 a.file.now (λ i. omega (arith, s.shared-slice-known.given i)) in
     let p = ap passed (sym k.history-check.ensures) ∙ (sym d.before.history-passes.ensures ∙ d.if1.true) in
-    c.before.before.fill.ensures ∙ sym (history-passes a.file.now a.out.now bytes p)
+    c.before.before.fill.ensures ∙ sym (history_passes a.file.now a.out.now bytes p)
 
 history-number-requires : tie.Need-history-number-requires
 history-number-requires c κs = search rules
@@ -39,10 +39,10 @@ returns-2 c =
     let k = d.before in
     let a = k.before.before.before.args in
     let p = ap passed (sym k.history-check.ensures) ∙ (sym d.history-passes.ensures ∙ c.before.if1.false) in
-    rw (c.history-number.ensures, k.history-check.ensures) (sym (history-fails a.file.now a.out.now p))
+    rw (c.history-number.ensures, k.history-check.ensures) (sym (history_fails a.file.now a.out.now p))
 
-pub fill-history-spec : {M : Type 1} → statement M
-fill-history-spec =
+pub fill_history_spec : {M : Type 1} → statement M
+fill_history_spec =
     tie.close
     (tie.spec
     history-check-requires

@@ -3,8 +3,8 @@ use mathlib.Core.Path.{sym, ◌∙◌}
 use borrow.Author.Rules.{rules}
 use lib.ListN.{replicate}
 use lib.Seq.{length-take-le}
-use Rattle.elements.proofs.Encoding.{encoded-part, encoded-room}
-use Rattle.sources.proofs.Encoded.{grammar-encoded}
+use Rattle.elements.proofs.Encoding.{encoded-part, encoded_room}
+use Rattle.sources.proofs.Encoded.{grammar_encoded}
 use Rattle.writers.proofs.write_grammar.Statement.{statement}
 use Rattle.writers.proofs.write_grammar.Tie as tie
 
@@ -14,13 +14,13 @@ encode-requires c κs = search rules
 array-share-prefix-file : tie.Need-array-share-prefix-file
 array-share-prefix-file c =
     let e = c.encode.ensures in
-    encoded-room c.before.before.before.before.args.numbers.now (replicate 3078 0) _ _ e.0 e.1
+    encoded_room c.before.before.before.before.args.numbers.now (replicate 3078 0) _ _ e.0 e.1
 
 slice-aggregate-fill-grammar : tie.Need-slice-aggregate-fill-grammar
 slice-aggregate-fill-grammar c =
     let d = c.before in
     let e = d.encode.ensures in
-    sym (length-take-le _ _ (encoded-room d.before.before.before.before.args.numbers.now (replicate 3078 0) _ _ e.0 e.1))
+    sym (length-take-le _ _ (encoded_room d.before.before.before.before.args.numbers.now (replicate 3078 0) _ _ e.0 e.1))
 
 fill-grammar-requires : tie.Need-fill-grammar-requires
 fill-grammar-requires c κs = search rules
@@ -34,10 +34,10 @@ returns c =
     let a = d.before.before.before.before.args in
     let e = d.encode.ensures in
     let part = encoded-part a.numbers.now (replicate 3078 0) _ _ e.0 e.1 in
-    c.before.before.fill-grammar.ensures ∙ rw (part, grammar-encoded a.numbers.now)
+    c.before.before.fill-grammar.ensures ∙ rw (part, grammar_encoded a.numbers.now)
 
-pub write-grammar-spec : {M : Type 1} → statement M
-write-grammar-spec =
+pub write_grammar_spec : {M : Type 1} → statement M
+write_grammar_spec =
     tie.close
     (tie.spec
     encode-requires

@@ -4,35 +4,35 @@ use Rattle.std.specs.Prelude.{ℕ, cond, List, ◌∷◌, ◌++◌, ltb, length,
 use Rattle.numbers.specs.Written.{written}
 use Rattle.elements.specs.believed.Elements.{elements}
 use Rattle.grammar_file.specs.believed.GrammarFile
-use Rattle.grammar_file.specs.believed.GrammarFile.{GrammarFile, grammarFrom}
-use Rattle.grammar_file.specs.Wellformed.{numbersOf}
+use Rattle.grammar_file.specs.believed.GrammarFile.{GrammarFile, grammar_from}
+use Rattle.grammar_file.specs.Wellformed.{numbers_of}
 use Rattle.history_file.specs.believed.HistoryFile
-use Rattle.history_file.specs.believed.HistoryFile.{HistoryFile, historyFrom}
+use Rattle.history_file.specs.believed.HistoryFile.{HistoryFile, history_from}
 use Rattle.service.specs.believed.Given.{Given, given, refused, untouched}
 use Rattle.writers.specs.declared.WriteAnswer.{WriteAnswer}
 
 -- the length, or document 01's number, for each case of the enum
-abbrev pub writeSaid : WriteAnswer → Given ℕ
-writeSaid (WriteAnswer.Written n) = given n
-writeSaid (WriteAnswer.Refused e) = refused e
+abbrev pub write_said : WriteAnswer → Given ℕ
+write_said (WriteAnswer.Written n) = given n
+write_said (WriteAnswer.Refused e) = refused e
 
 -- "the writer fills a lent buffer and tells its length .. and then gives 15 for a short buffer. Bytes past the written length stay"
 abbrev pub filled : List ℕ → List ℕ → Given ℕ × List ℕ
 filled file buffer = cond (ltb (length buffer) (length file)) (untouched buffer 15) (given (length file), file ++ drop (length file) buffer)
 
 -- the file of a grammar; "it turns down what the reader would, by the same numbers"
-abbrev pub grammarFilled : GrammarFile → List ℕ → Given ℕ × List ℕ
-grammarFilled (GrammarFile.accepted g) buffer = filled (written (numbersOf g)) buffer
-grammarFilled (GrammarFile.refused e) buffer = untouched buffer e
+abbrev pub grammar_filled : GrammarFile → List ℕ → Given ℕ × List ℕ
+grammar_filled (GrammarFile.accepted g) buffer = filled (written (numbers_of g)) buffer
+grammar_filled (GrammarFile.refused e) buffer = untouched buffer e
 
 -- the file of token numbers
-abbrev pub historyFilled : HistoryFile → List ℕ → Given ℕ × List ℕ
-historyFilled (HistoryFile.accepted ts) buffer = filled (written (length ts ∷ ts)) buffer
-historyFilled (HistoryFile.refused e) buffer = untouched buffer e
+abbrev pub history_filled : HistoryFile → List ℕ → Given ℕ × List ℕ
+history_filled (HistoryFile.accepted ts) buffer = filled (written (length ts ∷ ts)) buffer
+history_filled (HistoryFile.refused e) buffer = untouched buffer e
 
 -- "from the numbers of a file in their order, one element each"
-abbrev pub grammarWritten : List ℕ → List ℕ → Given ℕ × List ℕ
-grammarWritten numbers buffer = grammarFilled (grammarFrom (elements numbers)) buffer
+abbrev pub grammar_written : List ℕ → List ℕ → Given ℕ × List ℕ
+grammar_written numbers buffer = grammar_filled (grammar_from (elements numbers)) buffer
 
-abbrev pub historyWritten : List ℕ → List ℕ → Given ℕ × List ℕ
-historyWritten numbers buffer = historyFilled (historyFrom (elements numbers)) buffer
+abbrev pub history_written : List ℕ → List ℕ → Given ℕ × List ℕ
+history_written numbers buffer = history_filled (history_from (elements numbers)) buffer

@@ -54,8 +54,8 @@ same-length-2 c = search rules
 returns-2 : tie.Need-returns-2 invariant-loop decreases-loop
 returns-2 c = tt
 
-pub same-from-spec : {M : Type 1} → statement M
-same-from-spec =
+pub same_from_spec : {M : Type 1} → statement M
+same_from_spec =
     tie.close
     (tie.spec
     invariant-loop

@@ -39,8 +39,8 @@ same-from-requires c κs = tt
 returns : tie.Need-returns
 returns c = tt
 
-pub same-readings-spec : {M : Type 1} → statement M
-same-readings-spec =
+pub same_readings_spec : {M : Type 1} → statement M
+same_readings_spec =
     tie.close
     (tie.spec
     rule-numbers-requires

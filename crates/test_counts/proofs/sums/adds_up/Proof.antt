@@ -40,8 +40,8 @@ loop-again c = tt
 returns-3 : tie.Need-returns-3 invariant-loop decreases-loop
 returns-3 c = tt
 
-pub adds-up-spec : {M : Type 1} → statement M
-adds-up-spec =
+pub adds_up_spec : {M : Type 1} → statement M
+adds_up_spec =
     tie.close
     (tie.spec
     invariant-loop

@@ -31,8 +31,8 @@ loop-again c = search rules
 returns : tie.Need-returns invariant-loop decreases-loop
 returns c = tt
 
-pub each-adds-up-spec : {M : Type 1} → statement M
-each-adds-up-spec =
+pub each_adds_up_spec : {M : Type 1} → statement M
+each_adds_up_spec =
     tie.close
     (tie.spec
     invariant-loop

@@ -57,8 +57,8 @@ same_length c = search rules
 returns : tie.Need-returns invariant-loop decreases-loop
 returns c = search rules
 
-pub copy-rule-spec : {M : Type 1} → statement M
-copy-rule-spec =
+pub copy_rule_spec : {M : Type 1} → statement M
+copy_rule_spec =
     tie.close
     (tie.spec
     invariant-loop

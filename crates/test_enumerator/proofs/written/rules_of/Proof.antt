@@ -51,8 +51,8 @@ loop-again c = search rules
 returns : tie.Need-returns invariant-loop decreases-loop
 returns c = search rules
 
-pub rules-of-spec : {M : Type 1} → statement M
-rules-of-spec =
+pub rules_of_spec : {M : Type 1} → statement M
+rules_of_spec =
     tie.close
     (tie.spec
     invariant-loop

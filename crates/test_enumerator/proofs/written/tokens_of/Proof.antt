@@ -48,8 +48,8 @@ loop-again c = search rules
 returns : tie.Need-returns invariant-loop decreases-loop
 returns c = search rules
 
-pub tokens-of-spec : {M : Type 1} → statement M
-tokens-of-spec =
+pub tokens_of_spec : {M : Type 1} → statement M
+tokens_of_spec =
     tie.close
     (tie.spec
     invariant-loop

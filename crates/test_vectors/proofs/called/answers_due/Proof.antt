@@ -45,8 +45,8 @@ same_length c = search rules
 returns : tie.Need-returns invariant-loop decreases-loop
 returns c = search rules
 
-pub answers-due-spec : {M : Type 1} → statement M
-answers-due-spec =
+pub answers_due_spec : {M : Type 1} → statement M
+answers_due_spec =
     tie.close
     (tie.spec
     invariant-loop

@@ -43,8 +43,8 @@ returns-2 c = search rules
 returns-3 : tie.Need-returns-3 invariant-loop decreases-loop
 returns-3 c = search rules
 
-pub entry-in-spec : {M : Type 1} → statement M
-entry-in-spec =
+pub entry_in_spec : {M : Type 1} → statement M
+entry_in_spec =
     tie.close
     (tie.spec
     invariant-loop

@@ -34,8 +34,8 @@ returns c = search rules
 returns-2 : tie.Need-returns-2 invariant-loop decreases-loop
 returns-2 c = search rules
 
-pub choice-at-spec : {M : Type 1} → statement M
-choice-at-spec =
+pub choice_at_spec : {M : Type 1} → statement M
+choice_at_spec =
     tie.close
     (tie.spec
     invariant-loop

@@ -34,8 +34,8 @@ loop-again c = search rules
 returns : tie.Need-returns invariant-loop decreases-loop
 returns c = search rules
 
-pub choices-spec : {M : Type 1} → statement M
-choices-spec =
+pub choices_spec : {M : Type 1} → statement M
+choices_spec =
     tie.close
     (tie.spec
     invariant-loop

@@ -28,8 +28,8 @@ loop-again c = search rules
 returns : tie.Need-returns invariant-loop decreases-loop
 returns c = search rules
 
-pub smaller-stands-spec : {M : Type 1} → statement M
-smaller-stands-spec =
+pub smaller_stands_spec : {M : Type 1} → statement M
+smaller_stands_spec =
     tie.close
     (tie.spec
     invariant-loop

@@ -39,8 +39,8 @@ same_length c = search rules
 returns : tie.Need-returns invariant-loop decreases-loop
 returns c = search rules
 
-pub copy-from-spec : {M : Type 1} → statement M
-copy-from-spec =
+pub copy_from_spec : {M : Type 1} → statement M
+copy_from_spec =
     tie.close
     (tie.spec
     invariant-loop

@@ -39,8 +39,8 @@ same_length c = search rules
 returns : tie.Need-returns invariant-loop decreases-loop
 returns c = search rules
 
-pub copy-to-spec : {M : Type 1} → statement M
-copy-to-spec =
+pub copy_to_spec : {M : Type 1} → statement M
+copy_to_spec =
     tie.close
     (tie.spec
     invariant-loop

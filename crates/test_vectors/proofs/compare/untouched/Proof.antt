@@ -29,7 +29,7 @@ loop-again c = search rules
 returns : tie.Need-returns invariant-loop decreases-loop
 returns c = search rules
 
-pub untouched-spec : {M : Type 1} → statement M
-untouched-spec =
+pub untouched_spec : {M : Type 1} → statement M
+untouched_spec =
     tie.close
     (tie.spec invariant-loop decreases-loop loop-holds shared-slice-read-if1 add-i loop-less loop-again returns)

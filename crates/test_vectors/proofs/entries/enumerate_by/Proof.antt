@@ -75,8 +75,8 @@ same-length-4 c = search rules
 returns-2 : tie.Need-returns-2 invariant-loop decreases-loop
 returns-2 c = search rules
 
-pub enumerate-by-spec : {M : Type 1} → statement M
-enumerate-by-spec =
+pub enumerate_by_spec : {M : Type 1} → statement M
+enumerate_by_spec =
     tie.close
     (tie.spec
     invariant-loop

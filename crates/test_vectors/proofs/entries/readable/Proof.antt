@@ -24,8 +24,8 @@ is-reading-requires c κs = search rules
 returns-2 : tie.Need-returns-2
 returns-2 c = search rules
 
-pub readable-spec : {M : Type 1} → statement M
-readable-spec =
+pub readable_spec : {M : Type 1} → statement M
+readable_spec =
     tie.close
     (tie.spec
     returns

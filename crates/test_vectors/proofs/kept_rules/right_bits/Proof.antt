@@ -34,8 +34,8 @@ loop-again c = search rules
 returns : tie.Need-returns invariant-loop decreases-loop
 returns c = search rules
 
-pub right-bits-spec : {M : Type 1} → statement M
-right-bits-spec =
+pub right_bits_spec : {M : Type 1} → statement M
+right_bits_spec =
     tie.close
     (tie.spec
     invariant-loop

@@ -36,8 +36,8 @@ right-bits-requires c κs = search rules
 returns-3 : tie.Need-returns-3
 returns-3 c = search rules
 
-pub same-sets-spec : {M : Type 1} → statement M
-same-sets-spec =
+pub same_sets_spec : {M : Type 1} → statement M
+same_sets_spec =
     tie.close
     (tie.spec
     slice-aggregate-words

@@ -60,8 +60,8 @@ same-length-3 c = search rules
 returns-4 : tie.Need-returns-4 invariant-loop decreases-loop
 returns-4 c = search rules
 
-pub nexts-spec : {M : Type 1} → statement M
-nexts-spec =
+pub nexts_spec : {M : Type 1} → statement M
+nexts_spec =
     tie.close
     (tie.spec
     invariant-loop

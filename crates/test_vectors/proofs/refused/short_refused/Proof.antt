@@ -30,8 +30,8 @@ buffers-refused-requires c κs = search rules
 returns : tie.Need-returns
 returns c = search rules
 
-pub short-refused-spec : {M : Type 1} → statement M
-short-refused-spec =
+pub short_refused_spec : {M : Type 1} → statement M
+short_refused_spec =
     tie.close
     (tie.spec
     array-borrow-prefix-bytes

@@ -49,8 +49,8 @@ say-requires-2 c κs = search rules
 returns : tie.Need-returns invariant-loop decreases-loop
 returns c = search rules
 
-pub show-line-spec : {M : Type 1} → statement M
-show-line-spec =
+pub show_line_spec : {M : Type 1} → statement M
+show_line_spec =
     tie.close
     (tie.spec
     invariant-loop

@@ -43,8 +43,8 @@ loop-again c = search rules
 returns-2 : tie.Need-returns-2 invariant-loop decreases-loop
 returns-2 c = search rules
 
-pub show-list-spec : {M : Type 1} → statement M
-show-list-spec =
+pub show_list_spec : {M : Type 1} → statement M
+show_list_spec =
     tie.close
     (tie.spec
     invariant-loop
