@@ -1,4 +1,6 @@
 // Sets of small numbers as the binary digits of a word.
+#![tactic(auto)]
+
 ghost use Rattle.std.specs.Prelude.{◌≡◌, ◌&&◌, ℕ, ◌+◌, ◌*◌, ◌%◌, ◌<◌, ◌≤◌, leb};
 ghost use Rattle.bits.specs.Bit.{bit, add_bit};
 

@@ -1,4 +1,6 @@
 // A whole list of the calls first reading and next reading on one buffer.
+#![tactic(auto)]
+
 ghost use Rattle.std.specs.Prelude.{◌≡◌, length};
 ghost use Rattle.listing_model.specs.Calls.{call_on};
 ghost use Rattle.readings.specs.believed.Answers.{said, subject};

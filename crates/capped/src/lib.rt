@@ -1,9 +1,11 @@
 // Counts up to 2^64 - 1, with one value for all greater ones: their sums and products.
+#![tactic(auto)]
+
 ghost use Rattle.std.specs.Prelude.{◌≡◌, ◌+◌, ◌*◌, ◌-◌, ◌≤◌, ltb};
 ghost use Rattle.capped.specs.Capped.{cap, value};
 
 // How many there are, exactly, or that there are more than 2^64 - 1.
-#[derive(Drop)]
+#[derive(Clone, Copy)]
 pub enum Count {
     Exact(u64),
     Over,

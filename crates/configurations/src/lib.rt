@@ -1,5 +1,7 @@
 // Configurations of pair states (Definitions 4.1 and 4.2 of the paper) over a token: a state, and for each open the state before it.
 // The states before and after a token are two arrays that take turns: the 32 words are copied at an open alone.
+#![tactic(auto)]
+
 ghost use Rattle.std.specs.Prelude.{◌≡◌, cond, ◌≤◌, length};
 ghost use Rattle.pair_theory.specs.Depth.{open_after};
 ghost use Rattle.rule_index.specs.Index.{Indexed};
@@ -16,7 +18,7 @@ pub type Stack = [Words; 128];
 pub type Names = [u16; 128];
 
 // What a token is met with: the grammar's numbers, how many steps are open, and whether the first of the two arrays has the state.
-#[derive(Drop)]
+#[derive(Clone, Copy)]
 pub struct Top {
     pub head: Head,
     pub depth: usize,

@@ -1,4 +1,6 @@
 // What stands at a position, which rules can stand there, and the nonterminals of those rules.
+#![tactic(auto)]
+
 ghost use Rattle.std.specs.Prelude.{◌≡◌, ◌&&◌, ◌<◌, ◌≤◌, eqb};
 ghost use Rattle.bits.specs.Bit.{bit};
 ghost use Rattle.tables.specs.Table.{rule_in};
@@ -14,7 +16,7 @@ use vpg::CloseName;
 // position, digit L says that nonterminal L derives what is ahead in its level, digit 32 + L that it derives all that is left. At the end stands a
 // close of kind 4. A context is made at one point, so it has the token's two numbers: a token carried from there is put together and taken apart
 // again at every position, which took a tenth of the time.
-#[derive(Drop)]
+#[derive(Clone, Copy)]
 pub struct Context {
     pub position: usize,
     pub closing: usize,

@@ -1,4 +1,6 @@
 // Counts by position: backward over the tokens, how many derivations of the rest of its level each nonterminal has.
+#![tactic(auto)]
+
 ghost use Rattle.std.specs.Prelude.{◌≡◌, ◌&&◌, ◌<◌, ◌≤◌, ltb};
 ghost use Rattle.capped.specs.Capped.{cap, value};
 ghost use Rattle.vpg.specs.Runs.{entries};
@@ -67,7 +69,7 @@ fn add_at(rows: &mut Rows, p: usize, l: usize, n: Count)
 }
 
 // A position at which one rule alone is allowed. A position behind the last one asks for nothing.
-#[derive(Drop)]
+#[derive(Clone, Copy)]
 pub struct Alone {
     pub position: usize,
     pub rule: usize,
@@ -95,7 +97,7 @@ fn allowed(p: usize, r: usize, alone: Alone) -> bool
 
 // The words of the two positions behind: that behind a rule's first token, and that behind its close. Where counts are stored in a loop they
 // are read once, since each store might have changed them.
-#[derive(Drop)]
+#[derive(Clone, Copy)]
 pub struct Overs {
     pub inside: u64,
     pub after: u64,

@@ -1,4 +1,6 @@
 // The numbers of a file as elements, one to a number, and the bytes in which they are handed to a reader (document 02, 2.2).
+#![tactic(auto)]
+
 ghost use Rattle.std.specs.Prelude.{◌≡◌, ◌++◌, ◌+◌, ◌≤◌, length, take, drop};
 ghost use Rattle.numbers.specs.Written.{shortest};
 ghost use Rattle.elements.specs.Encoded.{writable, encoded};

@@ -1,4 +1,6 @@
 // The checks of the two files: accepted with the counts, or the number of the first fault.
+#![tactic(auto)]
+
 ghost use Rattle.std.specs.Prelude.{◌≡◌};
 ghost use Rattle.grammar_file.specs.believed.GrammarFile.{grammar_of};
 ghost use Rattle.history_file.specs.believed.HistoryFile.{history_of};
@@ -8,14 +10,14 @@ use grammar_file::GrammarAnswer;
 use history_file::HistoryAnswer;
 
 // The number of nonterminals (document 01: stages) and of rules; or document 01's number of the refusal.
-#[derive(Drop)]
+#[derive(Clone, Copy)]
 pub enum GrammarCheck {
     Accepted(u16, u16),
     Refused(u8),
 }
 
 // The number of tokens, or the refusal.
-#[derive(Drop)]
+#[derive(Clone, Copy)]
 pub enum HistoryCheck {
     Accepted(u16),
     Refused(u8),

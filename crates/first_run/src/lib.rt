@@ -1,4 +1,6 @@
 // The first reading: forward over the tokens, at each position the smallest rule that can stand there.
+#![tactic(auto)]
+
 ghost use Rattle.std.specs.Prelude.{◌≡◌, ◌<◌, ◌≤◌, length};
 ghost use Rattle.listing_model.specs.believed.Listing.{first, over_entries};
 ghost use Rattle.listing_model.specs.Calls.{call_on};
@@ -12,7 +14,7 @@ use levels::{Closes, Masks, Nonterminals};
 use tables::{Head, Table};
 
 // Where a derivation stands: the position, the nonterminal there, and the nonterminal behind each pending close.
-#[derive(Drop)]
+#[derive(Clone, Copy)]
 pub struct Configuration {
     pub position: usize,
     pub nonterminal: u16,
@@ -52,7 +54,7 @@ pub fn fill(
 }
 
 // A reading was written, or there is none.
-#[derive(Drop)]
+#[derive(Clone, Copy)]
 pub enum FirstAnswer {
     Written,
     NoReading,

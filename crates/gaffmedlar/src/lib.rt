@@ -1,6 +1,8 @@
 // The services for C and for languages that call C. Each answers one number, or a struct with the number and the counts or the length: 0
 // where all went well, 100 for "none", 101 for "no further", 102 for "over", else document 01's number of the refusal. A part of a file is a
 // struct with its place alone, and another function says the number.
+#![tactic(auto)]
+
 ghost use Rattle.std.specs.Prelude.{◌≡◌, length};
 ghost use Rattle.listing_model.specs.believed.Listing.{first, next};
 ghost use Rattle.listing_model.specs.Calls.{call_on};

@@ -1,4 +1,6 @@
 // Reads a grammar file: its head and the rules as a table, or the number of the first fault in file order.
+#![tactic(auto)]
+
 ghost use Rattle.std.specs.Prelude.{◌≡◌, [], ◌≤◌, replicate};
 ghost use Rattle.numbers.specs.believed.Number.{number_at, bytes};
 ghost use Rattle.numbers.specs.believed.Field.{field_at, count_at};
@@ -16,7 +18,7 @@ const NONTERMINALS: u32 = 32;
 const RULES: u32 = 128;
 
 // The head of the grammar, or document 01's number of the refusal.
-#[derive(Drop)]
+#[derive(Clone, Copy)]
 pub enum GrammarAnswer {
     Accepted(Head),
     Refused(u8),

@@ -1,4 +1,6 @@
 // Reads a history file: the token numbers, or the number of the first fault in file order.
+#![tactic(auto)]
+
 ghost use Rattle.std.specs.Prelude.{◌≡◌, [], ◌≤◌, ◌<◌, ◌/◌, ◌%◌, replicate};
 ghost use Rattle.numbers.specs.believed.Number.{number_at, bytes};
 ghost use Rattle.history_file.specs.Refusals.{refusal_of_token};
@@ -18,7 +20,7 @@ const OPEN_STEPS: u32 = 128;
 const TOKEN_NUMBERS: u32 = 262144;
 
 // A token number and the place after it, or document 01's number of the refusal.
-#[derive(Drop)]
+#[derive(Clone, Copy)]
 pub enum TokenRead {
     Token(u32, usize),
     Refused(u8),
@@ -57,7 +59,7 @@ pub fn token_of(t: u32) -> Token
 pub type TokenNumbers = [u32; 1024];
 
 // How many tokens there are, or the refusal.
-#[derive(Drop)]
+#[derive(Clone, Copy)]
 pub enum HistoryAnswer {
     Accepted(usize),
     Refused(u8),

@@ -1,4 +1,6 @@
 // Reading number k, forward over the tokens: at each position the rule is found by how many readings each rule has.
+#![tactic(auto)]
+
 ghost use Rattle.std.specs.Prelude.{◌≡◌, false, ◌&&◌, List, ℕ, suc, ◌+◌, ◌*◌, ◌<◌, ltb, length};
 ghost use Rattle.vpg.specs.believed.Grammar.{Rules};
 ghost use Rattle.vpg.specs.Runs.{entries};
@@ -39,7 +41,7 @@ fn size_of(table: &Table, r: usize, context: Context, due: Count, rows: &Rows) -
 
 // Which reading is looked for: its nonterminal at a position, how many readings each derivation of the level's rest has behind it, and its
 // number among all that have come to this position in the same way, from 0.
-#[derive(Drop)]
+#[derive(Clone, Copy)]
 pub struct Sought {
     pub nonterminal: u16,
     pub due: Count,
@@ -47,7 +49,7 @@ pub struct Sought {
 }
 
 // The rule that it has there, and its number among those that have the rule there.
-#[derive(Drop)]
+#[derive(Clone, Copy)]
 pub struct Found {
     pub rule: usize,
     pub number: u64,
@@ -124,7 +126,7 @@ fn seek(nonterminal: u16, due: Count, number: u64) -> Sought
 }
 
 // The reading was written, or there is none of this number.
-#[derive(Drop)]
+#[derive(Clone, Copy)]
 pub enum KthAnswer {
     Written,
     NoSuch,

@@ -1,4 +1,6 @@
 // Arrays by position, in one pass backward over the tokens: the matching closes, and which nonterminals derive what is ahead.
+#![tactic(auto)]
+
 ghost use Rattle.std.specs.Prelude.{◌≡◌, Bool, ℕ, ◌/◌, ◌<◌, ◌≤◌, List, length, get_or};
 ghost use Rattle.bits.specs.Bit.{bit};
 ghost use Rattle.vpg.specs.believed.Grammar.{Rules};

@@ -1,10 +1,12 @@
 // The lines of a listing, written to a buffer; a full buffer goes out as a piece of the text. Each answers the place behind its line.
+#![tactic(auto)]
+
 ghost use Rattle.std.specs.Prelude.{◌≡◌, ◌+◌, [], ◌∷◌, ◌++◌, length};
 ghost use Rattle.lines.specs.Laid.{put, laid, behind_full};
 ghost use Rattle.lines.specs.believed.Text.{decimal, reading_text, tokens_line, choices_line, none_line, reading_line, end_line, more_line, refused_grammar_line, refused_history_line};
 
 // How many bytes of the text went out before those in the buffer, and where in the buffer the next one goes.
-#[derive(Drop)]
+#[derive(Clone, Copy)]
 pub struct Cursor {
     pub before: usize,
     pub at: usize,

@@ -1,4 +1,6 @@
 // The listing program: reads grammar.bin and history.bin of the working directory, the first 4,096 bytes of each, and writes their listing.
+#![tactic(auto)]
+
 ghost use Rattle.std.specs.Prelude.{◌≡◌, length};
 ghost use Rattle.io.specs.Counts.{IsPrefixLen};
 

@@ -1,4 +1,6 @@
 // Writes a listing to standard output, piece by piece.
+#![tactic(auto)]
+
 ghost use Rattle.std.specs.Prelude.{◌≡◌};
 ghost use Rattle.listing_text.specs.believed.Listing.{listing};
 ghost use Rattle.listing_text.specs.believed.Written.{Written};

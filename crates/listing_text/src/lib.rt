@@ -1,4 +1,6 @@
 // The listing of two files as text: the files are read once, the levels worked out once, and each reading made from the one before it.
+#![tactic(auto)]
+
 ghost use Rattle.std.specs.Prelude.{◌≡◌, ◌++◌, length};
 ghost use Rattle.vpg.specs.Runs.{entries};
 ghost use Rattle.sets_theory.specs.believed.Sets.{choice_count};
@@ -24,7 +26,7 @@ use service::Opened;
 use tables::{Head, Table};
 
 // A piece of the listing: how many bytes of the listing stand before its end, how many of them are its own, and whether another is to follow.
-#[derive(Drop)]
+#[derive(Clone, Copy)]
 pub struct Piece {
     pub end: usize,
     pub length: usize,

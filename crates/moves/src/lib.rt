@@ -1,4 +1,6 @@
 // Over one position: whether a rule for a nonterminal can stand there, the smallest that can, and where a rule leads.
+#![tactic(auto)]
+
 ghost use Rattle.std.specs.Prelude.{◌≡◌, ◌<◌, length, get_or, set};
 ghost use Rattle.level_theory.specs.Walk.{inner, later};
 ghost use Rattle.tables.specs.Table.{rule_from, rule_in};

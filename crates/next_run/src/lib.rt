@@ -1,4 +1,6 @@
 // The next reading: backward the last position at which a larger rule still leads to a reading, then forward the first run from there.
+#![tactic(auto)]
+
 ghost use Rattle.std.specs.Prelude.{◌≡◌, ◌<◌, ◌≤◌, length};
 ghost use Rattle.listing_model.specs.believed.Listing.{next, over_entries};
 ghost use Rattle.listing_model.specs.Calls.{call_on};
@@ -13,7 +15,7 @@ use levels::{Closes, Masks, Nonterminals};
 use tables::{Head, Table};
 
 // The position and the rule found, or nothing.
-#[derive(Drop)]
+#[derive(Clone, Copy)]
 pub enum Found {
     At(usize, usize),
     Nothing,
@@ -57,7 +59,7 @@ pub fn last_position(
 }
 
 // Where a reading leaves another: the position, the rule there, and the nonterminal behind each close.
-#[derive(Drop)]
+#[derive(Clone, Copy)]
 pub struct Branch {
     pub position: usize,
     pub rule: usize,
@@ -99,7 +101,7 @@ fn rewrite(
 }
 
 // A reading was written, there is no further one, or the buffer holds no reading.
-#[derive(Drop)]
+#[derive(Clone, Copy)]
 pub enum NextAnswer {
     Written,
     NoFurther,

@@ -1,4 +1,6 @@
 // Bytes to numbers: one number at a place of a file, of three bytes at most, and a number that must stay below a limit.
+#![tactic(auto)]
+
 ghost use Rattle.std.specs.Prelude.{◌≡◌, ◌<◌, ◌≤◌, ◌/◌, ◌%◌, length};
 ghost use Rattle.numbers.specs.believed.Number.{with_group, number_within, number_at};
 ghost use Rattle.numbers.specs.Written.{shortest};
@@ -6,14 +8,14 @@ ghost use Rattle.numbers.specs.Refusals.{refusal_of_number, refusal_of_field};
 ghost use Rattle.numbers.specs.believed.Field.{field_at, count_at};
 
 // What reading a number finds: the number and the place after it, or document 01's number of the refusal.
-#[derive(Drop)]
+#[derive(Clone, Copy)]
 pub enum NumberRead {
     Number(u32, usize),
     Refused(u8),
 }
 
 // A number that is below its limit, and the place after it; or the refusal.
-#[derive(Drop)]
+#[derive(Clone, Copy)]
 pub enum FieldRead {
     Field(u16, usize),
     Refused(u8),

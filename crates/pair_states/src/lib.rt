@@ -1,5 +1,7 @@
 // States of pairs of nonterminals (Definition 4.1 of the paper) as 32 words, and their derivatives by a token (Definition 4.2).
 // Digit L1 of word L2 is 1 where the pair (L1, L2), of context and current nonterminal, is in the state.
+#![tactic(auto)]
+
 ghost use Rattle.std.specs.Prelude.{◌≡◌, cond, [], ◌<◌};
 ghost use Rattle.std.specs.Int.Bits.{bit_or};
 ghost use Rattle.pair_theory.specs.Pairs.{PairState, single, over_return, derivative};

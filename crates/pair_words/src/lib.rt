@@ -1,5 +1,7 @@
 // The 32 words of a pair state over a token: word L is the set of the contexts in which L is current, a digit to a context.
 // Only the rules of the token's class are looked at, once each; a rule of another name in the class is passed over.
+#![tactic(auto)]
+
 ghost use Rattle.std.specs.Prelude.{◌≡◌, ◌&&◌, ◌<◌, eqb, length, replicate};
 ghost use Rattle.bits.specs.Bit.{bit};
 ghost use Rattle.laws.specs.Any.{any_below};

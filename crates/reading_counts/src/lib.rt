@@ -1,4 +1,6 @@
 // The services reading count, reading count at a position, and reading k, over the two files as bytes.
+#![tactic(auto)]
+
 ghost use Rattle.std.specs.Prelude.{◌≡◌, ◌+◌, ◌<◌, length};
 ghost use Rattle.vpg.specs.Runs.{entries};
 ghost use Rattle.capped.specs.Capped.{cap, value};
@@ -18,7 +20,7 @@ use service::{Opened, Outcome};
 use tables::{Head, Table};
 
 // How many readings, exactly up to 2^64 - 1; that there are more; or document 01's number of the refusal.
-#[derive(Drop)]
+#[derive(Clone, Copy)]
 pub enum ReadingCount {
     Exact(u64),
     Over,

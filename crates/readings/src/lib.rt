@@ -1,4 +1,6 @@
 // The services first reading and next reading, over the two files as bytes.
+#![tactic(auto)]
+
 ghost use Rattle.std.specs.Prelude.{◌≡◌, ◌<◌, length};
 ghost use Rattle.listing_model.specs.believed.Listing.{first, next, over_entries};
 ghost use Rattle.listing_model.specs.Calls.{call_on};
@@ -17,7 +19,7 @@ use tables::{Head, Table};
 
 // What first reading and next reading answer: a reading was written, there is none, there is no further one, or document 01's number
 // of the refusal.
-#[derive(Drop)]
+#[derive(Clone, Copy)]
 pub enum Answer {
     Written,
     NoReading,

@@ -1,4 +1,6 @@
 // A buffer gone over as a reading: the nonterminal at each position and behind each close, or that the buffer holds no reading.
+#![tactic(auto)]
+
 ghost use Rattle.std.specs.Prelude.{◌≡◌, true, ◌&&◌, suc, ◌<◌, ltb, length, take};
 ghost use Rattle.tables.specs.Table.{rule_in};
 ghost use Rattle.tables.specs.Ready.{rules_of, grammar_in};
@@ -13,7 +15,7 @@ use levels::{Closes, Masks, Nonterminals};
 use tables::{Head, Table};
 
 // Whether the buffer holds a reading, the nonterminal at each position, and the nonterminal behind each close.
-#[derive(Drop)]
+#[derive(Clone, Copy)]
 pub struct Replayed {
     pub ok: bool,
     pub at: Nonterminals,

@@ -1,4 +1,6 @@
 // The services' answers as C sees them: one number, or a struct with the number and the counts or the length.
+#![tactic(auto)]
+
 ghost use Rattle.std.specs.Prelude.{◌≡◌};
 ghost use Rattle.files.specs.believed.Checks.{grammar_said, history_said};
 ghost use Rattle.service.specs.believed.Given.{outcome_said};
@@ -18,7 +20,7 @@ use writers::WriteAnswer;
 
 // 0 and the counts of an accepted grammar; or the number of the refusal, and zeros.
 #[repr(C)]
-#[derive(Drop)]
+#[derive(Clone, Copy)]
 pub struct GrammarReply {
     pub answer: u8,
     pub stages: u16,
@@ -27,7 +29,7 @@ pub struct GrammarReply {
 
 // 0 and the number of tokens; or the number of the refusal, and 0.
 #[repr(C)]
-#[derive(Drop)]
+#[derive(Clone, Copy)]
 pub struct HistoryReply {
     pub answer: u8,
     pub tokens: u16,
@@ -35,7 +37,7 @@ pub struct HistoryReply {
 
 // 0 and the number of choices; or the number of the refusal, and 0.
 #[repr(C)]
-#[derive(Drop)]
+#[derive(Clone, Copy)]
 pub struct CountReply {
     pub answer: u8,
     pub count: u32,
@@ -43,7 +45,7 @@ pub struct CountReply {
 
 // 0 and the number of readings; 102 and 0 where there are more than 2^64 - 1; or the number of the refusal, and 0.
 #[repr(C)]
-#[derive(Drop)]
+#[derive(Clone, Copy)]
 pub struct ReadingsReply {
     pub answer: u8,
     pub count: u64,
@@ -51,7 +53,7 @@ pub struct ReadingsReply {
 
 // Where a part of a file starts, and how many bytes it has; zeros where it is refused.
 #[repr(C)]
-#[derive(Drop)]
+#[derive(Clone, Copy)]
 pub struct PartReply {
     pub start: usize,
     pub length: usize,
@@ -59,7 +61,7 @@ pub struct PartReply {
 
 // 0 and the length of the file that was written; or the number of the refusal, and 0.
 #[repr(C)]
-#[derive(Drop)]
+#[derive(Clone, Copy)]
 pub struct WriteReply {
     pub answer: u8,
     pub length: usize,

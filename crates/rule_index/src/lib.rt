@@ -1,5 +1,7 @@
 // The index of a table: the rules that can stand at a token, in rising order, and the empty rules of each nonterminal.
 // It stands behind the table's rules, so that it goes wherever they go.
+#![tactic(auto)]
+
 ghost use Rattle.std.specs.Prelude.{◌≡◌, ◌<◌, ◌≤◌, length, take};
 ghost use Rattle.vpg.specs.believed.Grammar.{left};
 ghost use Rattle.tables.specs.Table.{rule_in};

@@ -1,4 +1,6 @@
 // The set of rules at a position: in words, the sum by which two rules for one nonterminal are told, and the nonterminals that follow.
+#![tactic(auto)]
+
 ghost use Rattle.std.specs.Prelude.{◌≡◌, ◌*◌, ◌<◌, ◌≤◌, length, replicate};
 ghost use Rattle.bits.specs.Bit.{bit};
 ghost use Rattle.vpg.specs.believed.Grammar.{left};
@@ -18,7 +20,7 @@ use vpg::Rule;
 // What the set at a position says: the sum of 2^L over its rules, L being the nonterminal that a rule is for, the nonterminals at the next
 // position and those behind the close. As a word the nonterminals of the rules are the sum of 2^L over each of them once, so the two are
 // equal exactly where no two rules are for one nonterminal. A rule costs one addition and no look at the others.
-#[derive(Drop)]
+#[derive(Clone, Copy)]
 pub struct Ways {
     pub sum: u64,
     pub next: u32,

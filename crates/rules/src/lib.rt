@@ -1,4 +1,6 @@
 // Reads one rule of a grammar file: one pair of numbers to a function, each of which ends in a call of the next.
+#![tactic(auto)]
+
 ghost use Rattle.std.specs.Prelude.{◌≡◌, ◌≤◌};
 ghost use Rattle.numbers.specs.believed.Number.{number_at};
 ghost use Rattle.rules.specs.Refusals.{refusal_of_pair, refusal_of_rule};
@@ -14,14 +16,14 @@ const NAMES: u32 = 65536;
 const FORMS: u32 = 3;
 
 // A rule and the place after it, or document 01's number of the refusal.
-#[derive(Drop)]
+#[derive(Clone, Copy)]
 pub enum RuleRead {
     Read(Rule, usize),
     Refused(u8),
 }
 
 // Two numbers one after the other, each below its limit, and the place after them; or the refusal.
-#[derive(Drop)]
+#[derive(Clone, Copy)]
 pub enum PairRead {
     Pair(u16, u16, usize),
     Refused(u8),

@@ -1,5 +1,7 @@
 // The opening of every service over the two files: both are read into lent arrays, the grammar first, the rules are indexed, and the buffer
 // is measured. Then the service goes by what the opening found, or hands on the number of the refusal.
+#![tactic(auto)]
+
 ghost use Rattle.std.specs.Prelude.{◌≤◌, ◌≡◌, replicate};
 ghost use Rattle.service.specs.believed.Opened.{files_in};
 ghost use Rattle.service.specs.Opening.{OpenedIs, HistoryOpened, refusal_of};
@@ -9,14 +11,14 @@ use history_file::{HistoryAnswer, TokenNumbers};
 use tables::{Head, Table};
 
 // What a service that only writes answers: it is done, or document 01's number of the refusal.
-#[derive(Drop)]
+#[derive(Clone, Copy)]
 pub enum Outcome {
     Done,
     Refused(u8),
 }
 
 // Both files pass and the buffer has room: the head of the grammar and the number of tokens. Or document 01's number of the refusal.
-#[derive(Drop)]
+#[derive(Clone, Copy)]
 pub enum Opened {
     Files(Head, usize),
     Refused(u8),

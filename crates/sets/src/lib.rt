@@ -1,4 +1,6 @@
 // The services sets and choice count, over the two files as bytes.
+#![tactic(auto)]
+
 ghost use Rattle.std.specs.Prelude.{◌≡◌, ◌++◌, ◌+◌, ◌*◌, ◌≤◌, length, drop};
 ghost use Rattle.sets_theory.specs.believed.Sets.{set_words, choice_count};
 ghost use Rattle.tables.specs.Ready.{grammar_in};
@@ -11,7 +13,7 @@ use service::Opened;
 use tables::{Head, Table};
 
 // How many positions are choices, or document 01's number of the refusal.
-#[derive(Drop)]
+#[derive(Clone, Copy)]
 pub enum CountAnswer {
     Count(u32),
     Refused(u8),

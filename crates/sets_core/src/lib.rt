@@ -1,4 +1,6 @@
 // The cores of sets and of the choice count: one pass from left to right over the positions.
+#![tactic(auto)]
+
 ghost use Rattle.std.specs.Prelude.{◌≡◌, ◌++◌, ◌+◌, ◌*◌, ◌<◌, ◌≤◌, ltb, length, drop, get_or, set};
 ghost use Rattle.std.specs.Int.Bits.{bit_or};
 ghost use Rattle.sets_theory.specs.believed.Sets.{one, choice_count, set_words};

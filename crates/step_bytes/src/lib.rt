@@ -1,5 +1,7 @@
 // The bytes of one step: the part of a history file from an open's first byte through its close's last byte (document 02, 2.1).
 // One search for the place of the part; two services, one that hands the part back and one that says why there is none.
+#![tactic(auto)]
+
 ghost use Rattle.std.specs.Prelude.{◌≡◌, ◌&&◌, ◌+◌, ◌≤◌, eqb, ltb, length, get_or};
 ghost use Rattle.std.proofs.Math.Option.{some};
 ghost use Rattle.numbers.specs.Written.{written};
@@ -10,21 +12,21 @@ ghost use Rattle.step_bytes.specs.Places.{ended, placed};
 use history_file::HistoryAnswer;
 
 // How many tokens a step has; or that its close is missing.
-#[derive(Drop)]
+#[derive(Clone, Copy)]
 pub enum StepEnd {
     Tokens(usize),
     Nothing,
 }
 
 // The first byte of a step in the file, and how many there are; or the number of the refusal.
-#[derive(Drop)]
+#[derive(Clone, Copy)]
 pub enum StepPlace {
     Part(usize, usize),
     Refused(u8),
 }
 
 // There is a step at the position; or the number of the refusal.
-#[derive(Drop)]
+#[derive(Clone, Copy)]
 pub enum StepCheck {
     Found,
     Refused(u8),

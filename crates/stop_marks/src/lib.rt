@@ -1,4 +1,6 @@
 // The service stop marks, over the two files as bytes.
+#![tactic(auto)]
+
 ghost use Rattle.std.specs.Prelude.{◌≡◌};
 ghost use Rattle.service.specs.believed.Given.{outcome_said};
 ghost use Rattle.stop_marks.specs.believed.StopMarks.{marks_due};

@@ -1,5 +1,7 @@
 // Stop marks (document 01, "Readings"): which beginnings of the tokens have a reading, by the pair states of Definition 4.2 of the paper.
 // One pass from left to right. The states before and after a token are two arrays that take turns: the 32 words are copied at an open alone.
+#![tactic(auto)]
+
 ghost use Rattle.std.specs.Prelude.{◌≡◌, cond, ◌++◌, ◌+◌, ◌<◌, ◌≤◌, length, drop};
 ghost use Rattle.pair_theory.specs.Depth.{Shallow};
 ghost use Rattle.sets_theory.specs.believed.Sets.{one, stop_marks};

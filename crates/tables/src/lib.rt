@@ -1,4 +1,6 @@
 // Rules as a table of numbers, six to a rule, in file order: what the layers above work on.
+#![tactic(auto)]
+
 ghost use Rattle.std.specs.Prelude.{◌≡◌, ◌&&◌, ◌*◌, ◌≤◌, ◌<◌};
 ghost use Rattle.vpg.specs.believed.Grammar.{left};
 ghost use Rattle.vpg.specs.Forms.{form_of, name_of};
@@ -12,7 +14,7 @@ pub type Table = [u16; 1412];
 
 // What a grammar file says before its rules: how many nonterminals there are, how many of them, the first ones, are well matched, the start, and
 // how many rules.
-#[derive(Drop)]
+#[derive(Clone, Copy)]
 pub struct Head {
     pub nonterminals: u16,
     pub well: u16,
@@ -21,7 +23,7 @@ pub struct Head {
 }
 
 // A rule as six numbers: the form, the fields in file order, and zeros.
-#[derive(Drop)]
+#[derive(Clone, Copy)]
 pub struct Six(pub u16, pub u16, pub u16, pub u16, pub u16, pub u16);
 
 // The form of a rule that takes the token alone: 1 for a mark; 3 for an open and 4 for a close, which no file has yet.

@@ -1,6 +1,8 @@
 // Runs the checks on every case of the file cases.bin and prints a line for each: its label and the answer.
 // A case is four bytes (0 for a grammar, 1 for a history; the label's length; the file's length, low byte first),
 // then the label and the file.
+#![tactic(auto)]
+
 use files::{GrammarCheck, HistoryCheck};
 use test_packed::{part, two};
 

@@ -5,7 +5,7 @@ ghost use Rattle.std.specs.Prelude.{◌≤◌};
 use test_packed::{four, two};
 
 // What is asked: 0 the count, 1 the count at a position, 2 reading k, 3 whether the counts add up at each position, 4 every reading.
-#[derive(Drop)]
+#[derive(Clone, Copy)]
 pub struct Asked {
     pub what: u8,
     pub place: u64,
@@ -13,7 +13,7 @@ pub struct Asked {
 }
 
 // The answer that is due: 0 where the service gives the count or writes the reading, 102 for over, else the number of the refusal; and the count.
-#[derive(Drop)]
+#[derive(Clone, Copy)]
 pub struct Due {
     pub number: u8,
     pub count: u64,

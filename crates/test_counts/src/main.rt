@@ -1,5 +1,7 @@
 // Holds the services of reading_counts to every case of cases.bin: a line for each disagreement, then how many cases there were.
 // A case: its head, the label, the grammar, the history, the buffer before the call, and the same after it.
+#![tactic(auto)]
+
 mod answers;
 mod head;
 mod listed;

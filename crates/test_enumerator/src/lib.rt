@@ -1,5 +1,7 @@
 // A plain enumerator of readings, kept for testing: it fills the positions from left to right, tries the rules in their order, and goes
 // back where none fits. It shares nothing with the services: no sets of nonterminals, no matching positions, a reader of its own.
+#![tactic(auto)]
+
 mod list;
 mod written;
 
@@ -10,7 +12,7 @@ pub use list::{at, byte, put};
 pub use written::{rule_numbers, rules_of, token_count, tokens_of};
 
 // What a search comes to: the path is a reading, there is no further one, or the limit of turns was reached.
-#[derive(Drop)]
+#[derive(Clone, Copy)]
 pub enum Found {
     Reading,
     NoReading,
@@ -18,7 +20,7 @@ pub enum Found {
 }
 
 // A search under way: how many positions are filled, the first rule to try at the next one, and whether all has been tried.
-#[derive(Drop)]
+#[derive(Clone, Copy)]
 struct Turn {
     filled: usize,
     from: u8,

@@ -1,5 +1,7 @@
 // Writes the listing of every case: those of cases.bin in one piece each, those of random.bin in pieces of 4,096 bytes.
 // A case is four bytes (the grammar's length and the history's, low byte first), then the grammar and the history, the first 4,096 bytes of each.
+#![tactic(auto)]
+
 use test_packed::{part, two};
 
 // Writes the listing in pieces of 65,536 bytes: in one piece, since no case has more.

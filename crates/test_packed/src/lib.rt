@@ -1,4 +1,6 @@
 // Reads a packed file of test cases, in which the lengths of a case's parts stand before the parts.
+#![tactic(auto)]
+
 ghost use Rattle.std.specs.Prelude.{◌≡◌, ◌+◌, ◌*◌};
 ghost use Rattle.io.specs.Counts.{IsPrefixLen};
 

@@ -1,6 +1,8 @@
 // Holds the services of step_bytes to every case of the file cases.bin: a line for each disagreement, and at the end how many cases there were.
 // A case is 16 bytes (the position in eight; the number of the refusal that is due, 0 where there is a step; the label's length; then in two
 // bytes each the first byte of the part that is due, how many there are, and the history's length; low bytes first), then label and history.
+#![tactic(auto)]
+
 use step_bytes::{StepCheck, StepPlace};
 use test_packed::{four, part, two};
 
@@ -12,7 +14,7 @@ fn eight(low: u32, high: u32) -> usize {
 }
 
 // The answer that is due: the number of the refusal, 0 where there is a step; the part's first byte, and how many there are.
-#[derive(Drop)]
+#[derive(Clone, Copy)]
 struct Due {
     number: u8,
     start: usize,

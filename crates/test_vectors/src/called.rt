@@ -6,7 +6,7 @@ use crate::entries::Entries;
 use service::Outcome;
 
 // The plain listing's state: the place behind the entry in the list, 0 for no entry; and its last answer.
-#[derive(Drop)]
+#[derive(Clone, Copy)]
 struct State {
     behind: usize,
     answer: u8,

@@ -1,6 +1,8 @@
 // Runs the services on every case of cases.bin, compares them with the plain enumerator, and writes a line for each case.
 // A case is 13 bytes: the number that is due (0: both files pass), what to do (1: show what is found, 2: compare the marks), then two
 // bytes each, low byte first: how many bytes of readings to list, the lengths of label, grammar, history, buffer; one for the calls.
+#![tactic(auto)]
+
 mod called;
 mod choices;
 mod compare;
@@ -55,7 +57,7 @@ fn compare_short(grammar: &[u8], history: &[u8], rules: &[u32], tokens: &[u32], 
 }
 
 // What is shown of a case, and for how many bytes of readings there is room.
-#[derive(Drop)]
+#[derive(Clone, Copy)]
 struct Wanted {
     what: u8,
     limit: u16,

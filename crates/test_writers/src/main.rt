@@ -1,6 +1,8 @@
 // Holds both writers to every case of cases.bin: a line for each disagreement, then how many cases there were. A case: 0 for a grammar or 1 for
 // a history, the number of the refusal due or 0, the label's length; in two bytes each, low byte first, the length due, the sizes of elements and
 // buffer; then label, elements (four bytes each, low byte first), the buffer before the call, and after it.
+#![tactic(auto)]
+
 ghost use Rattle.std.specs.Prelude.{◌≡◌, ◌+◌, ◌*◌, ◌≤◌, length};
 
 use test_packed::{four, part, two};
@@ -12,7 +14,7 @@ const OUT: i32 = libc::STDOUT_FILENO;
 const MOST: usize = 5000;
 
 // The answer that is due: the number of the refusal, 0 where the file is written; and the file's length.
-#[derive(Drop)]
+#[derive(Clone, Copy)]
 struct Due {
     number: u8,
     length: usize,

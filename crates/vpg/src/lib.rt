@@ -1,18 +1,20 @@
 // The symbols and rules of a visibly pushdown grammar. Definitions and theorems about them stand in specs/ and proofs/.
+#![tactic(auto)]
+
 ghost use Rattle.std.specs.Prelude.{◌≡◌, eqb};
 
 // Names of marks, opens and closes: three separate alphabets (document 01, "Tokens, stages, rules").
-#[derive(Drop)]
+#[derive(Clone, Copy)]
 pub struct MarkName(pub u16);
 
-#[derive(Drop)]
+#[derive(Clone, Copy)]
 pub struct OpenName(pub u16);
 
-#[derive(Drop)]
+#[derive(Clone, Copy)]
 pub struct CloseName(pub u16);
 
 // A terminal: document 01's mark, open and close are the plain, call and return symbols of the field.
-#[derive(Drop)]
+#[derive(Clone, Copy)]
 pub enum Token {
     Mark(MarkName),
     Open(OpenName),
@@ -21,7 +23,7 @@ pub enum Token {
 
 // A rule for the nonterminal that comes first: the forms (1), (2) and (3) of the paper's Definition 2.2. Form (2) takes one token alone: a mark
 // is document 01's form 1; an open or a close, which no file can hold yet, is a pending one.
-#[derive(Drop)]
+#[derive(Clone, Copy)]
 pub enum Rule {
     Empty(u16),
     Next(u16, Token, u16),

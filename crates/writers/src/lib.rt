@@ -1,6 +1,8 @@
 // Writers for both files: from the numbers of a file, one element each, the bytes into a lent buffer, and how many there are (document 02,
 // 2.2). The elements are encoded beside the buffer and judged by the reader itself, so that a refusal writes nothing. A grammar is always
 // written with its start (2.3).
+#![tactic(auto)]
+
 ghost use Rattle.std.specs.Prelude.{◌≡◌, ◌++◌, ◌+◌, ◌<◌, ◌≤◌, length, take, drop};
 ghost use Rattle.grammar_file.specs.believed.GrammarFile.{grammar_of};
 ghost use Rattle.history_file.specs.believed.HistoryFile.{history_of};
@@ -12,7 +14,7 @@ ghost use Rattle.writers.specs.believed.Writers.{write_said, filled, grammar_fil
 use files::{GrammarCheck, HistoryCheck};
 
 // The length of the file that stands in the buffer; or document 01's number of the refusal.
-#[derive(Drop)]
+#[derive(Clone, Copy)]
 pub enum WriteAnswer {
     Written(usize),
     Refused(u8),
