@@ -91,7 +91,7 @@ pub record Instead (g : Rules) (w : List Token) (L : ℕ) (s : Stack) (e : List 
 one_for : (g : Rules) (r K L : ℕ) → For g r K → For g r L → K ≡ L
 one_for g r K L (R, e, q) (R', e', q') = sym q ∙ ap left (some-injective R R' (sym e ∙ e')) ∙ q'
 
--- W: the well_matched nonterminals are those below it
+-- W: the well-matched nonterminals are those below it
 module _ (W : ℕ) (g : Rules) (ok : General W g) where
   -- at the first position, where both run from the same nonterminal
   instead_here : (w : List Token) (L : ℕ) (s : Stack) (e : List ℕ) (s' : Stack) (f : List ℕ) (r : ℕ) → Calm W L s → Calm W L s' →
@@ -111,7 +111,7 @@ module _ (W : ℕ) (g : Rules) (ok : General W g) where
       record { numbers = k.number ∷ x; run = rw its.from at (step.take g w k.is way.goes run); before = refl; at = rw k.shape at b }
 
   -- a rule that some run has at a position can stand there in any other that has a rule of the same nonterminal there: what it needs is decided
-  -- within its level, or, for a nonterminal that is no well_matched one, within all that is left, and what is due behind the level stays as it was
+  -- within its level, or, for a nonterminal that is no well-matched one, within all that is left, and what is due behind the level stays as it was
   pub instead : (w : List Token) (L : ℕ) (s : Stack) (e : List ℕ) (L' : ℕ) (s' : Stack) (f : List ℕ) (p r r' K : ℕ) → Calm W L s → Calm W L' s' →
       Memᴰ e (runs g (L, s) w) → Memᴰ f (runs g (L', s') w) → get_elem? e p ≡ some r → get_elem? f p ≡ some r' → For g r K → For g r' K → Instead g w L s e p r'
   instead w L s e L' s' f zero r r' K c c' m m' a b x y =

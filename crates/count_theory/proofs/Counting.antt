@@ -16,7 +16,7 @@ use Rattle.vpg.specs.declared.Rule.{Rule}
 use Rattle.vpg.specs.declared.Token.{Token}
 use Rattle.vpg.specs.believed.Grammar.{Rules, Plain, InForm, General, left}
 use Rattle.vpg.specs.Runs.{Stack, State, only, move, ends, collect, once, follow, runs}
-use Rattle.vpg.specs.Tests.{is_open_lem, is_close, same_token}
+use Rattle.vpg.specs.Tests.{is_open, is_close, same_token}
 use Rattle.vpg.proofs.Take.{moved}
 use Rattle.vpg.proofs.Tests.{same_is}
 use Rattle.level_theory.specs.Masks.{floor, alone, tail, outer, Calm}
@@ -138,7 +138,7 @@ other : (R : Rule) (L : ℕ) (s : Stack) (t : Token) → eqb (left R) L ≡ fals
 other (Rule.Empty M) L [] t e = refl
 other (Rule.Empty M) L (d ∷ s) t e = rw (e, and-false (is_close d.0 t))
 other (Rule.Next M i M₁) L s t e = rw (e, and-false (same_token i t))
-other (Rule.Step M a M₁ b M₂) L s t e = rw (e, and-false (is_open_lem a t))
+other (Rule.Step M a M₁ b M₂) L s t e = rw (e, and-false (is_open a t))
 
 module _ (W : ℕ) (m : Levels) where
   closed : (M : ℕ) (s : Stack) (t : Token) → Calm W M s → ahead W m (move (Rule.Empty M) M s t) ≡ continuations_at W m t (Rule.Empty M) * weight W M s (outer t m)

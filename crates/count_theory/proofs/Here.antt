@@ -12,14 +12,14 @@ use Rattle.vpg.specs.declared.CloseName.{CloseName}
 use Rattle.vpg.specs.declared.Rule.{Rule}
 use Rattle.vpg.specs.declared.Token.{Token}
 use Rattle.vpg.specs.believed.Grammar.{Rules, left}
-use Rattle.vpg.specs.Tests.{is_open_lem, same_token}
+use Rattle.vpg.specs.Tests.{is_open, same_token}
 use Rattle.level_theory.specs.Masks.{Nonterminals, Masks, floor, alone, applies, finishes, lefts, tail, outer, masks}
 use Rattle.level_theory.specs.Masks as mask
-use Rattle.level_theory.specs.Pending.{Closes, pending_at, close_of_lem}
-use Rattle.level_theory.specs.Walk.{test_at_lem}
+use Rattle.level_theory.specs.Pending.{Closes, pending_at, close_of}
+use Rattle.level_theory.specs.Walk.{test_at}
 use Rattle.level_theory.proofs.Pending.{drop-next, outer_levels, masks-outer}
 use Rattle.count_theory.specs.Allowed.{Allowed}
-use Rattle.count_theory.specs.Counts.{Counts, Outer, Levels, given, onto, behind, continuations_at, continuations_end, sum, sum_for, over, counts, next_outer, parts, counts_at, worth}
+use Rattle.count_theory.specs.Counts.{Counts, Outer, Levels, given, onto, behind, continuations_at, continuations_end, sum, sum_for, counts, next_outer, parts, counts_at, worth}
 use Rattle.count_theory.proofs.Counting.{given-zero, sum_same}
 
 -- ── counts beside masks ──
@@ -88,7 +88,7 @@ module _ (W : ℕ) (k : Masks) (m : Levels) (c : CoversAll k m) (t : Token) wher
       go true true q = onto_dead (ltb M W) (floor W k.1) k.0 m.0 c.0 M₁ q
       go true false q = refl
       go false a q = refl
-  none_dead (Rule.Step M a M₁ b M₂) q = go (is_open_lem a t) q
+  none_dead (Rule.Step M a M₁ b M₂) q = go (is_open a t) q
     where
       both : (x y : Bool) → k.0 M₁ ≡ x → mask.behind (ltb M W) W k.1 b M₂ ≡ y → (x && y) ≡ false → m.0 M₁ * behind (ltb M W) W m.1 b M₂ ≡ 0
       both true true e f q = absurd (false≢true (sym q))
@@ -106,8 +106,8 @@ module _ (W : ℕ) (k : Masks) (m : Levels) (c : CoversAll k m) (t : Token) wher
       rw (and_left (same_token i t) _ q, and_left (alone i (ltb M W)) _ h, ← same)
       (onto_live (ltb M W) (floor W k.1) k.0 m.0 M₁ (and_right (alone i (ltb M W)) _ h) ∙ sym (mul-one _))
   parts_live (Rule.Step M a M₁ b M₂) q =
-      let i = and_right (is_open_lem a t) _ q in
-      rw (and_left (is_open_lem a t) _ q, behind_live (ltb M W) W k.1 m.1 c.1 b M₂ (and_right (k.0 M₁) _ i))
+      let i = and_right (is_open a t) _ q in
+      rw (and_left (is_open a t) _ q, behind_live (ltb M W) W k.1 m.1 c.1 b M₂ (and_right (k.0 M₁) _ i))
 
 -- ── all tokens ──
 
@@ -164,16 +164,16 @@ counts-outer ok W g w p = outer_levels (λ q v. counts ok W g q v) (λ q. refl) 
 module _ (ok : Allowed) (W : ℕ) (g : Rules) (w : List Token) (p : ℕ) where
   -- the counts behind the first pending close
   abbrev Beyond : Counts
-  Beyond = counts_at ok W g w (suc (close_of_lem (pending_at w (suc p)) (length w)))
+  Beyond = counts_at ok W g w (suc (close_of (pending_at w (suc p)) (length w)))
 
   abbrev Behind : Levels
   Behind = counts ok W g (suc p) (drop (suc p) w)
 
   -- a step that can stand at the token has its close first among the pending ones
   first_close : (t : Token) (M : ℕ) (a : OpenName) (M₁ : ℕ) (b : CloseName) (M₂ : ℕ) → applies W (masks W g (drop (suc p) w)) t (Rule.Step M a M₁ b M₂) ≡ true → next_outer Behind.1 M₂ ≡ Beyond M₂
-  first_close t M a M₁ b M₂ q = rw (counts-outer ok W g w (suc p)) (go (pending_at w (suc p)) (rw (masks-outer W g w (suc p)) at (and_right ((masks W g (drop (suc p) w)).0 M₁) _ (and_right (is_open_lem a t) _ q))))
+  first_close t M a M₁ b M₂ q = rw (counts-outer ok W g w (suc p)) (go (pending_at w (suc p)) (rw (masks-outer W g w (suc p)) at (and_right ((masks W g (drop (suc p) w)).0 M₁) _ (and_right (is_open a t) _ q))))
     where
-      go : (l : Closes) → mask.behind (ltb M W) W (map (λ d. (d.0, (masks W g (drop (suc d.1) w)).0)) l) b M₂ ≡ true → next_outer (map (λ d. (d.0, counts_at ok W g w (suc d.1))) l) M₂ ≡ counts_at ok W g w (suc (close_of_lem l (length w))) M₂
+      go : (l : Closes) → mask.behind (ltb M W) W (map (λ d. (d.0, (masks W g (drop (suc d.1) w)).0)) l) b M₂ ≡ true → next_outer (map (λ d. (d.0, counts_at ok W g w (suc d.1))) l) M₂ ≡ counts_at ok W g w (suc (close_of l (length w))) M₂
       go [] e = absurd (false≢true e)
       go (d ∷ l) e = refl
 
@@ -184,7 +184,7 @@ module _ (ok : Allowed) (W : ℕ) (g : Rules) (w : List Token) (p : ℕ) where
 
   -- what a rule counts for at a token
   pub worth_token : (t : Token) (v : List Token) → drop p w ≡ t ∷ v → (R : Rule) → continuations_at W Behind t R ≡ worth ok W g w p R
-  unfolding test_at_lem
+  unfolding test_at
   worth_token t v e R = rw (e, ← (drop-next w p e)) (go (applies W (masks W g (drop (suc p) w)) t R) refl)
     where
       go : (b : Bool) → applies W (masks W g (drop (suc p) w)) t R ≡ b → continuations_at W Behind t R ≡ given b (parts Behind.0 Beyond R)
@@ -193,7 +193,7 @@ module _ (ok : Allowed) (W : ℕ) (g : Rules) (w : List Token) (p : ℕ) where
 
   -- and where no token is left
   pub worth_end : drop p w ≡ [] → (R : Rule) → continuations_end R ≡ worth ok W g w p R
-  unfolding test_at_lem
+  unfolding test_at
   worth_end e (Rule.Empty M) = rw e
   worth_end e (Rule.Next M i M₁) = rw e
   worth_end e (Rule.Step M a M₁ b M₂) = rw e

@@ -1,9 +1,9 @@
 -- Counts of readings with some rule at some position, and of all readings.
 use Prim.Native.Nat.{ℕ, zero, suc, ◌+◌, ◌<◌, ◌≤◌}
-use native.Mathlib.Nat.{add-suc, suc-add, add-zero, zero-add}
+use native.Mathlib.Nat.{add-zero, zero-add}
 use native.Mathlib.Decide.{ℕ_discrete}
 use native.Mathlib.Omega.{arith}
-use mathlib.Core.Path.{◌≡◌, refl, sym, ◌∙◌, ap, ap₂}
+use mathlib.Core.Path.{◌≡◌, refl, sym, ◌∙◌, ap, ap₂, subst}
 use mathlib.Core.Logic.{◌⊎◌, inl, inr, ◌≢◌}
 use mathlib.Core.Bool.{Bool, true, false, and-true}
 use mathlib.Core.List.{List, [], ◌∷◌, Memᴰ}
@@ -18,7 +18,7 @@ use Rattle.vpg.specs.Runs.{entries}
 use Rattle.vpg.proofs.Entries.{entry_length}
 use Rattle.vpg.proofs.Sound.{entries_readings}
 use Rattle.sets_theory.specs.believed.Sets.{one}
-use Rattle.sets_theory.specs.KeptTest.{stands_at_lem}
+use Rattle.sets_theory.specs.KeptTest.{stands_at}
 use Rattle.sets_theory.proofs.Sets.{kept_below}
 use Rattle.count_theory.specs.believed.CountAt.{tally, count_at, sum_below}
 use Rattle.count_theory.specs.Allowed.{passes, alone_at}
@@ -37,13 +37,17 @@ passes_before p r q [] h = refl
 passes_before p r q (x ∷ e) h = rw (ne_eqb q p (λ i. omega (arith, i))) (passes_before p r (suc q) e (omega arith))
 
 -- otherwise the number there is r
-passes-from : (r i q : ℕ) (e : List ℕ) → i < length e → passes (alone_at (q + i) r) q e ≡ stands_at_lem e i r
+passes-from : (r i q : ℕ) (e : List ℕ) → i < length e → passes (alone_at (q + i) r) q e ≡ stands_at e i r
 passes-from r i q [] h = absurd (omega arith)
-passes-from r zero q (x ∷ e) h = rw (add-zero q, eq-eqb q q refl, passes-behind q r (suc q) e (omega arith)) (and-true (eqb x r))
+passes-from r zero q (x ∷ e) h =
+    subst (λ (p : ℕ). passes (alone_at p r) q (x ∷ e) ≡ stands_at (x ∷ e) 0 r) (sym (add-zero q))
+    (rw (eq-eqb q q refl, passes-behind q r (suc q) e (omega arith)) (and-true (eqb x r)))
 passes-from r (suc i) q (x ∷ e) h =
-    rw (ne_eqb q (q + suc i) (λ j. omega (arith, j)), add-suc q i) (rw (suc-add q i) at (passes-from r i (suc q) e (omega arith)))
+    let moved : suc q + i ≡ q + suc i = omega arith in
+    rw (ne_eqb q (q + suc i) (λ j. omega (arith, j)))
+    (subst (λ (p : ℕ). passes (alone_at p r) (suc q) e ≡ stands_at e i r) moved (passes-from r i (suc q) e (omega arith)))
 
-pub passes_at : (p r : ℕ) (e : List ℕ) → p < length e → passes (alone_at p r) 0 e ≡ stands_at_lem e p r
+pub passes_at : (p r : ℕ) (e : List ℕ) → p < length e → passes (alone_at p r) 0 e ≡ stands_at e p r
 passes_at p r e h = rw (zero-add p) at (passes-from r p 0 e h)
 
 -- ── tallies ──
@@ -67,12 +71,12 @@ one_most false = omega arith
 -- no count is above that of all
 pub count_most : (l : List (List ℕ)) (p r : ℕ) → count_at l p r ≤ length l
 count_most [] p r = omega arith
-count_most (e ∷ l) p r = omega (arith, one_most (stands_at_lem e p r), count_most l p r)
+count_most (e ∷ l) p r = omega (arith, one_most (stands_at e p r), count_most l p r)
 
 module _ (g : Grammar) (w : List Token) (p r : ℕ) where
   -- with rule r alone at position p, the entries that pass are those that have it there
   pub with_rule : p ≤ length w → tally (passes (alone_at p r) 0) (entries g w) ≡ count_at (entries g w) p r
-  with_rule h = tally-same (passes (alone_at p r) 0) (λ e. stands_at_lem e p r) (entries g w) (λ e m. passes_at p r e (omega (arith, entry_length g w e m)))
+  with_rule h = tally-same (passes (alone_at p r) 0) (λ e. stands_at e p r) (entries g w) (λ e m. passes_at p r e (omega (arith, entry_length g w e m)))
 
   -- a position behind the last one asks for nothing
   pub with-any : length w < p → tally (passes (alone_at p r) 0) (entries g w) ≡ length (entries g w)
@@ -114,17 +118,17 @@ below_same f h (suc n) p = ap₂ ◌+◌ (below_same f h n p) (p n)
 pub record Placed (e : List ℕ) (p n : ℕ) : Type 0 where
   pub number : ℕ
   pub below : number < n
-  pub stands : (r : ℕ) → stands_at_lem e p r ≡ eqb number r
+  pub stands : (r : ℕ) → stands_at e p r ≡ eqb number r
 
 add_up : (p n : ℕ) (l : List (List ℕ)) → ((e : List ℕ) → Memᴰ e l → Placed e p n) → sum_below n (count_at l p) ≡ length l
 add_up p n [] h = below_none n (λ r. 0) (λ r l. refl)
 add_up p n (e ∷ l) h =
     let k = h e (Memᴰ.head refl) in
-    below_both (λ r. one (stands_at_lem e p r)) (count_at l p) n
-    ∙ rw (below_same (λ r. one (stands_at_lem e p r)) (λ r. one (eqb k.number r)) n (λ r. ap one (k.stands r)), below_one k.number n k.below, add_up p n l (λ d m. h d (Memᴰ.tail m)))
+    below_both (λ r. one (stands_at e p r)) (count_at l p) n
+    ∙ rw (below_same (λ r. one (stands_at e p r)) (λ r. one (eqb k.number r)) n (λ r. ap one (k.stands r)), below_one k.number n k.below, add_up p n l (λ d m. h d (Memᴰ.tail m)))
     (omega arith)
 
-stands_is : (e : List ℕ) (p x : ℕ) → get_elem? e p ≡ some x → (r : ℕ) → stands_at_lem e p r ≡ eqb x r
+stands_is : (e : List ℕ) (p x : ℕ) → get_elem? e p ≡ some x → (r : ℕ) → stands_at e p r ≡ eqb x r
 stands_is [] p x h r = absurd (none-ne-some x h)
 stands_is (y ∷ e) zero x h r = ap (λ (z : ℕ). eqb z r) (some-injective y x h)
 stands_is (y ∷ e) (suc p) x h r = stands_is e p x h r
@@ -141,4 +145,4 @@ module _ (g : Grammar) (w : List Token) (p : ℕ) (h : p ≤ length w) where
 
   -- a number that is no rule's stands nowhere
   pub no_such_rule : (r : ℕ) → length g.rules ≤ r → count_at (entries g w) p r ≡ 0
-  no_such_rule r k = tally-none (λ e. stands_at_lem e p r) (entries g w) (λ e m. let x = placed e m in x.stands r ∙ ne_eqb x.number r (λ q. omega (arith, x.below, q)))
+  no_such_rule r k = tally-none (λ e. stands_at e p r) (entries g w) (λ e m. let x = placed e m in x.stands r ∙ ne_eqb x.number r (λ q. omega (arith, x.below, q)))

@@ -1,5 +1,5 @@
 -- How many derivations of what is ahead there are from each nonterminal, computed from right to left: of the rest of the level from the
--- well_matched ones, those below W, and of all that is left from the others.
+-- well-matched ones, those below W, and of all that is left from the others.
 -- Law: tally-runs (count_theory/proofs/Counting.antt)
 -- Law: counts_here (count_theory/proofs/Here.antt)
 use Rattle.std.specs.Prelude.{ℕ, suc, ◌+◌, ◌*◌, Bool, true, false, ◌&&◌, List, [], ◌∷◌, eqb, ltb, leb, length, drop}
@@ -10,10 +10,10 @@ use Rattle.vpg.specs.declared.Token.{Token}
 use Rattle.vpg.specs.believed.Grammar.{Rules, left}
 use Rattle.vpg.specs.Parts.{onward, beyond}
 use Rattle.vpg.specs.Runs.{Stack}
-use Rattle.vpg.specs.Tests.{is_open_lem, any_close, same_token}
+use Rattle.vpg.specs.Tests.{is_open, any_close, same_token}
 use Rattle.level_theory.specs.Masks.{floor, alone, finishes, outer}
-use Rattle.level_theory.specs.Pending.{pending_at, close_of_lem}
-use Rattle.level_theory.specs.Walk.{test_at_lem}
+use Rattle.level_theory.specs.Pending.{pending_at, close_of}
+use Rattle.level_theory.specs.Walk.{test_at}
 use Rattle.count_theory.specs.Allowed.{Allowed}
 
 -- a number for each nonterminal
@@ -32,7 +32,7 @@ abbrev pub given : Bool → ℕ → ℕ
 given true n = n
 given false n = 0
 
--- the counts of those with which a rule may go on. low: the rule is for a well_matched nonterminal; otherwise they are to derive all that is left,
+-- the counts of those with which a rule may go on. low: the rule is for a well-matched nonterminal; otherwise they are to derive all that is left,
 -- which are those from n on
 abbrev pub onto : Bool → ℕ → Counts → Counts
 onto true n x L = x L
@@ -43,12 +43,12 @@ abbrev pub behind : Bool → ℕ → Outer → CloseName → Counts
 behind low W [] b L = 0
 behind low W (d ∷ ms) b L = given (eqb b.0 d.0.0) (onto low (floor W ms) d.1 L)
 
--- in how many ways can R, standing at the token, be gone on with: for each part of its right side any derivation; low: is R for a well_matched
+-- in how many ways can R, standing at the token, be gone on with: for each part of its right side any derivation; low: is R for a well-matched
 -- nonterminal; inside: the counts behind the token, after b: those behind its close, which is b
 abbrev pub continuations : Bool → (Bool → Counts) → (Bool → CloseName → Counts) → Token → Rule → ℕ
 continuations low inside after t (Rule.Empty M) = given (low && any_close t) 1
 continuations low inside after t (Rule.Next M i M₁) = given (same_token i t) (given (alone i low) (inside low M₁))
-continuations low inside after t (Rule.Step M a M₁ b M₂) = given (is_open_lem a t) (inside true M₁ * after low b M₂)
+continuations low inside after t (Rule.Step M a M₁ b M₂) = given (is_open a t) (inside true M₁ * after low b M₂)
 
 -- m: the counts behind the token
 abbrev pub continuations_at : ℕ → Levels → Token → Rule → ℕ
@@ -90,7 +90,7 @@ part_of x (some M) = x M
 abbrev pub parts : Counts → Counts → Rule → ℕ
 parts inside after R = part_of inside (onward R) * part_of after (beyond R)
 
--- the product of the counts of the levels that are due below L; where a close is ahead, something is due exactly when L is a well_matched one
+-- the product of the counts of the levels that are due below L; where a close is ahead, something is due exactly when L is a well-matched one
 abbrev pub weight : ℕ → ℕ → Stack → Outer → ℕ
 weight W L [] [] = 1
 weight W L [] (m ∷ ms) = given (leb W L) 1
@@ -109,4 +109,4 @@ counts_at ok W g w p = (counts ok W g p (drop p w)).0
 
 -- what a rule counts for at position p: 0 where it can't stand there
 abbrev pub worth : Allowed → ℕ → Rules → List Token → ℕ → Rule → ℕ
-worth ok W g w p R = given (test_at_lem W g (drop p w) R) (parts (counts_at ok W g w (suc p)) (counts_at ok W g w (suc (close_of_lem (pending_at w (suc p)) (length w)))) R)
+worth ok W g w p R = given (test_at W g (drop p w) R) (parts (counts_at ok W g w (suc p)) (counts_at ok W g w (suc (close_of (pending_at w (suc p)) (length w)))) R)

@@ -1,5 +1,5 @@
 -- Whether some element of a list, or some number below a bound, passes a test.
--- Law: any-some, some-any, below_some, some-below (laws/proofs/Any.antt)
+-- Law: any_some, some-any, below_some, some_below (laws/proofs/Any.antt)
 use Rattle.std.specs.Prelude.{ℕ, zero, suc, Bool, false, ◌||◌, List, [], ◌∷◌}
 
 abbrev pub any : {A : Type 0} → (A → Bool) → List A → Bool

@@ -9,7 +9,7 @@ use mathlib.Core.List.Memᴰ
 use mathlib.Core.List.{List, [], ◌∷◌, Memᴰ}
 use mathlib.Core.Option.{some}
 use borrow.Author.Tests.{eqb-true, eq-eqb, ltb-true, ltb-false, lt-ltb, le-ltb, le-leb, leb-true}
-use lib.Dec.{eqb, ltb, leb}
+use lib.Dec.{eqb, ltb}
 use lib.ListN.{get_elem?}
 use Rattle.laws.proofs.Any.{any_some, some-any}
 use Rattle.vpg.specs.declared.CloseName.{CloseName}
@@ -17,7 +17,7 @@ use Rattle.vpg.specs.declared.Rule.{Rule}
 use Rattle.vpg.specs.declared.Token.{Token}
 use Rattle.vpg.specs.believed.Grammar.{Rules, Plain, InForm, General, left}
 use Rattle.vpg.specs.Runs.{Stack, runs}
-use Rattle.vpg.specs.Tests.{is_open_lem, same_token}
+use Rattle.vpg.specs.Tests.{is_open, same_token}
 use Rattle.laws.proofs.Bools.{and_left, and_right, both}
 use Rattle.vpg.proofs.Take.{Move, by_empty, by_next, by_step, taken, take, ended, end}
 use Rattle.vpg.proofs.Tests.{name_close, same_is, same_refl, open_is, any_close_is, if_empty_lem}
@@ -84,7 +84,7 @@ fits_on W M K [] x (d ∷ ms) h c f =
 fits_on W M K (e ∷ s) x [] h c f = absurd f.1
 fits_on W M K (e ∷ s) x (d ∷ ms) h c f = record { passes = rw (lt-ltb M W c.0) f.0; match = (c.0, f.1.1, f.1.2, f.1.3) }
 
--- with no well_matched nonterminal nothing is due
+-- with no well-matched nonterminal nothing is due
 high_match : (W M : ℕ) (s : Stack) (ms : Outer) → W ≤ M → Match W M s ms → s ≡ []
 high_match W M [] ms l f = refl
 high_match W M (d ∷ s) [] l f = absurd f
@@ -98,7 +98,7 @@ match_high : (W M : ℕ) (ms : Outer) → W ≤ M → Match W M [] ms
 match_high W M [] l = tt
 match_high W M (m ∷ ms) l = l
 
--- a rule that takes an open or a close alone is for none of the well_matched nonterminals
+-- a rule that takes an open or a close alone is for none of the well-matched nonterminals
 pub alone_high : (W M : ℕ) → (M < W → ⊥) → W ≤ M
 alone_high W M h = go (dec_lt M W)
   where
@@ -144,8 +144,8 @@ applies_goes W m t (Rule.Next M i M₁) s ok f q =
     (λ f. next_goes W m M i M₁ s ok f (and_right (same_token i t) _ q))
     f
 applies_goes W m t (Rule.Step M a M₁ b M₂) s ok f q =
-    let h = and_right (is_open_lem a t) (m.0 M₁ && behind (ltb M W) W m.1 b M₂) q in
-    subst (λ (t : Token). Match W M s (outer t m) → Goes W m (Rule.Step M a M₁ b M₂) M s t) (open_is a t (and_left (is_open_lem a t) _ q))
+    let h = and_right (is_open a t) (m.0 M₁ && behind (ltb M W) W m.1 b M₂) q in
+    subst (λ (t : Token). Match W M s (outer t m) → Goes W m (Rule.Step M a M₁ b M₂) M s t) (open_is a t (and_left (is_open a t) _ q))
     (λ f. record { nonterminal = M₁; due = (b, M₂) ∷ s; goes = by_step; fits = (and_left (m.0 M₁) _ h, fit m.1 f (and_right (m.0 M₁) _ h)) })
     f
   where

@@ -15,15 +15,15 @@ use Rattle.laws.specs.Any.{any}
 use Rattle.vpg.specs.declared.CloseName.{CloseName}
 use Rattle.vpg.specs.declared.Rule.{Rule}
 use Rattle.vpg.specs.declared.Token.{Token}
-use Rattle.vpg.specs.believed.Grammar.{Rules, Grammar, Plain, InForm, General, left}
+use Rattle.vpg.specs.believed.Grammar.{Rules, Grammar, InForm, General, left}
 use Rattle.vpg.specs.Runs.{Stack, runs, entries}
 use Rattle.sets_theory.specs.KeptTest.{kept}
 use Rattle.laws.proofs.Bools.{and_left, and_right, or_cases, both, same_test}
 use Rattle.sets_theory.proofs.Sets.{kept_entry}
 use Rattle.vpg.proofs.Take.{Move, by_empty, by_next, by_step, moved, moves, Taken, taken, take, ended, end}
 use Rattle.level_theory.specs.Masks.{Nonterminals, Outer, floor, onto, applies, masks, Calm, Match, Fits}
-use Rattle.level_theory.specs.Pending.{Closes, rest, pending_over, pending_at, close_of_lem}
-use Rattle.level_theory.specs.Walk.{test_at_lem}
+use Rattle.level_theory.specs.Pending.{Closes, rest, pending_over, pending_at, close_of}
+use Rattle.level_theory.specs.Walk.{test_at}
 use Rattle.level_theory.specs.Kept.{keeps, goes_to, returns_to, going, returning, passed, Reached, Behind, Returns, Front}
 use Rattle.level_theory.proofs.Alive.{lefts-some, all-fits, fits_all, high_calm, alone_high, applies_goes, goes_applies, calm_on, ends_empty, run_fits, fits_run}
 use Rattle.level_theory.proofs.Pending.{From, rest_in, pending-from, drop-next, pending_next, masks-outer}
@@ -123,11 +123,11 @@ module _ (W : ℕ) (g : Grammar) (ok : General W g.rules) (w : List Token) where
     due : Stack
     is : get_elem? G r ≡ some rule
     reached : Reached W g w p (left rule) due
-    passes : test_at_lem W G (drop p w) rule ≡ true
+    passes : test_at W G (drop p w) rule ≡ true
 
   -- a rule that can stand begins a run
-  begins : (v : List Token) (r : ℕ) (R : Rule) (s : Stack) → get_elem? G r ≡ some R → Fits W (left R) s (masks W G v) → test_at_lem W G v R ≡ true → (e : List ℕ) × Memᴰ (r ∷ e) (runs G (left R, s) v)
-  unfolding masks test_at_lem
+  begins : (v : List Token) (r : ℕ) (R : Rule) (s : Stack) → get_elem? G r ≡ some R → Fits W (left R) s (masks W G v) → test_at W G v R ≡ true → (e : List ℕ) × Memᴰ (r ∷ e) (runs G (left R, s) v)
+  unfolding masks test_at
   begins [] r R [] i f q = ([], end G (ends_empty G (left R) r (record { rule = R; is = i; from = refl; passes = q })))
   begins [] r R (d ∷ s) i f q = absurd f.1
   begins (t ∷ v) r R s i f q =
@@ -140,10 +140,10 @@ module _ (W : ℕ) (g : Grammar) (ok : General W g.rules) (w : List Token) where
     rule : Rule
     is : get_elem? G r ≡ some rule
     from : left rule ≡ L
-    passes : test_at_lem W G v rule ≡ true
+    passes : test_at W G v rule ≡ true
 
   first : (v : List Token) (L : ℕ) (s : Stack) → Calm W L s → (r : ℕ) (e : List ℕ) → Memᴰ (r ∷ e) (runs G (L, s) v) → First v L r
-  unfolding test_at_lem
+  unfolding test_at
   first [] L s c r e m =
       let k = ended G L s (r ∷ e) m in
       record { rule = Rule.Empty L; is = rw (heads k.shape) k.is; from = refl; passes = refl }
@@ -246,23 +246,23 @@ module _ (W p n : ℕ) (l : Closes) (from : From (suc p) l) where
       go [] m h = absurd m
       go (c ∷ l) m h = inr h
 
-  falls_due : {R : Rule} {L : ℕ} {s : Stack} {t : Token} {L' : ℕ} {s' : Stack} → Move R L s t L' s' → Covered s' l → (K : ℕ) → returns_to R K ≡ true → Behind s' l (close_of_lem l n) K
+  falls_due : {R : Rule} {L : ℕ} {s : Stack} {t : Token} {L' : ℕ} {s' : Stack} → Move R L s t L' s' → Covered s' l → (K : ℕ) → returns_to R K ≡ true → Behind s' l (close_of l n) K
   falls_due by_empty m K q = absurd (false≢true q)
   falls_due by_next m K q = absurd (false≢true q)
   falls_due (by_step {L₂} {b} {s}) m K q = go l m
     where
-      go : (l : Closes) → Covered ((b, L₂) ∷ s) l → Behind ((b, L₂) ∷ s) l (close_of_lem l n) K
+      go : (l : Closes) → Covered ((b, L₂) ∷ s) l → Behind ((b, L₂) ∷ s) l (close_of l n) K
       go [] m = absurd m
       go (c ∷ l) m = inl (refl, eqb-true L₂ K q)
 
-  was_due : {R : Rule} {L : ℕ} {s : Stack} {t : Token} {L' : ℕ} {s' : Stack} → InForm W R → Calm W L s → Move R L s t L' s' → (j K : ℕ) → Behind s' l j K → Behind s (pending_over t p l) j K ⊎ ((j ≡ close_of_lem l n) × (returns_to R K ≡ true))
+  was_due : {R : Rule} {L : ℕ} {s : Stack} {t : Token} {L' : ℕ} {s' : Stack} → InForm W R → Calm W L s → Move R L s t L' s' → (j K : ℕ) → Behind s' l j K → Behind s (pending_over t p l) j K ⊎ ((j ≡ close_of l n) × (returns_to R K ≡ true))
   was_due ok c by_empty j K h = inl (inr h)
   was_due ok c (by_next {t = Token.Mark n}) j K h = inl h
   was_due ok c (by_next {L} {t = Token.Open a} {s = s}) j K h = absurd (none_due s l j K (alone_due L s (λ x. (ok x).0) c) h)
   was_due ok c (by_next {L} {t = Token.Close b} {s = s}) j K h = absurd (none_due s l j K (alone_due L s (λ x. (ok x).0) c) h)
   was_due ok c (by_step {L₂} {b} {s}) j K h = go l h
     where
-      go : (l : Closes) → Behind ((b, L₂) ∷ s) l j K → Behind s (rest l) j K ⊎ ((j ≡ close_of_lem l n) × (eqb L₂ K ≡ true))
+      go : (l : Closes) → Behind ((b, L₂) ∷ s) l j K → Behind s (rest l) j K ⊎ ((j ≡ close_of l n) × (eqb L₂ K ≡ true))
       go [] h = absurd h
       go (c ∷ l) (inl h) = inr (sym h.0, eq-eqb L₂ K h.1)
       go (c ∷ l) (inr h) = inl h
@@ -309,8 +309,8 @@ module _ (W : ℕ) (g : Grammar) (ok : General W g.rules) (w : List Token) where
       covers : Covered due l
       reached : Reached W g w (suc p) nonterminal due
 
-    on : (r : ℕ) (R : Rule) (s : Stack) → get_elem? Rs r ≡ some R → Reached W g w p (left R) s → test_at_lem W Rs (drop p w) R ≡ true → On R s
-    unfolding masks test_at_lem
+    on : (r : ℕ) (R : Rule) (s : Stack) → get_elem? Rs r ≡ some R → Reached W g w p (left R) s → test_at W Rs (drop p w) R ≡ true → On R s
+    unfolding masks test_at
     on r R s i a q =
         let k = applies_goes W (masks W Rs (drop (suc p) w)) t R s (ok r R i) (rw tokens at (reached_fits W g ok w p (left R) s a)).1 (rw tokens at q) in
         record {
@@ -340,7 +340,7 @@ module _ (W : ℕ) (g : Grammar) (ok : General W g.rules) (w : List Token) where
       next : On rule s
 
     ahead : (L : ℕ) (s : Stack) → Reached W g w p L s → Ahead L s
-    unfolding masks test_at_lem
+    unfolding masks test_at
     ahead L s a =
         let h = lefts-some (applies W (masks W Rs (drop (suc p) w)) t) Rs L (rw tokens at (reached_fits W g ok w p L s a)).0 in
         record { rule = h.1.rule; next = on h.0 h.1.rule s h.1.is (rw h.1.from a) (rw tokens h.1.passes) }
@@ -352,13 +352,13 @@ module _ (W : ℕ) (g : Grammar) (ok : General W g.rules) (w : List Token) where
       number : ℕ
       is : get_elem? Rs number ≡ some rule
       reached : Reached W g w p (left rule) due
-      passes : test_at_lem W Rs (drop p w) rule ≡ true
+      passes : test_at W Rs (drop p w) rule ≡ true
       fine : InForm W rule
       calm : Calm W (left rule) due
       goes : Move rule (left rule) due t L s
 
     came : (L : ℕ) (s : Stack) → Reached W g w (suc p) L s → Came L s
-    unfolding test_at_lem
+    unfolding test_at
     came L s a =
         let e : a.token ≡ t = heads (sym a.tokens ∙ tokens) in
         let v : Move a.rule a.nonterminal a.due t L s = moved a.rule a.nonterminal a.due t (L, s) (rw e at a.goes) in
@@ -407,10 +407,10 @@ module _ (W : ℕ) (g : Grammar) (ok : General W g.rules) (w : List Token) where
           (from_next W p n l far c.goes)
 
       abbrev Later : ℕ → Nonterminals
-      Later j K = back j K || (eqb j (close_of_lem l n) && returning Keeps Rs K)
+      Later j K = back j K || (eqb j (close_of l n) && returning Keeps Rs K)
 
       back_later : (j K : ℕ) → suc p ≤ j → Later j K ≡ true → Returns W g w (suc p) j K
-      back_later j K le q = ⊎_elim still (λ b. new (eqb-true j (close_of_lem l n) (and_left _ _ b)) (and_right (eqb j (close_of_lem l n)) _ b)) (or_cases (back j K) _ q)
+      back_later j K le q = ⊎_elim still (λ b. new (eqb-true j (close_of l n) (and_left _ _ b)) (and_right (eqb j (close_of l n)) _ b)) (or_cases (back j K) _ q)
         where
           still : back j K ≡ true → Returns W g w (suc p) j K
           still b =
@@ -418,7 +418,7 @@ module _ (W : ℕ) (g : Grammar) (ok : General W g.rules) (w : List Token) where
               let a = (ahead r.nonterminal r.due r.reached).next in
               record { nonterminal = a.nonterminal; due = a.due; reached = a.reached; behind = stays_due W p n l far a.fine a.calm a.goes a.covers j K le (rw (pending_next w p tokens) at r.behind) }
 
-          new : j ≡ close_of_lem l n → returning Keeps Rs K ≡ true → Returns W g w (suc p) j K
+          new : j ≡ close_of l n → returning Keeps Rs K ≡ true → Returns W g w (suc p) j K
           new e b =
               let h = kept_on (λ R. returns_to R K) b in
               record { nonterminal = h.2.nonterminal; due = h.2.due; reached = h.2.reached; behind = rw e (falls_due W p n l far h.2.goes h.2.covers K h.3) }
@@ -428,12 +428,12 @@ module _ (W : ℕ) (g : Grammar) (ok : General W g.rules) (w : List Token) where
           let c = came r.nonterminal r.due r.reached in
           ⊎_elim
           (λ h. rw ((front.returns j K (omega arith)).1 (record { nonterminal = left c.rule; due = c.due; reached = c.reached; behind = rw (pending_next w p tokens) h })))
-          (λ q. rw (both (eq-eqb j (close_of_lem l n) q.0) (came_kept (λ R. returns_to R K) c q.1)) (or-true (back j K)))
+          (λ q. rw (both (eq-eqb j (close_of l n) q.0) (came_kept (λ R. returns_to R K) c q.1)) (or-true (back j K)))
           (was_due W p n l far c.fine c.calm c.goes j K r.behind)
 
       -- at a close only `back p` has what can stand next, at other tokens only the kept rules; only an open has a rule with a close
       pub front_next : (here' : Nonterminals) (back' : ℕ → Nonterminals) → ((K : ℕ) → here' K ≡ (back p K || going Keeps Rs K)) →
-          ((j K : ℕ) → back' j K ≡ (back j K || (eqb j (close_of_lem l n) && returning Keeps Rs K))) → Front W g w (suc p) here' back'
+          ((j K : ℕ) → back' j K ≡ (back j K || (eqb j (close_of l n) && returning Keeps Rs K))) → Front W g w (suc p) here' back'
       front_next here' back' h b = record {
         stands = λ K. (λ q. here_next K (sym (h K) ∙ q), λ k. h K ∙ next_here K k.0 k.1);
         returns = λ j K le. (λ q. back_later j K le (sym (b j K) ∙ q), λ r. b j K ∙ later_back j K le r);

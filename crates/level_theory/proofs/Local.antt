@@ -1,5 +1,5 @@
 -- Readings position by position: runs, the next run and the last one, one position to the left or to the right.
-use Prim.Native.Nat.{ℕ, zero, suc, ◌+◌, ◌<◌, ◌≤◌}
+use Prim.Native.Nat.{ℕ, zero, suc, ◌<◌, ◌≤◌}
 use native.Mathlib.Nat.{eq-or-lt_of_le, le_of_suc-le-suc}
 use native.Mathlib.Omega.{arith}
 use mathlib.Core.Path.{◌≡◌, sym, ◌∙◌}
@@ -18,8 +18,8 @@ use Rattle.vpg.specs.Runs.{Stack, State, move}
 use Rattle.vpg.proofs.Take.{Move, moved, moves, taken}
 use Rattle.vpg.proofs.Take
 use Rattle.level_theory.specs.Masks.{applies, outer, masks, Match, Fits}
-use Rattle.level_theory.specs.Pending.{pending_at, close_of_lem, due_at}
-use Rattle.level_theory.specs.Walk.{Run, test_at_lem, inner}
+use Rattle.level_theory.specs.Pending.{pending_at, close_of, due_at}
+use Rattle.level_theory.specs.Walk.{Run, test_at, inner}
 use Rattle.level_theory.specs.Local.{state_at, LeadsAt, LeadsTo}
 use Rattle.level_theory.proofs.Pending.{calm_due}
 use Rattle.level_theory.proofs.Search.{Leads, None, same_place, first_step, next_keep, next-turn, last_step}
@@ -46,24 +46,24 @@ module _ (W : ℕ) (g : Rules) (w : List Token) (n : ℕ) (f : List ℕ) (p : �
   unfolding masks
   match_at L s h = (rw here at h).1
 
-  test_at : (R : Rule) → test_at_lem W g (drop p w) R ≡ applies W (masks W g (drop (suc p) w)) t R
-  unfolding test_at_lem
-  test_at R = rw here
+  test_at_lem : (R : Rule) → test_at W g (drop p w) R ≡ applies W (masks W g (drop (suc p) w)) t R
+  unfolding test_at
+  test_at_lem R = rw here
 
-  pub none-at : (L : ℕ) (P : ℕ → Type 0) → None (test_at_lem W g (drop p w)) g L P → None (applies W (masks W g (drop (suc p) w)) t) g L P
-  none-at L P d r x k = d r x (record { rule = k.rule; is = k.is; from = k.from; passes = test_at k.rule ∙ k.passes })
+  pub none-at : (L : ℕ) (P : ℕ → Type 0) → None (test_at W g (drop p w)) g L P → None (applies W (masks W g (drop (suc p) w)) t) g L P
+  none-at L P d r x k = d r x (record { rule = k.rule; is = k.is; from = k.from; passes = test_at_lem k.rule ∙ k.passes })
 
-  pub turn : General W g → (L r : ℕ) (R : Rule) → close_of_lem (pending_at w (suc p)) n < length f → Fits W L (Due L) (masks W g (drop p w)) →
-      get_elem? g r ≡ some R → left R ≡ L → test_at_lem W g (drop p w) R ≡ true → Turn L r R
+  pub turn : General W g → (L r : ℕ) (R : Rule) → close_of (pending_at w (suc p)) n < length f → Fits W L (Due L) (masks W g (drop p w)) →
+      get_elem? g r ≡ some R → left R ≡ L → test_at W g (drop p w) R ≡ true → Turn L r R
   turn ok L r R room h i e q =
-      let k = onward W g w p n f R t (drop (suc p) w) (ok r R i) here room (rw e (match_at L (Due L) h)) (sym (test_at R) ∙ q) in
+      let k = onward W g w p n f R t (drop (suc p) w) (ok r R i) here room (rw e (match_at L (Due L) h)) (sym (test_at_lem R) ∙ q) in
       record { is = i; goes = rw e at k.goes; fits = k.fits }
 
   turn_leads : {L r : ℕ} {R : Rule} → Turn L r R → Leads g L (Due L) t (drop (suc p) w) r (Then R).0 (Then R).1
   turn_leads {R = R} k = record { rule = R; is = k.is; goes = k.goes }
 
   -- the first run from p goes by the first rule that passes
-  pub first-turn : General W g → (L r : ℕ) (R : Rule) (e : List ℕ) → Turn L r R → None (test_at_lem W g (drop p w)) g L (λ q. q < r) →
+  pub first-turn : General W g → (L r : ℕ) (R : Rule) (e : List ℕ) → Turn L r R → None (test_at W g (drop p w)) g L (λ q. q < r) →
       Least (Run g (Then R) (drop (suc p) w)) e → Least (Run g (L, Due L) (drop p w)) (r ∷ e)
   first-turn ok L r R e k d h =
       least_at (Due L) (first_step g L (Due L) t (drop (suc p) w) W ok (calm_due W f (pending_at w p) L) r _ _ e (turn_leads k) (none-at L (λ q. q < r) d) h)
@@ -115,7 +115,7 @@ module _ (W : ℕ) (g : Rules) (w : List Token) (at f e : List ℕ) where
         let y : get_or e q 0 ∷ drop (suc q) e ≡ x.number ∷ x.rest = sym head ∙ x.shape in
         rw (tails y) (same_place g S.0 S.1 k.token (drop (suc q) w) leads x (heads y))
 
-    pub last-left : General W g → LastFrom (suc q) → None (test_at_lem W g (drop q w)) g S.0 (λ r. get_or e q 0 < r) → LastFrom q
+    pub last-left : General W g → LastFrom (suc q) → None (test_at W g (drop q w)) g S.0 (λ r. get_or e q 0 < r) → LastFrom q
     last-left ok l d =
         at_tokens (λ v. Last (Run g S v) (drop q e)) w q k.here
         (rw head (last_step g S.0 S.1 k.token (drop (suc q) w) W ok (calm_due W f (pending_at w q) S.0) (get_or e q 0) S'.0 S'.1 (drop (suc q) e) leads l (none-at W g w 0 f q k.token k.here S.0 (λ r. get_or e q 0 < r) d)))
@@ -127,7 +127,7 @@ module _ (W : ℕ) (g : Rules) (w : List Token) (at f e : List ℕ) where
 
     -- the next run from q goes by the next rule that passes
     pub next_here : General W g → (m r : ℕ) (R : Rule) (x : List ℕ) → LastFrom (suc q) → get_or e q 0 < r → Turn W g w m f q k.token k.here S.0 r R →
-        None (test_at_lem W g (drop q w)) g S.0 (λ p. (get_or e q 0 < p) × (p < r)) →
+        None (test_at W g (drop q w)) g S.0 (λ p. (get_or e q 0 < p) × (p < r)) →
         Least (Run g (Then W g w m f q k.token k.here R) (drop (suc q) w)) x → NextFrom q (r ∷ x)
     next_here ok m r R x l lt u d h =
         at_tokens (λ v. Next (Run g S v) (drop q e) (r ∷ x)) w q k.here

@@ -2,7 +2,7 @@
 use Prim.Native.Nat.{ℕ, suc, ◌<◌, ◌≤◌}
 use native.Mathlib.Omega.{arith}
 use mathlib.Core.Path.{◌≡◌, refl, sym, ◌∙◌, ap}
-use mathlib.Core.Bool.{Bool, true, false, cond, false≢true}
+use mathlib.Core.Bool.{Bool, true, false, cond}
 use mathlib.Core.List.{List, [], ◌∷◌, map, Memᴰ}
 use borrow.Author.Tests.{lt-ltb}
 use lib.Dec.{ltb}
@@ -16,24 +16,24 @@ use Rattle.vpg.specs.believed.Grammar.{Rules, InForm, left}
 use Rattle.vpg.specs.Runs.{Stack}
 use Rattle.vpg.proofs.Take.{Move, by_empty, by_next, by_step}
 use Rattle.level_theory.specs.Masks.{Nonterminals, applies, finishes, lefts, outer, masks, Match, Fits}
-use Rattle.level_theory.specs.Pending.{Closes, rest, pending_at, close_of_lem, due_at}
-use Rattle.level_theory.specs.Walk.{test_at_lem, inner, later}
+use Rattle.level_theory.specs.Pending.{Closes, rest, pending_at, close_of, due_at}
+use Rattle.level_theory.specs.Walk.{test_at, inner, later}
 use Rattle.level_theory.proofs.Alive.{Passes, alone_high, applies_goes}
 use Rattle.level_theory.proofs.Pending.{pending_next, close_fresh, masks-outer, due_set, due_high, due_none, due_on}
 
 -- the level of a position holds the nonterminals of the rules that can stand there
-pub level_test : (W : ℕ) (g : Rules) (v : List Token) (L : ℕ) → lefts (test_at_lem W g v) g L ≡ (masks W g v).0 L
-unfolding masks test_at_lem
+pub level_test : (W : ℕ) (g : Rules) (v : List Token) (L : ℕ) → lefts (test_at W g v) g L ≡ (masks W g v).0 L
+unfolding masks test_at
 level_test W g [] L = refl
 level_test W g (t ∷ v) L = refl
 
 -- at the end the rules that can stand are those that finish
-pub passes_end : (W : ℕ) {g : Rules} {L r : ℕ} → Passes (test_at_lem W g []) g L r → Passes finishes g L r
-unfolding test_at_lem
+pub passes_end : (W : ℕ) {g : Rules} {L r : ℕ} → Passes (test_at W g []) g L r → Passes finishes g L r
+unfolding test_at
 passes_end W x = record { rule = x.rule; is = x.is; from = x.from; passes = x.passes }
 
-pub end_passes : (W : ℕ) {g : Rules} {L r : ℕ} → Passes finishes g L r → Passes (test_at_lem W g []) g L r
-unfolding test_at_lem
+pub end_passes : (W : ℕ) {g : Rules} {L r : ℕ} → Passes finishes g L r → Passes (test_at W g []) g L r
+unfolding test_at
 end_passes W x = record { rule = x.rule; is = x.is; from = x.from; passes = x.passes }
 
 module _ (W : ℕ) (g : Rules) (w : List Token) (p n : ℕ) (f : List ℕ) where
@@ -43,7 +43,7 @@ module _ (W : ℕ) (g : Rules) (w : List Token) (p n : ℕ) (f : List ℕ) where
 
   -- the array after rule R at position p
   abbrev pub stored : Rule → List ℕ
-  stored R = set f (close_of_lem Behind n) (later R (get_or f (close_of_lem Behind n) 0))
+  stored R = set f (close_of Behind n) (later R (get_or f (close_of Behind n) 0))
 
   -- an open whose step fits has its close first among the pending ones
   record Closing (b : CloseName) : Type 0 where
@@ -71,12 +71,12 @@ module _ (W : ℕ) (g : Rules) (w : List Token) (p n : ℕ) (f : List ℕ) where
     pub due : s' ≡ due_at W (stored R) Behind L'
 
   -- a store that changes nothing
-  unstored : (s : Stack) (K : ℕ) → s ≡ due_at W f Behind K → s ≡ due_at W (set f (close_of_lem Behind n) (get_or f (close_of_lem Behind n) 0)) Behind K
-  unstored s K q = q ∙ ap (λ (x : List ℕ). due_at W x Behind K) (sym (set-get_or f (close_of_lem Behind n) 0))
+  unstored : (s : Stack) (K : ℕ) → s ≡ due_at W f Behind K → s ≡ due_at W (set f (close_of Behind n) (get_or f (close_of Behind n) 0)) Behind K
+  unstored s K q = q ∙ ap (λ (x : List ℕ). due_at W x Behind K) (sym (set-get_or f (close_of Behind n) 0))
 
   -- where a rule leads is what the array says at the next position
   pub placed : {R : Rule} {L : ℕ} {s : Stack} {t : Token} {v : List Token} {L' : ℕ} {s' : Stack} → InForm W R → Move R L s t L' s' → drop p w ≡ t ∷ v →
-      Fits W L' s' (masks W g (drop (suc p) w)) → close_of_lem Behind n < length f → s ≡ due_at W f (pending_at w p) L → Placed R L' s'
+      Fits W L' s' (masks W g (drop (suc p) w)) → close_of Behind n < length f → s ≡ due_at W f (pending_at w p) L → Placed R L' s'
   placed ok (by_empty {L} {M} {b} {s}) e h room q = go (ltb L W) (q ∙ ap (λ (l : Closes). due_at W f l L) (pending_next w p e))
     where
       go : (low : Bool) → (b, M) ∷ s ≡ cond low ((b, get_or f p 0) ∷ due_at W f Behind (get_or f p 0)) [] → Placed (Rule.Empty L) M s
@@ -95,7 +95,7 @@ module _ (W : ℕ) (g : Rules) (w : List Token) (p n : ℕ) (f : List ℕ) where
       record { next = refl; due = unstored s L₁ (k ∙ due_none W f Level Behind L₁ (rw k at (matching L₁ s h))) }
   placed ok (by_step {L} {L₁} {L₂} {a} {b} {s}) e h room q = record { next = refl; due = go (closing b L₁ L₂ s h) }
     where
-      go : Closing b → (b, L₂) ∷ s ≡ due_at W (set f (close_of_lem Behind n) L₂) Behind L₁
+      go : Closing b → (b, L₂) ∷ s ≡ due_at W (set f (close_of Behind n) L₂) Behind L₁
       go c =
           let k : s ≡ due_at W f c.others L = q ∙ ap (λ (l : Closes). due_at W f l L) (pending_next w p e ∙ ap rest c.is) in
           let u : Match W L₁ ((b, L₂) ∷ s) (map Level (c.close ∷ c.others)) = rw c.is at (matching L₁ ((b, L₂) ∷ s) h) in
@@ -120,7 +120,7 @@ module _ (W : ℕ) (g : Rules) (w : List Token) (p n : ℕ) (f : List ℕ) where
     pub goes : Move R (left R) (due_at W f (pending_at w p) (left R)) t (inner R (get_or f p 0)) (due_at W (stored R) Behind (inner R (get_or f p 0)))
     pub fits : Fits W (inner R (get_or f p 0)) (due_at W (stored R) Behind (inner R (get_or f p 0))) (masks W g (drop (suc p) w))
 
-  pub onward : (R : Rule) (t : Token) (v : List Token) → InForm W R → drop p w ≡ t ∷ v → close_of_lem Behind n < length f →
+  pub onward : (R : Rule) (t : Token) (v : List Token) → InForm W R → drop p w ≡ t ∷ v → close_of Behind n < length f →
       Match W (left R) (due_at W f (pending_at w p) (left R)) (outer t (masks W g (drop (suc p) w))) → applies W (masks W g (drop (suc p) w)) t R ≡ true → Onward R t
   onward R t v ok e room m q =
       let k = applies_goes W (masks W g (drop (suc p) w)) t R (due_at W f (pending_at w p) (left R)) ok m q in

@@ -1,5 +1,5 @@
 -- From left to right: the nonterminals that can stand at a position, those that can stand behind each pending close, and which rules are kept.
--- Law: front-kept (level_theory/proofs/Kept.antt)
+-- Law: front_kept (level_theory/proofs/Kept.antt)
 use Rattle.std.specs.Prelude.{ℕ, zero, suc, ◌≤◌, ◌≡◌, ◌⊎◌, ◌↔◌, Bool, true, false, ◌&&◌, List, [], ◌∷◌, drop}
 use Rattle.std.proofs.Math.Option.{Option, none, some}
 use Rattle.std.proofs.Math.ListN.{get_elem?}
@@ -11,13 +11,13 @@ use Rattle.vpg.specs.Runs.{Stack, move}
 use Rattle.vpg.specs.Parts.{onward, beyond, is_it}
 use Rattle.level_theory.specs.Masks.{Nonterminals, masks, Fits}
 use Rattle.level_theory.specs.Pending.{Closes, pending_at}
-use Rattle.level_theory.specs.Walk.{test_at_lem}
+use Rattle.level_theory.specs.Walk.{test_at}
 
 -- ── one rule ──
 
 -- is R kept before the tokens v, where the nonterminals F can stand
 abbrev pub keeps : ℕ → Rules → List Token → Nonterminals → Rule → Bool
-keeps W g v F R = F (left R) && test_at_lem W g v R
+keeps W g v F R = F (left R) && test_at W g v R
 
 -- does R go on with the nonterminal K
 abbrev pub goes_to : Rule → Nonterminals

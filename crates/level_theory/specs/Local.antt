@@ -1,5 +1,5 @@
 -- A reading, position by position: which nonterminal stands where, and that each rule leads from one position to the next.
--- Law: run-at, next-all (level_theory/proofs/Local.antt)
+-- Law: run_at, next-all (level_theory/proofs/Local.antt)
 use Rattle.std.specs.Prelude.{ℕ, suc, ◌<◌, ◌≡◌, List, ◌∷◌, drop, get_or}
 use Rattle.std.proofs.Math.Option.{some}
 use Rattle.std.proofs.Math.ListN.{get_elem?}

@@ -1,4 +1,4 @@
--- Which nonterminals derive what is ahead, computed from right to left. Of the well_matched ones, those below W, it is the rest of the level; of
+-- Which nonterminals derive what is ahead, computed from right to left. Of the well-matched ones, those below W, it is the rest of the level; of
 -- the others it is all that is left.
 -- Law: alive (level_theory/proofs/Alive.antt)
 use Rattle.std.specs.Prelude.{ℕ, ◌<◌, ◌≤◌, ◌≡◌, Bool, true, false, not, ◌&&◌, List, [], ◌∷◌, eqb, ltb, leb}
@@ -8,7 +8,7 @@ use Rattle.vpg.specs.declared.Rule.{Rule}
 use Rattle.vpg.specs.declared.Token.{Token}
 use Rattle.vpg.specs.believed.Grammar.{Rules, left}
 use Rattle.vpg.specs.Runs.{Stack}
-use Rattle.vpg.specs.Tests.{is_open_lem, any_close, same_token, if_empty}
+use Rattle.vpg.specs.Tests.{is_open, any_close, same_token, if_empty}
 
 -- a set of nonterminals
 abbrev pub Nonterminals : Type 0
@@ -27,7 +27,7 @@ abbrev pub floor : {A : Type 0} → ℕ → List A → ℕ
 floor W [] = 0
 floor W (d ∷ ms) = W
 
--- those with which a rule may go on. low: the rule is for a well_matched nonterminal; otherwise they are to derive all that is left
+-- those with which a rule may go on. low: the rule is for a well-matched nonterminal; otherwise they are to derive all that is left
 abbrev pub onto : Bool → ℕ → Nonterminals → Nonterminals
 onto true n x L = x L
 onto false n x L = x L && leb n L
@@ -37,18 +37,18 @@ abbrev pub behind : Bool → ℕ → Outer → CloseName → Nonterminals
 behind low W [] b L = false
 behind low W (d ∷ ms) b L = eqb b.0 d.0.0 && onto low (floor W ms) d.1 L
 
--- may a rule take the token alone: a rule for a well_matched nonterminal takes no open and no close so
+-- may a rule take the token alone: a rule for a well-matched nonterminal takes no open and no close so
 abbrev pub alone : Token → Bool → Bool
 alone (Token.Mark c) low = true
 alone (Token.Open a) low = not low
 alone (Token.Close b) low = not low
 
--- can R stand at the token; low: is it for a well_matched nonterminal; inside: what it may go on with behind the token, after b: and behind the
+-- can R stand at the token; low: is it for a well-matched nonterminal; inside: what it may go on with behind the token, after b: and behind the
 -- close of a step, which is b
 abbrev pub stands : Bool → (Bool → Nonterminals) → (Bool → CloseName → Nonterminals) → Token → Rule → Bool
 stands low inside after t (Rule.Empty M) = low && any_close t
 stands low inside after t (Rule.Next M i M₁) = same_token i t && (alone i low && inside low M₁)
-stands low inside after t (Rule.Step M a M₁ b M₂) = is_open_lem a t && (inside true M₁ && after low b M₂)
+stands low inside after t (Rule.Step M a M₁ b M₂) = is_open a t && (inside true M₁ && after low b M₂)
 
 -- m: the masks behind the token
 abbrev pub applies : ℕ → Masks → Token → Rule → Bool
@@ -80,13 +80,13 @@ unfoldable pub masks : ℕ → Rules → List Token → Masks
 masks W g [] = (lefts finishes g, [])
 masks W g (t ∷ w) = over W g t (masks W g w)
 
--- while something is due the nonterminal is a well_matched one, at each level
+-- while something is due the nonterminal is a well-matched one, at each level
 abbrev pub Calm : ℕ → ℕ → Stack → Type 0
 Calm W L [] = Unit
 Calm W L (d ∷ s) = (L < W) × Calm W d.1 s
 
 -- each level that is due has the close of the mask at its depth, and a nonterminal of the mask. Where a close is ahead, something is due exactly
--- when the nonterminal L is a well_matched one
+-- when the nonterminal L is a well-matched one
 abbrev pub Match : ℕ → ℕ → Stack → Outer → Type 0
 Match W L [] [] = Unit
 Match W L [] (m ∷ ms) = W ≤ L

@@ -29,12 +29,12 @@ abbrev pub pending_at : List Token → ℕ → Closes
 pending_at w p = pending (drop p w) p
 
 -- the position of the first of them, or n
-abbrev pub close_of_lem : Closes → ℕ → ℕ
-close_of_lem [] n = n
-close_of_lem (d ∷ l) n = d.1
+abbrev pub close_of : Closes → ℕ → ℕ
+close_of [] n = n
+close_of (d ∷ l) n = d.1
 
 -- the stack that an array describes below the nonterminal L: behind the close at position j stands nonterminal f[j]; nothing is due where L is not a
--- well_matched one
+-- well-matched one
 abbrev pub due_at : ℕ → List ℕ → Closes → ℕ → Stack
 due_at W f [] L = []
 due_at W f (d ∷ l) L = cond (ltb L W) ((d.0, get_or f d.1 0) ∷ due_at W f l (get_or f d.1 0)) []

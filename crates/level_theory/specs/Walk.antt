@@ -15,9 +15,9 @@ abbrev pub Run : Rules → State → List Token → List ℕ → Type 0
 Run g s w e = Memᴰ e (runs g s w)
 
 -- can R stand before these tokens
-unfoldable pub test_at_lem : ℕ → Rules → List Token → Rule → Bool
-test_at_lem W g [] R = finishes R
-test_at_lem W g (t ∷ v) R = applies W (masks W g v) t R
+unfoldable pub test_at : ℕ → Rules → List Token → Rule → Bool
+test_at W g [] R = finishes R
+test_at W g (t ∷ v) R = applies W (masks W g v) t R
 
 -- the nonterminal at the next position; d: the one behind the close, where the token is a close
 abbrev pub inner : Rule → ℕ → ℕ

@@ -8,7 +8,7 @@ use mathlib.Core.Option.{some}
 use lib.ListN.{take, drop}
 use Rattle.vpg.specs.believed.Order.{Before, Ascending}
 use Rattle.vpg.specs.Extremes.{Least, Next, Last}
-use Rattle.listing_model.specs.believed.Listing.{written, no_reading, no-further, refused, first, next, over, find}
+use Rattle.listing_model.specs.believed.Listing.{written, no_reading, no_further, refused, first, next, over, find}
 use Rattle.listing_model.specs.Calls.{successor, call_on}
 use Rattle.listing_model.proofs.Find.{same_refl, same-ne, find_none}
 use Rattle.vpg.proofs.Order.{before_irreflexive, before_asymmetric}
@@ -63,7 +63,7 @@ successor-written : (d : List (List ℕ)) (n : ℕ) (buf e : List ℕ) → Ascen
 successor-written [] n buf e p h = absurd (Memᴰ.not-nil h.holds)
 successor-written (f ∷ d) n buf e p h = rw (least-one e f h (head_least f d p))
 
-successor-none : (d : List (List ℕ)) (n : ℕ) (buf : List ℕ) → ((f : List ℕ) → In d f → ⊥) → successor d n buf ≡ (no-further, buf)
+successor-none : (d : List (List ℕ)) (n : ℕ) (buf : List ℕ) → ((f : List ℕ) → In d f → ⊥) → successor d n buf ≡ (no_further, buf)
 successor-none [] n buf h = refl
 successor-none (f ∷ d) n buf h = absurd (h f (Memᴰ.head refl))
 
@@ -85,7 +85,7 @@ next-written l n buf e p m h =
     rw q.is
     (successor-written (drop q.number l) n buf e q.ascends (record { holds = q.later-rest e h.holds.0 h.holds.1; least = λ f x. h.least f (q.rest-later f x) }))
 
-pub next_no_further : (l : List (List ℕ)) (n : ℕ) (buf : List ℕ) → Ascending l → In l (take n buf) → Last (In l) (take n buf) → call_on (over l n) next buf ≡ (no-further, buf)
+pub next_no_further : (l : List (List ℕ)) (n : ℕ) (buf : List ℕ) → Ascending l → In l (take n buf) → Last (In l) (take n buf) → call_on (over l n) next buf ≡ (no_further, buf)
 next_no_further l n buf p m h =
     let q = placed (take n buf) l p m in
     rw q.is (successor-none (drop q.number l) n buf (λ f x. let a = q.rest-later f x in h f a.0 a.1))

@@ -15,7 +15,7 @@ use Rattle.vpg.specs.declared.Token.{Token}
 use Rattle.vpg.specs.believed.Grammar.{Grammar}
 use Rattle.vpg.specs.believed.Order.{Ascending}
 use Rattle.vpg.specs.Runs.{entries}
-use Rattle.listing_model.specs.believed.Listing.{Call, first, next, Answer, written, no-further, Subject, due, over, Shown, find, entry, start, model_first, onward, model, shows, trace, over_entries}
+use Rattle.listing_model.specs.believed.Listing.{Call, first, next, Answer, written, no_further, Subject, due, over, Shown, find, entry, start, model_first, onward, model, shows, trace, over_entries}
 use Rattle.listing_model.specs.Calls.{first_on, successor, next_on, call_on}
 use Rattle.vpg.proofs.Ascends.{entries_ascending}
 use Rattle.vpg.proofs.Entries.{entry_length}
@@ -142,7 +142,7 @@ module _ (l : List (List ℕ)) (n : ℕ) (p : Proper (over l n)) (buf : List ℕ
   gave e = (written, e ++ drop n buf)
 
   abbrev last_one : Answer × List ℕ
-  last_one = (no-further, entry l (length l) ++ drop n buf)
+  last_one = (no_further, entry l (length l) ++ drop n buf)
 
   nexts : (i j : ℕ) → i + j ≡ length l → map (seen (over l n) buf) (trace (model (over l n)) (replicate (suc j) next) (some i)) ≡ map gave (drop i l) ++ (last_one ∷ [])
   nexts i zero q =
@@ -154,7 +154,7 @@ module _ (l : List (List ℕ)) (n : ℕ) (p : Proper (over l n)) (buf : List ℕ
 
   -- "a first reading and m − 1 next ones give all m entries, and the next one after them says no further"
   pub list_all : (j : ℕ) → length l ≡ suc j →
-      trace (call_on (over l n)) (first ∷ replicate (suc j) next) buf ≡ map (λ e. (written, e ++ drop n buf)) l ++ ((no-further, entry l (length l) ++ drop n buf) ∷ [])
+      trace (call_on (over l n)) (first ∷ replicate (suc j) next) buf ≡ map (λ e. (written, e ++ drop n buf)) l ++ ((no_further, entry l (length l) ++ drop n buf) ∷ [])
   list_all j q =
       listing (over l n) p buf (first ∷ replicate (suc j) next)
       ∙ rw (first_one (length l) (start (over l n) buf) (omega arith)) (ap (λ (r : List (Answer × List ℕ)). gave (get_or l 0 []) ∷ r) (nexts 1 j (omega arith)))
@@ -171,5 +171,5 @@ entries-listing g w buf cs = listing (over_entries g w) (entries_proper g w) buf
 
 pub entries-list-all : (g : Grammar) (w : List Token) (buf : List ℕ) (j : ℕ) → length (entries g w) ≡ suc j →
     trace (call_on (over_entries g w)) (first ∷ replicate (suc j) next) buf
-    ≡ map (λ e. (written, e ++ drop (suc (length w)) buf)) (entries g w) ++ ((no-further, entry (entries g w) (length (entries g w)) ++ drop (suc (length w)) buf) ∷ [])
+    ≡ map (λ e. (written, e ++ drop (suc (length w)) buf)) (entries g w) ++ ((no_further, entry (entries g w) (length (entries g w)) ++ drop (suc (length w)) buf) ∷ [])
 entries-list-all g w buf j q = list_all (entries g w) (suc (length w)) (entries_proper g w) buf j q

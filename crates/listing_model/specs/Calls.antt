@@ -2,7 +2,7 @@
 -- Law: subject-listing (calls/proofs/Lists.antt)
 use Rattle.std.specs.Prelude.{ℕ, List, [], ◌∷◌, ◌++◌, take, drop}
 use Rattle.std.proofs.Math.Option.{none, some}
-use Rattle.listing_model.specs.believed.Listing.{Call, first, next, Answer, written, no_reading, no-further, refused, Subject, due, over, Shown, find}
+use Rattle.listing_model.specs.believed.Listing.{Call, first, next, Answer, written, no_reading, no_further, refused, Subject, due, over, Shown, find}
 
 -- "n + 1 bytes written, or none and no byte written"
 abbrev pub first_on : List (List ℕ) → ℕ → List ℕ → Answer × List ℕ
@@ -11,7 +11,7 @@ first_on (e ∷ l) n buf = (written, e ++ drop n buf)
 
 -- "overwritten by its successor, or no further and no byte written"; l: the entries behind the one in the buffer
 abbrev pub successor : List (List ℕ) → ℕ → List ℕ → Answer × List ℕ
-successor [] n buf = (no-further, buf)
+successor [] n buf = (no_further, buf)
 successor (e ∷ l) n buf = (written, e ++ drop n buf)
 
 abbrev pub next_on : Shown → List (List ℕ) → ℕ → List ℕ → Answer × List ℕ

@@ -165,7 +165,7 @@ module _ (W : ℕ) (g : Rules) where
         takes = rw h.tokens (joined (single h.context h.current) T h.context h.current h.level h.others (only_pair h.context h.current) h.derives h.goes);
       }
 
-  -- in the context of no well_matched nonterminal nothing follows
+  -- in the context of no well-matched nonterminal nothing follows
   nothing_due : General W g → (T : PairStack) (L : ℕ) (w : List Token) → W ≤ L → Onward T L w → w ≡ []
   nothing_due form [] L w h o = o
   nothing_due form (d ∷ T) L w h (inl (l, e)) = e
@@ -429,7 +429,7 @@ module _ (g : Grammar) (form : General g.well g.rules) where
           let m = open_to_lem g.nonterminals a x.0 L s.element s.passes in
           let i = rw m.is at s.is in
           let f = form s.number (Rule.Step m.current a L m.close m.next) i in
-          (v.inside_in_lem s.number m.current a L m.close m.next i, λ l. rw (eqb-true L L' (and_left _ _ p)) at l, λ l. absurd (omega (arith, f.0)))
+          (v.inside_in s.number m.current a L m.close m.next i, λ l. rw (eqb-true L L' (and_left _ _ p)) at l, λ l. absurd (omega (arith, f.0)))
   derivative-within v (Token.Close b) x h = go x.1 h.1
     where
       go : (T : PairStack) → Stacked g T → Within g (closed g b x.0 T)
@@ -508,7 +508,7 @@ module _ (g : Grammar) (form : General g.well g.rules) where
   begin-within p = (
     λ L₁ L₂ q.
         let e = eqb-true L₁ g.start (and_left _ _ q) in
-        (rw e p.start_in_lem, λ l. rw (e, ← (eqb-true L₂ g.start (and_right (eqb L₁ g.start) _ q))) at l, λ l. e),
+        (rw e p.start_in, λ l. rw (e, ← (eqb-true L₂ g.start (and_right (eqb L₁ g.start) _ q))) at l, λ l. e),
     tt,
   )
 

@@ -97,7 +97,7 @@ abbrev pub bottom : PairStack → Bool
 bottom [] = true
 bottom (d ∷ T) = false
 
--- is nothing due in the context L: no open is unmatched, or L is no well_matched nonterminal, so that it is no step's inside
+-- is nothing due in the context L: no open is unmatched, or L is no well-matched nonterminal, so that it is no step's inside
 abbrev pub free : Grammar → PairStack → ℕ → Bool
 free g T L = bottom T || leb g.well L
 
@@ -112,11 +112,11 @@ marks_from g x (t ∷ w) = one (accepts g x) ∷ marks_from g (derivative g t x)
 
 -- ── Definition 4.3 ──
 
--- `Takes W g S T w`: (S, T) ⇝ w; W: the well_matched nonterminals are those below it
+-- `Takes W g S T w`: (S, T) ⇝ w; W: the well-matched nonterminals are those below it
 pub data Takes (W : ℕ) (g : Rules) : PairState → PairStack → List Token → Type 0 where
   -- (1) (S, ⊥) ⇝ w: (L₁, L₂) is in S, and L₂ →* w
   at-bottom : {S : PairState} (L₁ : ℕ) {L₂ : ℕ} {w : List Token} {t : Tree} → S L₁ L₂ ≡ true → Derives g L₂ w t → Takes W g S [] w
-  -- (1') the same with any stack, whose opens stay unmatched, where L₁ is no well_matched nonterminal
+  -- (1') the same with any stack, whose opens stay unmatched, where L₁ is no well-matched nonterminal
   at-pending : {S : PairState} {T : PairStack} (L₁ : ℕ) {L₂ : ℕ} {w : List Token} {t : Tree} → W ≤ L₁ → S L₁ L₂ ≡ true → Derives g L₂ w t → Takes W g S T w
   -- (2) (S, [S', ⟨a] · T) ⇝ w₁ b⟩ w₂: (L₃, L₄) is in S, (a) L₄ →* w₁, (b) (L₁, L₂) is in S', L₂ → ⟨a L₃ b⟩ L₅ is a rule, ({(L₁, L₅)}, T) ⇝ w₂
   in_step : {S S' : PairState} {a : OpenName} {T : PairStack} (L₁ r : ℕ) {L₂ L₃ L₄ L₅ : ℕ} {w₁ w₂ : List Token} {b : CloseName} {t : Tree} → S L₃ L₄ ≡ true →
@@ -129,10 +129,10 @@ pub data Takes (W : ℕ) (g : Rules) : PairState → PairStack → List Token �
 -- grammar
 pub record Proper (g : Grammar) : Type 0 where
   pub form : General g.well g.rules
-  pub start_in_lem : g.start < g.nonterminals
-  pub inside_in_lem : (r L : ℕ) (a : OpenName) (L₁ : ℕ) (b : CloseName) (L₂ : ℕ) → get_elem? g.rules r ≡ some (Rule.Step L a L₁ b L₂) → L₁ < g.nonterminals
+  pub start_in : g.start < g.nonterminals
+  pub inside_in : (r L : ℕ) (a : OpenName) (L₁ : ℕ) (b : CloseName) (L₂ : ℕ) → get_elem? g.rules r ≡ some (Rule.Step L a L₁ b L₂) → L₁ < g.nonterminals
 
--- the contexts of every state are nonterminals, "states are subsets of V × V"; in the context of a well_matched one the current one is such, too; a
+-- the contexts of every state are nonterminals, "states are subsets of V × V"; in the context of a well-matched one the current one is such, too; a
 -- context is the start or the first nonterminal of a step's inside, so that of those that aren't well matched only the start is one
 abbrev pub Contexts : Grammar → PairState → Type 0
 Contexts g S = (L₁ L₂ : ℕ) → S L₁ L₂ ≡ true → (L₁ < g.nonterminals) × (L₁ < g.well → L₂ < g.well) × (g.well ≤ L₁ → L₁ ≡ g.start)

@@ -13,7 +13,7 @@ use lib.ListN.{length, take, get_or, get_elem?}
 use Rattle.vpg.specs.declared.Token.{Token}
 use Rattle.vpg.specs.believed.Grammar.{Rules, Grammar, Tree, code, Derives, by_empty, by_next, by_step, Reading}
 use Rattle.vpg.specs.Runs.{entries}
-use Rattle.sets_theory.specs.KeptTest.{stands_at_lem, stands_in, kept}
+use Rattle.sets_theory.specs.KeptTest.{stands_at, stands_in, kept}
 use Rattle.sets_theory.specs.believed.Sets.{Kept, marked, stop_mark, listed, stop_marks}
 use Rattle.laws.proofs.Bools.{or_cases}
 use Rattle.laws.proofs.Lists.{at_cases, at_below}
@@ -22,10 +22,10 @@ use Rattle.vpg.proofs.Sound.{entries_readings}
 
 -- ── sets ──
 
-pub stands_at : (e : List ℕ) (p r : ℕ) → (stands_at_lem e p r ≡ true) ↔ (get_elem? e p ≡ some r)
-stands_at [] p r = (λ h. absurd (false≢true h), λ h. absurd (none-ne-some r h))
-stands_at (x ∷ e) zero r = (λ h. ap some (eqb-true x r h), λ h. eq-eqb x r (some-injective x r h))
-stands_at (x ∷ e) (suc p) r = stands_at e p r
+pub stands_at_lem : (e : List ℕ) (p r : ℕ) → (stands_at e p r ≡ true) ↔ (get_elem? e p ≡ some r)
+stands_at_lem [] p r = (λ h. absurd (false≢true h), λ h. absurd (none-ne-some r h))
+stands_at_lem (x ∷ e) zero r = (λ h. ap some (eqb-true x r h), λ h. eq-eqb x r (some-injective x r h))
+stands_at_lem (x ∷ e) (suc p) r = stands_at_lem e p r
 
 -- some list of l has r at p
 abbrev Stands : List (List ℕ) → ℕ → ℕ → Type 0
@@ -34,8 +34,8 @@ Stands l p r = (e : List ℕ) × Memᴰ e l × (get_elem? e p ≡ some r)
 in_is : (l : List (List ℕ)) (p r : ℕ) → (stands_in l p r ≡ true) ↔ Stands l p r
 in_is [] p r = (λ h. absurd (false≢true h), λ h. absurd (Memᴰ.not-nil h.1))
 in_is (e ∷ l) p r = (
-  λ h. ⊎_elim (λ q. (e, Memᴰ.head refl, (stands_at e p r).0 q)) (λ q. let s = (in_is l p r).0 q in (s.0, Memᴰ.tail s.1, s.2)) (or_cases (stands_at_lem e p r) (stands_in l p r) h),
-  λ h. ⊎_elim (λ q. rw ((stands_at e p r).1 (rw q at h.2))) (λ m. rw ((in_is l p r).1 (h.0, m, h.2)) (or-true (stands_at_lem e p r))) (Memᴰ.cases_cons h.1),
+  λ h. ⊎_elim (λ q. (e, Memᴰ.head refl, (stands_at_lem e p r).0 q)) (λ q. let s = (in_is l p r).0 q in (s.0, Memᴰ.tail s.1, s.2)) (or_cases (stands_at e p r) (stands_in l p r) h),
+  λ h. ⊎_elim (λ q. rw ((stands_at_lem e p r).1 (rw q at h.2))) (λ m. rw ((in_is l p r).1 (h.0, m, h.2)) (or-true (stands_at e p r))) (Memᴰ.cases_cons h.1),
 )
 
 -- "some entry has the rule at that position"

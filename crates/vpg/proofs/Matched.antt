@@ -3,8 +3,6 @@
 use Prim.Native.Nat.{ℕ, ◌<◌}
 use mathlib.Core.Logic.{◌↔◌}
 use mathlib.Core.List.{List, Memᴰ}
-use mathlib.Core.Option.{some}
-use Rattle.vpg.specs.declared.Rule.{Rule}
 use Rattle.vpg.specs.declared.Token.{Token}
 use Rattle.vpg.specs.believed.Grammar.{Rules, Grammar, General, Tree, Derives, by_empty, by_next, by_step, Reading}
 use Rattle.vpg.specs.believed.Matched.{PlainRules, Matched, MatchedReading}
@@ -42,6 +40,6 @@ module _ (W : ℕ) (g : Rules) (ok : General W g) where
   to_well h (by_next {i = Token.Close b} p d) = absurd (ok _ _ p h).0
   to_well h (by_step p d d') = matched.by_step p (to_well (ok _ _ p).0 d) (to_well ((ok _ _ p).1 h) d')
 
-  -- V⁰ is the well_matched nonterminals
+  -- V⁰ is the well-matched nonterminals
   pub well_matched : {L : ℕ} {w : List Token} {t : Tree} → L < W → Derives g L w t ↔ Matched g L w t
   well_matched h = (to_well h, of_matched)

@@ -16,7 +16,7 @@ use Rattle.vpg.specs.declared.Rule.{Rule}
 use Rattle.vpg.specs.declared.Token.{Token}
 use Rattle.vpg.specs.believed.Grammar.{Rules}
 use Rattle.vpg.specs.Runs.{Stack, State, only, move, ends, collect, once, follow, runs}
-use Rattle.vpg.specs.Tests.{is_open_lem, is_close, same_token}
+use Rattle.vpg.specs.Tests.{is_open, is_close, same_token}
 use Rattle.vpg.proofs.Tests.{open_is, close_is, same_is, same_refl, empty_is}
 
 -- ── collect ──
@@ -69,7 +69,7 @@ pub moved : (R : Rule) (L : ℕ) (s : Stack) (t : Token) (y : State) → move R 
 moved (Rule.Empty M) L [] t y p = absurd (none-ne-some y p)
 moved (Rule.Empty M) L (d ∷ s) t y p = let h = only-some (is_close d.0 t) M L _ y p in rw (← h.2, ← h.1, ← close_is d.0 t h.0) by_empty
 moved (Rule.Next M i M₁) L s t y p = let h = only-some (same_token i t) M L _ y p in rw (← h.2, ← h.1, ← same_is i t h.0) by_next
-moved (Rule.Step M a M₁ b M₂) L s t y p = let h = only-some (is_open_lem a t) M L _ y p in rw (← h.2, ← h.1, ← open_is a t h.0) by_step
+moved (Rule.Step M a M₁ b M₂) L s t y p = let h = only-some (is_open a t) M L _ y p in rw (← h.2, ← h.1, ← open_is a t h.0) by_step
 
 only_true : (a b : Bool) (x : State) → a ≡ true → b ≡ true → only (a && b) x ≡ some x
 only_true a b x p q = rw (p, q)

@@ -1,7 +1,7 @@
 -- What a token or a rule that passes a test is.
 use Prim.Native.Nat.{ℕ}
 use mathlib.Core.Path.{◌≡◌, refl, ◌∙◌, ap}
-use mathlib.Core.Bool.{Bool, true, false, false≢true}
+use mathlib.Core.Bool.{Bool, true, false≢true}
 use borrow.Author.Tests.{eqb-true, eq-eqb}
 use lib.Dec.{eqb}
 use Rattle.vpg.specs.declared.MarkName.{MarkName}
@@ -10,7 +10,7 @@ use Rattle.vpg.specs.declared.CloseName.{CloseName}
 use Rattle.vpg.specs.declared.Rule.{Rule}
 use Rattle.vpg.specs.declared.Token.{Token}
 use Rattle.vpg.specs.believed.Grammar.{left}
-use Rattle.vpg.specs.Tests.{is_mark, is_open_lem, is_close, same_token, any_close, if_empty, if_next, if_step}
+use Rattle.vpg.specs.Tests.{is_mark, is_open, is_close, same_token, any_close, if_empty, if_next, if_step}
 
 -- ── names ──
 
@@ -30,7 +30,7 @@ mark_is c (Token.Mark c') q = ap Token.Mark (name_mark (eqb-true _ _ q))
 mark_is c (Token.Open a) q = absurd (false≢true q)
 mark_is c (Token.Close b) q = absurd (false≢true q)
 
-pub open_is : (a : OpenName) (t : Token) → is_open_lem a t ≡ true → Token.Open a ≡ t
+pub open_is : (a : OpenName) (t : Token) → is_open a t ≡ true → Token.Open a ≡ t
 open_is a (Token.Mark c) q = absurd (false≢true q)
 open_is a (Token.Open a') q = ap Token.Open (name_open (eqb-true _ _ q))
 open_is a (Token.Close b) q = absurd (false≢true q)

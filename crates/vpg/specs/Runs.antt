@@ -9,7 +9,7 @@ use Rattle.vpg.specs.declared.CloseName.{CloseName}
 use Rattle.vpg.specs.declared.Rule.{Rule}
 use Rattle.vpg.specs.declared.Token.{Token}
 use Rattle.vpg.specs.believed.Grammar.{Rules, Grammar}
-use Rattle.vpg.specs.Tests.{is_open_lem, is_close, same_token, if_empty}
+use Rattle.vpg.specs.Tests.{is_open, is_close, same_token, if_empty}
 
 -- what is due once the current nonterminal is done: for each open step, innermost first, its close and the nonterminal after it
 abbrev pub Stack : Type 0
@@ -27,7 +27,7 @@ abbrev pub move : Rule → ℕ → Stack → Token → Option State
 move (Rule.Empty M) L [] t = none
 move (Rule.Empty M) L (d ∷ s) t = only (is_close d.0 t && eqb M L) (d.1, s)
 move (Rule.Next M i M₁) L s t = only (same_token i t && eqb M L) (M₁, s)
-move (Rule.Step M a M₁ b M₂) L s t = only (is_open_lem a t && eqb M L) (M₁, (b, M₂) ∷ s)
+move (Rule.Step M a M₁ b M₂) L s t = only (is_open a t && eqb M L) (M₁, (b, M₂) ∷ s)
 
 -- may the tokens end by rule R at nonterminal L with s due
 abbrev pub ends : Rule → ℕ → Stack → Bool

@@ -1,6 +1,6 @@
 -- Tests of tokens and rules, by which the definitions that follow tell them apart: is it this mark, this open, this close; is the rule of this
 -- form, and do its fields pass.
--- Law: mark_is, open-is, close_is, same_is, if_next_lem, if_step_lem (vpg/proofs/Tests.antt)
+-- Law: mark_is, open_is, close_is, same_is, if_next_lem, if_step_lem (vpg/proofs/Tests.antt)
 use Rattle.std.specs.Prelude.{ℕ, Bool, true, false, eqb}
 use Rattle.vpg.specs.declared.MarkName.{MarkName}
 use Rattle.vpg.specs.declared.OpenName.{OpenName}
@@ -15,10 +15,10 @@ is_mark c (Token.Mark c') = eqb c.0 c'.0
 is_mark c (Token.Open a) = false
 is_mark c (Token.Close b) = false
 
-abbrev pub is_open_lem : OpenName → Token → Bool
-is_open_lem a (Token.Mark c) = false
-is_open_lem a (Token.Open a') = eqb a.0 a'.0
-is_open_lem a (Token.Close b) = false
+abbrev pub is_open : OpenName → Token → Bool
+is_open a (Token.Mark c) = false
+is_open a (Token.Open a') = eqb a.0 a'.0
+is_open a (Token.Close b) = false
 
 abbrev pub is_close : CloseName → Token → Bool
 is_close b (Token.Mark c) = false
@@ -28,7 +28,7 @@ is_close b (Token.Close b') = eqb b.0 b'.0
 -- is it this token
 abbrev pub same_token : Token → Token → Bool
 same_token (Token.Mark c) t = is_mark c t
-same_token (Token.Open a) t = is_open_lem a t
+same_token (Token.Open a) t = is_open a t
 same_token (Token.Close b) t = is_close b t
 
 abbrev pub any_close : Token → Bool

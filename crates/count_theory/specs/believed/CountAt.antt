@@ -2,7 +2,7 @@
 -- Clauses: 12.2, 12.3 (docs/SPECIFICATION.md)
 use Rattle.std.specs.Prelude.{ℕ, zero, suc, ◌+◌, Bool, List, [], ◌∷◌}
 use Rattle.sets_theory.specs.believed.Sets.{one}
-use Rattle.sets_theory.specs.KeptTest.{stands_at_lem}
+use Rattle.sets_theory.specs.KeptTest.{stands_at}
 
 -- how many of the lists pass a test
 abbrev pub tally : (List ℕ → Bool) → List (List ℕ) → ℕ
@@ -11,7 +11,7 @@ tally f (e ∷ l) = one (f e) + tally f l
 
 -- "the count of readings with that rule there": rule r at position p
 abbrev pub count_at : List (List ℕ) → ℕ → ℕ → ℕ
-count_at l p r = tally (λ e. stands_at_lem e p r) l
+count_at l p r = tally (λ e. stands_at e p r) l
 
 -- "these counts add up": f 0 + .. + f (n - 1)
 abbrev pub sum_below : ℕ → (ℕ → ℕ) → ℕ

@@ -12,7 +12,7 @@ pub data Call : Type 0 where
 
 -- a reading written, "none", "no further", or the number of a refusal
 pub data Answer : Type 0 where
-  written no_reading no-further : Answer
+  written no_reading no_further : Answer
   refused : ℕ → Answer
 
 -- `due k`: a file, or the buffer, is refused by k. `over l n`: both files pass, the buffer is long enough, and the entries are l, of n numbers each
@@ -68,7 +68,7 @@ model_first (suc m) s = (written, some 1)
 -- is k below m
 abbrev pub onward : Bool → ℕ → Answer × Shown
 onward true k = (written, some (suc k))
-onward false k = (no-further, some k)
+onward false k = (no_further, some k)
 
 -- "with no entry, 16. With k below m, k grows by 1 and the answer is a reading written. With k = m, no further, and k stays"
 abbrev pub model_next : ℕ → Shown → Answer × Shown

@@ -19,7 +19,7 @@ left (Rule.Empty L) = L
 left (Rule.Next L i L₁) = L
 left (Rule.Step L a L₁ b L₂) = L
 
--- (V, Σ, P, L₀) of the paper: V is the numbers below `nonterminals` (document 01: stages), V⁰, the well_matched ones, those below `well`, P the
+-- (V, Σ, P, L₀) of the paper: V is the numbers below `nonterminals` (document 01: stages), V⁰, the well-matched ones, those below `well`, P the
 -- rules, L₀ the start
 pub record Grammar : Type 0 where
   pub nonterminals : ℕ

@@ -1,4 +1,4 @@
--- Definition 2.1 of the paper, well_matched grammars: no rule takes an open or a close alone. Document 01's files say such grammars.
+-- Definition 2.1 of the paper, well-matched grammars: no rule takes an open or a close alone. Document 01's files say such grammars.
 -- Law: matched_readings, entries_matched (vpg/proofs/Matched.antt)
 -- Clauses: 2.1, 2.2, 2.4, 2.5, 3.1, 3.2 (docs/SPECIFICATION.md)
 use Rattle.std.specs.Prelude.{ℕ, ◌≡◌, List, [], ◌∷◌, ◌++◌}
