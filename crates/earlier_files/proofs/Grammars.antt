@@ -18,7 +18,7 @@ use Rattle.numbers.proofs.Written.{apart as unread, group_read}
 use Rattle.vpg.specs.believed.Grammar.{Grammar}
 use Rattle.grammar_file.specs.believed.GrammarFile.{accepted, refused, either}
 use Rattle.grammar_file.proofs.Accepted.{apart}
-use Rattle.earlier_files.specs.TwoBytes.{two_bytes_lem}
+use Rattle.earlier_files.specs.TwoBytes.{two_bytes}
 use Rattle.earlier_files.specs.NarrowGrammar.{without_start_narrow, with_start_narrow, grammar_narrow}
 use Rattle.earlier_files.specs.GrammarBefore.{grammar_before}
 
@@ -50,5 +50,5 @@ first_byte (n ∷ ns) next e = go (ltb n 128) (chose_first (ltb 0 (length (n ∷
         let (high, is, some, worth) = group_read (n - 128) (number_within 1 (n ∷ ns) (0 + 1)) 0 next h in
         absurd (some (omega arith))
 
-pub bytes_mean_what_they_meant : (s : List ℕ) → get_or s 0 1 ≢ 0 → grammar_narrow (two_bytes_lem s) ≡ grammar_before (two_bytes_lem s)
-bytes_mean_what_they_meant s h = grammar_means_what_it_meant (two_bytes_lem s) (λ next e. h (first_byte s next e))
+pub bytes_mean_what_they_meant : (s : List ℕ) → get_or s 0 1 ≢ 0 → grammar_narrow (two_bytes s) ≡ grammar_before (two_bytes s)
+bytes_mean_what_they_meant s h = grammar_means_what_it_meant (two_bytes s) (λ next e. h (first_byte s next e))

@@ -22,7 +22,7 @@ use Rattle.vpg.specs.declared.Rule.{Rule}
 use Rattle.vpg.specs.believed.Grammar.{Grammar}
 use Rattle.grammar_file.specs.believed.GrammarFile.{GrammarFile, accepted, refused, after_rule, after_count, rules_from, counted_from, without_start, with_start, either, grammar_from, grammar_of}
 use Rattle.grammar_file.proofs.Accepted.{apart}
-use Rattle.earlier_files.specs.TwoBytes.{two_bytes_lem}
+use Rattle.earlier_files.specs.TwoBytes.{two_bytes}
 use Rattle.earlier_files.specs.NarrowGrammar.{narrow_names, step_narrow, body_narrow, rule_narrow, rules_narrow, counted_narrow, without_start_narrow, with_start_narrow, grammar_narrow}
 use Rattle.earlier_files.specs.GrammarBefore.{grammar_before}
 use Rattle.earlier_files.proofs.Grammars.{grammar_kept}
@@ -132,24 +132,24 @@ module _ {x y : Source} (numbers : (at : ℕ) → Kept Moved NumberRefused (x.nu
 -- ── of bytes ──
 
 module _ (s : List ℕ) where
-  pub grammar_widened : (grammar_of s ≡ grammar_narrow (two_bytes_lem s)) ⊎ ((grammar_narrow (two_bytes_lem s) ≡ refused 2) ⊎ (grammar_narrow (two_bytes_lem s) ≡ refused 7))
+  pub grammar_widened : (grammar_of s ≡ grammar_narrow (two_bytes s)) ⊎ ((grammar_narrow (two_bytes s) ≡ refused 2) ⊎ (grammar_narrow (two_bytes s) ≡ refused 7))
   unfolding number_at
-  grammar_widened = go (grammar_kept-from {x = two_bytes_lem s} {y = bytes s} (number-kept Moved (inl refl) s 2) (λ at. refl))
+  grammar_widened = go (grammar_kept-from {x = two_bytes s} {y = bytes s} (number-kept Moved (inl refl) s 2) (λ at. refl))
     where
-      go : Kept Moved refused (grammar_narrow (two_bytes_lem s)) (grammar_of s)
-          → (grammar_of s ≡ grammar_narrow (two_bytes_lem s)) ⊎ ((grammar_narrow (two_bytes_lem s) ≡ refused 2) ⊎ (grammar_narrow (two_bytes_lem s) ≡ refused 7))
+      go : Kept Moved refused (grammar_narrow (two_bytes s)) (grammar_of s)
+          → (grammar_of s ≡ grammar_narrow (two_bytes s)) ⊎ ((grammar_narrow (two_bytes s) ≡ refused 2) ⊎ (grammar_narrow (two_bytes s) ≡ refused 7))
       go (inl same) = inl same
       go (inr (e, inl two, was)) = inr (inl (was ∙ ap refused two))
       go (inr (e, inr seven, was)) = inr (inr (was ∙ ap refused seven))
 
-  pub grammar_keeps_its_meaning : (g : Grammar) → grammar_narrow (two_bytes_lem s) ≡ accepted g → grammar_of s ≡ accepted g
+  pub grammar_keeps_its_meaning : (g : Grammar) → grammar_narrow (two_bytes s) ≡ accepted g → grammar_of s ≡ accepted g
   grammar_keeps_its_meaning g h = go grammar_widened
     where
-      go : (grammar_of s ≡ grammar_narrow (two_bytes_lem s)) ⊎ ((grammar_narrow (two_bytes_lem s) ≡ refused 2) ⊎ (grammar_narrow (two_bytes_lem s) ≡ refused 7)) → grammar_of s ≡ accepted g
+      go : (grammar_of s ≡ grammar_narrow (two_bytes s)) ⊎ ((grammar_narrow (two_bytes s) ≡ refused 2) ⊎ (grammar_narrow (two_bytes s) ≡ refused 7)) → grammar_of s ≡ accepted g
       go (inl same) = same ∙ h
       go (inr (inl two)) = absurd (apart (sym two ∙ h))
       go (inr (inr seven)) = absurd (apart (sym seven ∙ h))
 
   -- and a file that passed before it could say its start, through both requests
-  pub first_files_keep_their_meaning : (g : Grammar) → grammar_before (two_bytes_lem s) ≡ accepted g → grammar_of s ≡ accepted g
-  first_files_keep_their_meaning g h = grammar_keeps_its_meaning g (grammar_kept (two_bytes_lem s) g h)
+  pub first_files_keep_their_meaning : (g : Grammar) → grammar_before (two_bytes s) ≡ accepted g → grammar_of s ≡ accepted g
+  first_files_keep_their_meaning g h = grammar_keeps_its_meaning g (grammar_kept (two_bytes s) g h)

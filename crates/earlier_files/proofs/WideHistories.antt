@@ -17,7 +17,7 @@ use Rattle.history_file.specs.declared.TokenRead.{TokenRead}
 use Rattle.history_file.specs.declared.TokenRead.TheVariants.{Token as TokenIs, Refused as TokenRefused}
 use Rattle.history_file.specs.believed.HistoryFile.{HistoryFile, accepted, refused, kind, token_judged, judged, token_at, depth_after, after_token, after_count, tokens_from, history_from, history_of}
 use Rattle.history_file.proofs.Accepted.{apart}
-use Rattle.earlier_files.specs.TwoBytes.{two_bytes_lem}
+use Rattle.earlier_files.specs.TwoBytes.{two_bytes}
 use Rattle.earlier_files.specs.NarrowHistory.{token_narrow, judged_narrow, tokens_narrow, history_narrow}
 use Rattle.earlier_files.proofs.Kept.{Kept, followed, number-kept, field-kept}
 
@@ -77,20 +77,20 @@ module _ {x y : Source} (numbers : (at : ℕ) → Kept Moved NumberRefused (x.nu
 -- ── of bytes ──
 
 module _ (s : List ℕ) where
-  pub history_widened : (history_of s ≡ history_narrow (two_bytes_lem s)) ⊎ ((history_narrow (two_bytes_lem s) ≡ refused 2) ⊎ (history_narrow (two_bytes_lem s) ≡ refused 11))
+  pub history_widened : (history_of s ≡ history_narrow (two_bytes s)) ⊎ ((history_narrow (two_bytes s) ≡ refused 2) ⊎ (history_narrow (two_bytes s) ≡ refused 11))
   unfolding number_at
-  history_widened = go (history_kept-from {x = two_bytes_lem s} {y = bytes s} (number-kept Moved (inl refl) s 2) (λ at. refl))
+  history_widened = go (history_kept-from {x = two_bytes s} {y = bytes s} (number-kept Moved (inl refl) s 2) (λ at. refl))
     where
-      go : Kept Moved refused (history_narrow (two_bytes_lem s)) (history_of s)
-          → (history_of s ≡ history_narrow (two_bytes_lem s)) ⊎ ((history_narrow (two_bytes_lem s) ≡ refused 2) ⊎ (history_narrow (two_bytes_lem s) ≡ refused 11))
+      go : Kept Moved refused (history_narrow (two_bytes s)) (history_of s)
+          → (history_of s ≡ history_narrow (two_bytes s)) ⊎ ((history_narrow (two_bytes s) ≡ refused 2) ⊎ (history_narrow (two_bytes s) ≡ refused 11))
       go (inl same) = inl same
       go (inr (e, inl two, was)) = inr (inl (was ∙ ap refused two))
       go (inr (e, inr eleven, was)) = inr (inr (was ∙ ap refused eleven))
 
-  pub history_keeps_its_meaning : (ts : List ℕ) → history_narrow (two_bytes_lem s) ≡ accepted ts → history_of s ≡ accepted ts
+  pub history_keeps_its_meaning : (ts : List ℕ) → history_narrow (two_bytes s) ≡ accepted ts → history_of s ≡ accepted ts
   history_keeps_its_meaning ts h = go history_widened
     where
-      go : (history_of s ≡ history_narrow (two_bytes_lem s)) ⊎ ((history_narrow (two_bytes_lem s) ≡ refused 2) ⊎ (history_narrow (two_bytes_lem s) ≡ refused 11)) → history_of s ≡ accepted ts
+      go : (history_of s ≡ history_narrow (two_bytes s)) ⊎ ((history_narrow (two_bytes s) ≡ refused 2) ⊎ (history_narrow (two_bytes s) ≡ refused 11)) → history_of s ≡ accepted ts
       go (inl same) = same ∙ h
       go (inr (inl two)) = absurd (apart (sym two ∙ h))
       go (inr (inr eleven)) = absurd (apart (sym eleven ∙ h))

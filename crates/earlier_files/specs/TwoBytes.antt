@@ -4,5 +4,5 @@
 use Rattle.std.specs.Prelude.{ℕ, List, ltb, length}
 use Rattle.numbers.specs.believed.Number.{number_within, Source}
 
-abbrev pub two_bytes_lem : List ℕ → Source
-two_bytes_lem s = record { number = number_within 2 s; more = λ at. ltb at (length s) }
+abbrev pub two_bytes : List ℕ → Source
+two_bytes s = record { number = number_within 2 s; more = λ at. ltb at (length s) }

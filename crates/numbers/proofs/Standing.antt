@@ -19,7 +19,7 @@ module _ {number : ℕ → NumberRead} where
 
   pub part : {at next : ℕ} (ns : List ℕ) {ms : List ℕ} → NumbersAt number at (ns ++ ms) next → (p : ℕ) × NumbersAt number at ns p × NumbersAt number p ms next
   part {at} [] rest = (at, none, rest)
-  part (n ∷ ns) i =
+  part {at = at} {next = next} (n ∷ ns) {ms = ms} i =
       let h = one_left i in
-      let s = part ns h.2 in
+      let s = part {at = h.0} {next = next} ns {ms = ms} h.2 in
       (s.0, one h.1 s.1, s.2)

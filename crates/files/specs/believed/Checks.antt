@@ -2,9 +2,7 @@
 -- Clauses: 7.2, 7.3 (docs/SPECIFICATION.md)
 use Rattle.std.specs.Prelude.{ℕ, List, [], ◌∷◌, length}
 use Rattle.grammar_file.specs.believed.GrammarFile.{GrammarFile}
-use Rattle.grammar_file.specs.believed.GrammarFile
 use Rattle.history_file.specs.believed.HistoryFile.{HistoryFile}
-use Rattle.history_file.specs.believed.HistoryFile
 use Rattle.files.specs.declared.GrammarCheck.{GrammarCheck}
 use Rattle.files.specs.declared.HistoryCheck.{HistoryCheck}
 

@@ -2,9 +2,7 @@
 -- Clauses: 6.6 (docs/SPECIFICATION.md)
 use Rattle.std.specs.Prelude.{ℕ, List}
 use Rattle.grammar_file.specs.believed.GrammarFile.{GrammarFile}
-use Rattle.grammar_file.specs.believed.GrammarFile
 use Rattle.history_file.specs.believed.HistoryFile.{HistoryFile}
-use Rattle.history_file.specs.believed.HistoryFile
 use Rattle.vpg.specs.believed.Grammar.{Grammar}
 
 -- the grammar and the token numbers, or the first refusal
