@@ -1,5 +1,5 @@
 -- At the end the nonterminals of the rules that can stand there are those that have an empty rule: the word that the index has of them. At a close
--- the well_matched ones among them are there from the start, and the rules of the close's class add the others.
+-- the well-matched ones among them are there from the start, and the rules of the close's class add the others.
 use Prim.Native.Nat.{ℕ, zero, suc, ◌<◌, ◌≤◌}
 use native.Mathlib.Nat.{eq-or-lt_of_le, le_of_suc-le-suc}
 use native.Mathlib.Omega.{arith}
@@ -156,7 +156,7 @@ module _ (t : List ℕ) (head : Head) (p : Context) (x : Indexed t head) (h : p.
   low_is : (L : ℕ) → low_here W p L ≡ ltb L head.well
   low_is L = rw (lt-leb 4 p.kind h)
 
-  -- at a close: the first empty rule of a well_matched nonterminal
+  -- at a close: the first empty rule of a well-matched nonterminal
   base_has : (q L : ℕ) → q < head.rules → 2 ≤ p.kind → L < head.well → rule_in t q ≡ Rule.Empty L → bit (base_of t p) L ≡ true
   base_has q L l k w e =
       let f = x.ends L (omega (arith, w, x.ready.well_small)) in

@@ -14,7 +14,7 @@ use Rattle.vpg.specs.declared.CloseName.{CloseName}
 use Rattle.vpg.specs.declared.Rule.{Rule}
 use Rattle.vpg.specs.declared.Token.{Token}
 use Rattle.vpg.specs.believed.Grammar.{InForm}
-use Rattle.vpg.specs.Tests.{is_open_lem, any_close, same_token}
+use Rattle.vpg.specs.Tests.{is_open, any_close, same_token}
 use Rattle.level_theory.specs.Masks.{alone}
 use Rattle.level_theory.proofs.Alive.{alone_high}
 use Rattle.bits.specs.Bit.{bit}
@@ -73,7 +73,7 @@ module _ (W : ℕ) (p : Context) where
   abbrev K : ℕ
   K = p.kind
 
-  -- before the end the well_matched nonterminals are those below W
+  -- before the end the well-matched nonterminals are those below W
   low_is : (L : ℕ) → K < 4 → low_here W p L ≡ ltb L W
   low_is L h = rw (lt-leb 4 K h)
 
@@ -142,7 +142,7 @@ module _ (W : ℕ) (p : Context) where
   unfolding token_with
   other_open L a L₁ b L₂ d = go K d _
     where
-      go : (k : ℕ) → (k ≡ 1 → ⊥) → (x : Bool) → (is_open_lem a (token_with k p.name) && x) ≡ false
+      go : (k : ℕ) → (k ≡ 1 → ⊥) → (x : Bool) → (is_open a (token_with k p.name) && x) ≡ false
       go zero d x = refl
       go (suc zero) d x = absurd (d refl)
       go (suc (suc k)) d x = rw (ne_eqb (suc (suc k)) 0 (λ e. omega arith), ne_eqb (suc (suc k)) 1 (λ e. omega arith)) refl

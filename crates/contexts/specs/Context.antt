@@ -1,7 +1,7 @@
--- What stands at a position, in words and names, and which rules can stand there. The nonterminals below W are the well_matched ones.
+-- What stands at a position, in words and names, and which rules can stand there. The nonterminals below W are the well-matched ones.
 -- Law: level-bit (contexts/proofs/Contexts.antt)
 -- Law: taken (contexts/proofs/Forms.antt)
-use Rattle.std.specs.Prelude.{ℕ, zero, suc, ◌/◌, ◌<◌, ◌≤◌, ◌≡◌, Bool, true, false, cond, ◌&&◌, ◌||◌, List, eqb, ltb, leb}
+use Rattle.std.specs.Prelude.{ℕ, zero, suc, ◌/◌, ◌<◌, ◌≤◌, ◌≡◌, Bool, true, cond, ◌&&◌, ◌||◌, List, eqb, ltb, leb}
 use Rattle.bits.specs.Bit.{bit, add_bit}
 use Rattle.vpg.specs.declared.CloseName.{CloseName}
 use Rattle.vpg.specs.declared.Rule.{Rule}
@@ -18,11 +18,11 @@ use Rattle.contexts.specs.declared.Context.{Context}
 abbrev pub token_here : Context → Token
 token_here p = token_with p.kind p.name
 
--- is L a well_matched nonterminal; at the end every one may end as these do before a close
+-- is L a well-matched nonterminal; at the end every one may end as these do before a close
 abbrev pub low_here : ℕ → Context → Nonterminals
 low_here W p L = leb 4 p.kind || ltb L W
 
--- can L only end here: at a close a well_matched one, at the end every one
+-- can L only end here: at a close a well-matched one, at the end every one
 abbrev pub may_end : ℕ → Context → Nonterminals
 may_end W p L = leb 2 p.kind && low_here W p L
 

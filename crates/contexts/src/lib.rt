@@ -27,7 +27,7 @@ pub struct Context {
     pub after: u64,
 }
 
-// Whether the nonterminal ends here as a well_matched one does.
+// Whether the nonterminal ends here as a well-matched one does.
 fn low_here(head: Head, context: Context, l: u16) -> bool
     ensures { result ≡ low_here head.well context l }
 {

@@ -17,12 +17,12 @@ use Rattle.vpg.specs.declared.CloseName.{CloseName}
 use Rattle.vpg.specs.declared.Rule.{Rule}
 use Rattle.vpg.specs.declared.Token.{Token}
 use Rattle.vpg.specs.believed.Grammar.{Rules, left}
-use Rattle.vpg.specs.Tests.{is_open_lem}
+use Rattle.vpg.specs.Tests.{is_open}
 use Rattle.capped.specs.Capped.{cap}
 use Rattle.capped.proofs.Capped.{cap-mul}
 use Rattle.level_theory.specs.Masks.{behind, masks}
-use Rattle.level_theory.specs.Pending.{Closes, pending_at, close_of_lem}
-use Rattle.level_theory.specs.Walk.{test_at_lem}
+use Rattle.level_theory.specs.Pending.{Closes, pending_at, close_of}
+use Rattle.level_theory.specs.Walk.{test_at}
 use Rattle.level_theory.proofs.Pending.{masks-outer, drop-next}
 use Rattle.tables.specs.declared.Head.{Head}
 use Rattle.tables.specs.Table.{rule_in, rules_in}
@@ -42,7 +42,7 @@ use Rattle.count_rows.specs.Rows.{Sized, value_at, capped_parts, row_in, InRow, 
 -- ── positions ──
 
 -- the first pending close stands behind its position
-pub closes-behind : (w : List Token) (p : ℕ) → p ≤ length w → p ≤ close_of_lem (pending_at w (suc p)) (length w)
+pub closes-behind : (w : List Token) (p : ℕ) → p ≤ length w → p ≤ close_of (pending_at w (suc p)) (length w)
 closes-behind w p h = ⊎_elim (λ e. rw (pending_end w (suc p) (omega (arith, e))) h) (λ l. omega (arith, close_from w (suc p) l)) (eq-or-lt_of_le h)
 
 -- ── sums over a table ──
@@ -60,37 +60,37 @@ sum_rules f t n = let h : length (rules_in t n) ≤ n = omega (arith, length_rul
 
 module _ (U : ℕ) (g : Rules) (w : List Token) (p : ℕ) where
   -- only an empty rule can stand where no token is left
-  some_token : (R : Rule) → test_at_lem U g (drop p w) R ≡ true → (test_at_lem U g [] R ≡ false) → p < length w
+  some_token : (R : Rule) → test_at U g (drop p w) R ≡ true → (test_at U g [] R ≡ false) → p < length w
   some_token R q none = go (dec_lt p (length w))
     where
       go : Dec (p < length w) → p < length w
       go (yes h) = h
       go (no h) = let l : length w ≤ p = omega arith in absurd (false≢true (sym none ∙ rw (drop_of_length-le w l) at q))
 
-  pub next_inside : (M : ℕ) (i : Token) (M₁ : ℕ) → test_at_lem U g (drop p w) (Rule.Next M i M₁) ≡ true → p < length w
-  unfolding test_at_lem
+  pub next_inside : (M : ℕ) (i : Token) (M₁ : ℕ) → test_at U g (drop p w) (Rule.Next M i M₁) ≡ true → p < length w
+  unfolding test_at
   next_inside M i M₁ q = some_token (Rule.Next M i M₁) q refl
 
-  pub step_inside : (M : ℕ) (a : OpenName) (M₁ : ℕ) (b : CloseName) (M₂ : ℕ) → test_at_lem U g (drop p w) (Rule.Step M a M₁ b M₂) ≡ true → p < length w
-  unfolding test_at_lem
+  pub step_inside : (M : ℕ) (a : OpenName) (M₁ : ℕ) (b : CloseName) (M₂ : ℕ) → test_at U g (drop p w) (Rule.Step M a M₁ b M₂) ≡ true → p < length w
+  unfolding test_at
   step_inside M a M₁ b M₂ q = some_token (Rule.Step M a M₁ b M₂) q refl
 
   -- a step that can stand has its close among the tokens
-  pub step-closes : (M : ℕ) (a : OpenName) (M₁ : ℕ) (b : CloseName) (M₂ : ℕ) → test_at_lem U g (drop p w) (Rule.Step M a M₁ b M₂) ≡ true → close_of_lem (pending_at w (suc p)) (length w) < length w
-  unfolding test_at_lem
+  pub step-closes : (M : ℕ) (a : OpenName) (M₁ : ℕ) (b : CloseName) (M₂ : ℕ) → test_at U g (drop p w) (Rule.Step M a M₁ b M₂) ≡ true → close_of (pending_at w (suc p)) (length w) < length w
+  unfolding test_at
   step-closes M a M₁ b M₂ q = go (drop p w) refl q
     where
-      first : (l : Closes) → pending_at w (suc p) ≡ l → behind (ltb M U) U (map (λ d. (d.0, (masks U g (drop (suc d.1) w)).0)) l) b M₂ ≡ true → close_of_lem l (length w) < length w
+      first : (l : Closes) → pending_at w (suc p) ≡ l → behind (ltb M U) U (map (λ d. (d.0, (masks U g (drop (suc d.1) w)).0)) l) b M₂ ≡ true → close_of l (length w) < length w
       first [] e h = absurd (false≢true h)
       first (d ∷ l) e h = close_below w (suc p) d (rw e (Memᴰ.head refl))
 
-      go : (v : List Token) → drop p w ≡ v → test_at_lem U g v (Rule.Step M a M₁ b M₂) ≡ true → close_of_lem (pending_at w (suc p)) (length w) < length w
+      go : (v : List Token) → drop p w ≡ v → test_at U g v (Rule.Step M a M₁ b M₂) ≡ true → close_of (pending_at w (suc p)) (length w) < length w
       go [] e h = absurd (false≢true h)
-      go (t ∷ v) e h = first (pending_at w (suc p)) refl (rw (masks-outer U g w (suc p)) at (and_right ((masks U g (drop (suc p) w)).0 M₁) _ (and_right (is_open_lem a t) _ (rw (← (drop-next w p e)) at h))))
+      go (t ∷ v) e h = first (pending_at w (suc p)) refl (rw (masks-outer U g w (suc p)) at (and_right ((masks U g (drop (suc p) w)).0 M₁) _ (and_right (is_open a t) _ (rw (← (drop-next w p e)) at h))))
 
   -- capped counts of the parts
-  pub parts_capped : (x y C D : Counts) (R : Rule) → Below 32 R → (p < length w → (M : ℕ) → M < 32 → x M ≡ cap (C M)) → (close_of_lem (pending_at w (suc p)) (length w) < length w → (M : ℕ) → M < 32 → y M ≡ cap (D M)) →
-      test_at_lem U g (drop p w) R ≡ true → capped_parts x y R ≡ cap (parts C D R)
+  pub parts_capped : (x y C D : Counts) (R : Rule) → Below 32 R → (p < length w → (M : ℕ) → M < 32 → x M ≡ cap (C M)) → (close_of (pending_at w (suc p)) (length w) < length w → (M : ℕ) → M < 32 → y M ≡ cap (D M)) →
+      test_at U g (drop p w) R ≡ true → capped_parts x y R ≡ cap (parts C D R)
   parts_capped x y C D (Rule.Empty M) b e f q = refl
   parts_capped x y C D (Rule.Next M i M₁) b e f q = e (next_inside M i M₁ q) M₁ b.1 ∙ ap cap (sym (mul-one (C M₁)))
   parts_capped x y C D (Rule.Step M a M₁ d M₂) b e f q = rw (e (step_inside M a M₁ d M₂ q) M₁ b.1, f (step-closes M a M₁ d M₂ q) M₂ b.2) (sym (cap-mul (C M₁) (D M₂)))
@@ -115,7 +115,7 @@ module _ (t : List ℕ) (head : Head) (ready : Ready t head) (w : List Token) (m
   G = rules_of t head
 
   abbrev Close : ℕ
-  Close = close_of_lem (pending_at w (suc p)) (length w)
+  Close = close_of (pending_at w (suc p)) (length w)
 
   row_up_to : (x y : Counts) → (p < length w → (M : ℕ) → M < 32 → x M ≡ cap (counts_at ok U G w (suc p) M)) → (Close < length w → (M : ℕ) → M < 32 → y M ≡ cap (counts_at ok U G w (suc Close) M)) →
       (M n : ℕ) → n ≤ head.rules → cap (row_in head.well t (ok p) context x y n M) ≡ cap (sum_below n (λ q. given (eqb (left (rule_in t q)) M && ok p q) (worth ok U G w p (rule_in t q))))
@@ -124,7 +124,7 @@ module _ (t : List ℕ) (head : Head) (ready : Ready t head) (w : List Token) (m
   row_up_to x y e f M (suc n) h =
       cap-both _ _ _ _ (row_up_to x y e f M n (omega arith))
       (rw (stands.rules G (λ k l m. leveled k (omega arith) m) (rule_in t n) (ready.small n (omega arith)))
-      (given_tests (eqb (left (rule_in t n)) M) (ok p n) (test_at_lem U G (drop p w) (rule_in t n)) _ _ (λ q. parts_capped U G w p x y _ _ (rule_in t n) (ready.small n (omega arith)) e f q)))
+      (given_tests (eqb (left (rule_in t n)) M) (ok p n) (test_at U G (drop p w) (rule_in t n)) _ _ (λ q. parts_capped U G w p x y _ _ (rule_in t n) (ready.small n (omega arith)) e f q)))
 
   -- the counts of all rules
   row_counts : (x y : Counts) → (p < length w → (M : ℕ) → M < 32 → x M ≡ cap (counts_at ok U G w (suc p) M)) → (Close < length w → (M : ℕ) → M < 32 → y M ≡ cap (counts_at ok U G w (suc Close) M)) →

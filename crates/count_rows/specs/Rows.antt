@@ -1,5 +1,5 @@
 -- Counts of each position and nonterminal, in one array: 32 numbers a position, and behind them a word a position.
--- Law: counted-next (count_rows/proofs/Pass.antt)
+-- Law: counted_next (count_rows/proofs/Pass.antt)
 use Rattle.std.specs.Prelude.{ℕ, suc, ◌+◌, ◌*◌, ◌<◌, ◌≤◌, ◌≡◌, ◌⊎◌, Bool, true, false, cond, ◌&&◌, List, eqb, ltb, length, get_or}
 use Rattle.bits.specs.Bit.{bit}
 use Rattle.vpg.specs.declared.Rule.{Rule}

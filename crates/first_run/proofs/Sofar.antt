@@ -12,8 +12,8 @@ use Rattle.vpg.specs.believed.Grammar.{Rules, General}
 use Rattle.vpg.specs.Extremes.{Least}
 use Rattle.vpg.specs.Runs.{Stack, State}
 use Rattle.level_theory.specs.Masks.{masks, Fits}
-use Rattle.level_theory.specs.Pending.{Closes, pending_at, close_of_lem, due_at}
-use Rattle.level_theory.specs.Walk.{Run, test_at_lem, inner, later}
+use Rattle.level_theory.specs.Pending.{Closes, pending_at, close_of, due_at}
+use Rattle.level_theory.specs.Walk.{Run, test_at, inner, later}
 use Rattle.level_theory.proofs.Alive.{Passes}
 use Rattle.level_theory.proofs.Search.{None, end_first}
 use Rattle.level_theory.proofs.Local.{Turn, Then, first-turn}
@@ -50,7 +50,7 @@ front from p r old new run h e = take-suc-set new p r h ∙ rw (e, append_assoc)
 
 module _ (U : ℕ) (g : Rules) (form : General U g) (w : List Token) (from : Configuration) (old : List ℕ) where
   pub sofar_next : (n : ℕ) (f : List ℕ) (p : ℕ) (t : Token) (here : drop p w ≡ t ∷ drop (suc p) w) (L r : ℕ) (R : Rule) (new : List ℕ) → p < length new →
-      Turn U g w n f p t here L r R → None (test_at_lem U g (drop p w)) g L (λ q. q < r) → Sofar U g w from (L, due_at U f (pending_at w p) L) p old new →
+      Turn U g w n f p t here L r R → None (test_at U g (drop p w)) g L (λ q. q < r) → Sofar U g w from (L, due_at U f (pending_at w p) L) p old new →
       Sofar U g w from (Then U g w n f p t here R) (suc p) old (set new p r)
   sofar_next n f p t here L r R new h u d k = record {
     run = k.run ++ (r ∷ []);
@@ -59,8 +59,8 @@ module _ (U : ℕ) (g : Rules) (form : General U g) (w : List Token) (from : Con
   }
 
   -- at the end nothing is due
-  pub filled_end : (f : List ℕ) (L r : ℕ) (new : List ℕ) → length w < length new → pending_at w (length w) ≡ [] → Passes (test_at_lem U g (drop (length w) w)) g L r →
-      None (test_at_lem U g (drop (length w) w)) g L (λ q. q < r) → Sofar U g w from (L, due_at U f (pending_at w (length w)) L) (length w) old new →
+  pub filled_end : (f : List ℕ) (L r : ℕ) (new : List ℕ) → length w < length new → pending_at w (length w) ≡ [] → Passes (test_at U g (drop (length w) w)) g L r →
+      None (test_at U g (drop (length w) w)) g L (λ q. q < r) → Sofar U g w from (L, due_at U f (pending_at w (length w)) L) (length w) old new →
       drop (suc (length w)) new ≡ drop (suc (length w)) old → Filled U g w from old (set new (length w) r)
   filled_end f L r new h e p d k q = record {
     run = k.run ++ (r ∷ []);
@@ -72,7 +72,7 @@ module _ (U : ℕ) (g : Rules) (form : General U g) (w : List Token) (from : Con
       done : drop (length w) w ≡ []
       done = drop_of_length-le w {i = length w} (omega arith)
 
-      at_end : (v : List Token) → drop (length w) w ≡ v → v ≡ [] → Passes (test_at_lem U g v) g L r → None (test_at_lem U g v) g L (λ q. q < r) → Least (Run g (L, []) v) (r ∷ [])
+      at_end : (v : List Token) → drop (length w) w ≡ v → v ≡ [] → Passes (test_at U g v) g L r → None (test_at U g v) g L (λ q. q < r) → Least (Run g (L, []) v) (r ∷ [])
       at_end v a b x y = rw b (end_first g L r (passes_end U (rw b at x)) (λ q l z. (rw b at y) q l (end_passes U z)))
 
       ending : (s : Stack) → s ≡ [] → Least (Run g (L, s) (drop (length w) w)) (r ∷ [])
@@ -124,17 +124,17 @@ module _ {t : List ℕ} {head : Head} {ts m mask : List ℕ} (set-up : Setting t
     pub found_rule : r < head.rules
     found_rule = found t head set-up.indexed.ready W mask p L context stands after r k.fits.0 small
 
-    passing : Passes (test_at_lem U G (drop p W)) G L r
+    passing : Passes (test_at U G (drop p W)) G L r
     passing = passes t head set-up.indexed.ready W mask p L context stands after r found_rule (small.found found_rule)
 
-    none_before : None (test_at_lem U G (drop p W)) G L (λ q. q < r)
+    none_before : None (test_at U G (drop p W)) G L (λ q. q < r)
     none_before = least t head set-up.indexed.ready W mask p L context stands after r small
 
     module _ (more : p < length ts) where
       here : drop p W ≡ token_of (get_or ts p 0) ∷ drop (suc p) W
       here = tokens_at ts p more
 
-      inside : close_of_lem (pending_at W (suc p)) (length W) < length due
+      inside : close_of (pending_at W (suc p)) (length W) < length due
       inside = rw k.room (closing_room set-up p (omega arith))
 
       here_turn : Turn U G W (length W) due p (token_of (get_or ts p 0)) here L r (rule_in t r)
@@ -158,7 +158,7 @@ module _ {t : List ℕ} {head : Head} {ts m mask : List ℕ} (set-up : Setting t
         let q : p ≡ length W = e ∙ sym (tokens_length ts) in
         at_end p q k passing none_before
       where
-        at_end : (p : ℕ) → p ≡ length W → Goes new due L p → Passes (test_at_lem U G (drop p W)) G L r → None (test_at_lem U G (drop p W)) G L (λ q. q < r) → Filled U G W from old (set new p r)
+        at_end : (p : ℕ) → p ≡ length W → Goes new due L p → Passes (test_at U G (drop p W)) G L r → None (test_at U G (drop p W)) G L (λ q. q < r) → Filled U G W from old (set new p r)
         at_end p q k x y =
             rw q
             (filled_end U G form W from old due L r new (omega (arith, k.as_long, tokens_length ts)) (pending_end W (length W) (omega arith)) (rw q at x) (rw q at y) (rw q at k.sofar) k.kept)

@@ -1,5 +1,5 @@
 -- What the forward pass starts from, looks for and writes.
--- Law: first_is, none-is (first_run/proofs/Whole.antt)
+-- Law: first_is, none_is (first_run/proofs/Whole.antt)
 use Rattle.std.specs.Prelude.{ℕ, suc, ◌≡◌, List, ◌++◌, length, take, drop}
 use Rattle.vpg.specs.declared.Token.{Token}
 use Rattle.vpg.specs.believed.Grammar.{Rules}

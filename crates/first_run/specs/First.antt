@@ -1,5 +1,5 @@
 -- What the first reading answers (document 01, "Services" and "The plain listing").
--- Law: first_is, none-is (first_run/proofs/Whole.antt)
+-- Law: first_is, none_is (first_run/proofs/Whole.antt)
 use Rattle.listing_model.specs.believed.Listing.{Answer, written, no_reading}
 use Rattle.first_run.specs.declared.FirstAnswer.{FirstAnswer}
 

@@ -12,8 +12,8 @@ use Rattle.vpg.specs.believed.Grammar.{Rules, General, left}
 use Rattle.vpg.specs.Runs.{Stack, runs}
 use Rattle.capped.specs.Capped.{cap, value}
 use Rattle.capped.proofs.Capped.{cap-mul, cap-lt}
-use Rattle.level_theory.specs.Pending.{pending_at, close_of_lem}
-use Rattle.level_theory.specs.Walk.{test_at_lem}
+use Rattle.level_theory.specs.Pending.{pending_at, close_of}
+use Rattle.level_theory.specs.Walk.{test_at}
 use Rattle.tables.specs.declared.Head.{Head}
 use Rattle.tables.specs.Table.{rule_in}
 use Rattle.tables.specs.Ready.{rules_of}
@@ -69,15 +69,15 @@ module _ {t : List ℕ} {head : Head} {ts closes mask : List ℕ} (x : Setting t
       size_in t U sought context rows q ≡ cap (size ok U G W p (sought.nonterminal, s) (rule_in t q))
   sizes ok c sought s d q l =
       rw (stands.rules G (λ k i m. x.leveled k (omega arith) m) (rule_in t q) (x.indexed.ready.small q l))
-      (size_capped (eqb (left (rule_in t q)) sought.nonterminal) (test_at_lem U G (drop p W) (rule_in t q)) _ _ (value sought.due) _
+      (size_capped (eqb (left (rule_in t q)) sought.nonterminal) (test_at U G (drop p W) (rule_in t q)) _ _ (value sought.due) _
       (λ e. parts_capped U G W p _ _ _ _ (rule_in t q) (x.indexed.ready.small q l) inside after e)
       d)
     where
       inside : p < length W → (M : ℕ) → M < 32 → value_at rows (suc context.position) M ≡ cap (counts_at ok U G W (suc p) M)
       inside i M m = rw stands.position (c.counted (suc p) M (omega arith) i m)
 
-      after : close_of_lem (pending_at W (suc p)) (length W) < length W → (M : ℕ) → M < 32 → value_at rows (suc context.closing) M ≡ cap (counts_at ok U G W (suc (close_of_lem (pending_at W (suc p)) (length W))) M)
-      after i M m = rw stands.closing (c.counted (suc (close_of_lem (pending_at W (suc p)) (length W))) M (omega arith) i m)
+      after : close_of (pending_at W (suc p)) (length W) < length W → (M : ℕ) → M < 32 → value_at rows (suc context.closing) M ≡ cap (counts_at ok U G W (suc (close_of (pending_at W (suc p)) (length W))) M)
+      after i M m = rw stands.closing (c.counted (suc (close_of (pending_at W (suc p)) (length W))) M (omega arith) i m)
 
   pub chosen : (sought : Sought) (found : Found) → Finds t head sought context rows found → Chosen U G W rows p sought found
   chosen sought found finds ok s calm c free d small inside =

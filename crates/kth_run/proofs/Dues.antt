@@ -20,7 +20,7 @@ use Rattle.vpg.proofs.Take.{Move, by_empty, by_next, by_step}
 use Rattle.capped.specs.Capped.{cap}
 use Rattle.capped.proofs.Capped.{cap-mul}
 use Rattle.level_theory.specs.Masks.{Nonterminals, masks, Calm, Match, Fits}
-use Rattle.level_theory.specs.Pending.{Closes, pending_at, close_of_lem, due_at}
+use Rattle.level_theory.specs.Pending.{Closes, pending_at, close_of, due_at}
 use Rattle.level_theory.specs.Walk.{inner, later}
 use Rattle.level_theory.proofs.Alive.{high_calm, alone_high}
 use Rattle.level_theory.proofs.Pending.{pending_next, close_fresh, masks-outer}
@@ -48,7 +48,7 @@ pub due_weight : (ok : Allowed) (W : ℕ) (g : Rules) (w : List Token) (p : ℕ)
 due_weight ok W g w p f L = rw (counts-outer ok W g w p) (weight-product W (counts_at ok W g w) f (pending_at w p) L)
 
 -- it stands at the first of them
-pub first_due : (W : ℕ) (C : ℕ → Counts) (f v : ℕ → ℕ) (n : ℕ) (l : Closes) (L : ℕ) → Dues W C f v n l L → v (close_of_lem l n) ≡ cap (due_product W C f l L)
+pub first_due : (W : ℕ) (C : ℕ → Counts) (f v : ℕ → ℕ) (n : ℕ) (l : Closes) (L : ℕ) → Dues W C f v n l L → v (close_of l n) ≡ cap (due_product W C f l L)
 first_due W C f v n [] L d = d
 first_due W C f v n (x ∷ l) L d = d.0
 
@@ -60,7 +60,7 @@ module _ (W : ℕ) (C : ℕ → Counts) (f : ℕ → ℕ) (h : CloseName × ℕ 
   product_high (d ∷ l) L k = rw (le-ltb L W k)
 
   -- where nothing is due, 1 at the first pending close is enough
-  pub dues_none : (v : ℕ → ℕ) (n : ℕ) (l : Closes) (L : ℕ) → Match W L [] (map h l) → v (close_of_lem l n) ≡ 1 → Dues W C f v n l L
+  pub dues_none : (v : ℕ → ℕ) (n : ℕ) (l : Closes) (L : ℕ) → Match W L [] (map h l) → v (close_of l n) ≡ 1 → Dues W C f v n l L
   dues_none v n [] L m e = e
   dues_none v n (d ∷ l) L m e = rw (le-ltb L W m) (e, tt)
 
@@ -107,7 +107,7 @@ module _ (W : ℕ) (C : ℕ → Counts) (f f' v v' : ℕ → ℕ) (n : ℕ) wher
 
 module _ (W : ℕ) (g : Rules) (w : List Token) (p : ℕ) (C : ℕ → Counts) (f f' v v' : ℕ → ℕ) where
   abbrev Close : ℕ
-  Close = close_of_lem (pending_at w (suc p)) (length w)
+  Close = close_of (pending_at w (suc p)) (length w)
 
   abbrev Level : CloseName × ℕ → CloseName × Nonterminals
   Level d = (d.0, (masks W g (drop (suc d.1) w)).0)

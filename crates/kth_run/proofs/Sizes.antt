@@ -17,7 +17,7 @@ use Rattle.rule_index.proofs.Chains.{passed}
 use Rattle.contexts.specs.declared.Context.{Context}
 use Rattle.contexts.specs.Context.{token_here, may_end}
 use Rattle.contexts.proofs.Ends.{ends-only}
-use Rattle.moves.specs.Moves.{rule_fits_lem, Smallest}
+use Rattle.moves.specs.Moves.{rule_fits, Smallest}
 use Rattle.moves.proofs.Walking.{fits_apart}
 use Rattle.capped.specs.Capped.{cap, value}
 use Rattle.count_theory.specs.believed.CountAt.{sum_below}
@@ -46,15 +46,15 @@ module _ (t : List ℕ) (head : Head) (sought : Sought) (context : Context) (row
   pass_first {a = a} h f = pass_class h f (record { skipped = omega arith })
 
   -- a rule that doesn't fit
-  pub pass_none : {a i : ℕ} (q : ℕ) → rule_fits_lem head.well (rule_in t q) sought.nonterminal context ≡ false → Passed Size a q i → Passed Size a (suc q) i
+  pub pass_none : {a i : ℕ} (q : ℕ) → rule_fits head.well (rule_in t q) sought.nonterminal context ≡ false → Passed Size a q i → Passed Size a (suc q) i
   pass_none q e z = record { skipped = rw e (rw (add-zero (sum_below q Size)) z.skipped) }
 
   -- one that fits, and has too few
-  pub pass_some : {a i : ℕ} (q n : ℕ) → rule_fits_lem head.well (rule_in t q) sought.nonterminal context ≡ true → n ≡ cap (parts_at rows context (rule_in t q) * value sought.due) → n ≤ i → Passed Size a q i → Passed Size a (suc q) (i - n)
+  pub pass_some : {a i : ℕ} (q n : ℕ) → rule_fits head.well (rule_in t q) sought.nonterminal context ≡ true → n ≡ cap (parts_at rows context (rule_in t q) * value sought.due) → n ≤ i → Passed Size a q i → Passed Size a (suc q) (i - n)
   pass_some q n e s l z = record { skipped = rw (e, ← s) (omega (arith, z.skipped)) }
 
   -- and enough
-  pub located : {rules a i : ℕ} (q n : ℕ) → q < rules → rule_fits_lem head.well (rule_in t q) sought.nonterminal context ≡ true → n ≡ cap (parts_at rows context (rule_in t q) * value sought.due) → i < n → Passed Size a q i → LocatedIn rules Size a q i
+  pub located : {rules a i : ℕ} (q n : ℕ) → q < rules → rule_fits head.well (rule_in t q) sought.nonterminal context ≡ true → n ≡ cap (parts_at rows context (rule_in t q) * value sought.due) → i < n → Passed Size a q i → LocatedIn rules Size a q i
   located q n b e s l z = record { below = b; skipped = z.skipped; inside = rw (e, ← s) l }
 
   -- past all rules
@@ -77,10 +77,10 @@ end_finds {t} {head} x sought context rows r h s l = go (ltb r head.rules) refl 
     f : ℕ → ℕ
     f = size_in t head.well sought context rows
 
-    none : (q : ℕ) → rule_fits_lem head.well (rule_in t q) L context ≡ false → f q ≡ 0
+    none : (q : ℕ) → rule_fits head.well (rule_in t q) L context ≡ false → f q ≡ 0
     none q e = rw e
 
-    fits_twice : (q : ℕ) → q < head.rules → r < q → (b : Bool) → rule_fits_lem head.well (rule_in t q) L context ≡ b → b ≡ false
+    fits_twice : (q : ℕ) → q < head.rules → r < q → (b : Bool) → rule_fits head.well (rule_in t q) L context ≡ b → b ≡ false
     fits_twice q l m true e =
         absurd (x.ready.distinct r q m l (ends-only head.well context (rule_in t r) L h (s.found (omega arith)) ∙ sym (ends-only head.well context (rule_in t q) L h e)))
     fits_twice q l m false e = refl
@@ -91,7 +91,7 @@ end_finds {t} {head} x sought context rows r h s l = go (ltb r head.rules) refl 
         go' : (q ≡ r) ⊎ ((q < r) ⊎ (r < q)) → f q ≡ 0
         go' (inl e) = absurd (d e)
         go' (inr (inl m)) = none q (s.least q m)
-        go' (inr (inr m)) = none q (fits_twice q l m (rule_fits_lem head.well (rule_in t q) L context) refl)
+        go' (inr (inr m)) = none q (fits_twice q l m (rule_fits head.well (rule_in t q) L context) refl)
 
     go : (b : Bool) → ltb r head.rules ≡ b → a < given b (f r) → LocatedIn head.rules f a r a
     go true e m = record { below = ltb-true r head.rules e; skipped = rw (below_none r f (λ q k. none q (s.least q k))) (zero-add a); inside = m }

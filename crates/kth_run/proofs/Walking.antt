@@ -19,8 +19,8 @@ use Rattle.vpg.specs.Runs.{Stack, runs, entries}
 use Rattle.capped.specs.Capped.{limit, cap, value}
 use Rattle.capped.specs.declared.Count.{Count}
 use Rattle.level_theory.specs.Masks.{Nonterminals, masks, Calm, Match, Fits}
-use Rattle.level_theory.specs.Pending.{pending_at, close_of_lem, due_at}
-use Rattle.level_theory.specs.Walk.{test_at_lem, inner, later}
+use Rattle.level_theory.specs.Pending.{pending_at, close_of, due_at}
+use Rattle.level_theory.specs.Walk.{test_at, inner, later}
 use Rattle.level_theory.proofs.Alive.{run_fits}
 use Rattle.level_theory.proofs.Local.{Turn, turn}
 use Rattle.level_theory.proofs.Pending.{calm_due, due_none, masks-outer}
@@ -63,7 +63,7 @@ pub record Walking (t : List ℕ) (head : Head) (ts : List ℕ) (k : ℕ) (old n
   pub room : length behind ≡ 1025
   pub due_room : length dues ≡ 1025
   pub as_long : length new ≡ length old
-  pub due_is : value sought.due ≡ count_in dues (close_of_lem (pending_at (tokens_of ts) p) (length (tokens_of ts)))
+  pub due_is : value sought.due ≡ count_in dues (close_of (pending_at (tokens_of ts) p) (length (tokens_of ts)))
   pub due : Dues head.well (counts_at anywhere head.well (rules_of t head) (tokens_of ts)) (number_in behind) (count_in dues) (length (tokens_of ts)) (pending_at (tokens_of ts) p) sought.nonterminal
   pub small : sought.number < limit
   pub inside : sought.number < length (runs (rules_of t head) (sought.nonterminal, due_at head.well behind (pending_at (tokens_of ts) p) sought.nonterminal) (drop p (tokens_of ts)))
@@ -111,7 +111,7 @@ module _ {t : List ℕ} {head : Head} {ts closes mask rows : List ℕ} (x : Sett
       nothing : [] ≡ due_at U behind (pending_at W 0) head.start
       nothing = due_none U behind Level (pending_at W 0) head.start matching
 
-      first : count_in dues (close_of_lem (pending_at W 0) (length W)) ≡ 1
+      first : count_in dues (close_of (pending_at W 0) (length W)) ≡ 1
       first = one _ (omega (arith, close_most W 0, tokens_length ts, x.tokens.few))
 
   module _ {new behind : List ℕ} {dues : List Count} {sought : Sought} {p : ℕ} (s : Walks new behind dues sought p) (found : Found) (chosen : Chosen U G W rows p sought found) where
@@ -150,9 +150,9 @@ module _ {t : List ℕ} {head : Head} {ts closes mask rows : List ℕ} (x : Sett
     here_found : kth.Located (size anywhere U G W p (L, Rest)) G number found.rule found.number
     here_found = record { rule = rule_in t found.rule; is = rules_at t head.rules found.rule found_below; skipped = rule_found.skipped; inside = rw is_rule rule_found.inside }
 
-    fits : (eqb (left (rule_in t found.rule)) L ≡ true) × (test_at_lem U G (drop p W) (rule_in t found.rule) ≡ true)
+    fits : (eqb (left (rule_in t found.rule)) L ≡ true) × (test_at U G (drop p W) (rule_in t found.rule) ≡ true)
     unfolding here_found
-    fits = fits-size (eqb (left (rule_in t found.rule)) L) (test_at_lem U G (drop p W) (rule_in t found.rule)) _ _ found.number here_found.inside
+    fits = fits-size (eqb (left (rule_in t found.rule)) L) (test_at U G (drop p W) (rule_in t found.rule)) _ _ found.number here_found.inside
 
     state_fits : Fits U L Rest (masks U G (drop p W))
     state_fits = run_fits U G form (drop p W) L Rest calm _ (at_member (runs G (L, Rest) (drop p W)) number [] s.inside)
@@ -166,10 +166,10 @@ module _ {t : List ℕ} {head : Head} {ts closes mask rows : List ℕ} (x : Sett
       here_turn =
           turn U G W (length W) behind p (token_of (get_or ts p 0)) here form L found.rule (rule_in t found.rule) (rw s.room (closing_room x p (omega arith))) state_fits here_found.is (eqb-true _ _ fits.0) fits.1
 
-      close_counts : close_of_lem (pending_at W (suc p)) (length W) < length W → (M : ℕ) → M < 32 → value_at rows (suc (close_of_lem (pending_at W (suc p)) (length W))) M ≡ cap (counts_at anywhere U G W (suc (close_of_lem (pending_at W (suc p)) (length W))) M)
-      close_counts i M m = c.counted (suc (close_of_lem (pending_at W (suc p)) (length W))) M (omega arith) i m
+      close_counts : close_of (pending_at W (suc p)) (length W) < length W → (M : ℕ) → M < 32 → value_at rows (suc (close_of (pending_at W (suc p)) (length W))) M ≡ cap (counts_at anywhere U G W (suc (close_of (pending_at W (suc p)) (length W))) M)
+      close_counts i M m = c.counted (suc (close_of (pending_at W (suc p)) (length W))) M (omega arith) i m
 
-      pub walking_next : (j : ℕ) → j ≡ close_of_lem (pending_at W (suc p)) (length W) → (later-due : Count) → value later-due ≡ due_with (rule_in t found.rule) (value_at rows (suc j)) (value sought.due) (count_in dues j) →
+      pub walking_next : (j : ℕ) → j ≡ close_of (pending_at W (suc p)) (length W) → (later-due : Count) → value later-due ≡ due_with (rule_in t found.rule) (value_at rows (suc j)) (value sought.due) (count_in dues j) →
           Walks (set new p found.rule) (set behind j (later (rule_in t found.rule) (get_or behind j 0))) (set dues j later-due) (record { nonterminal = inner (rule_in t found.rule) (get_or behind p 0); due = later-due; number = found.number }) (p + 1)
       unfolding here_found
       walking_next j is later-due e =
@@ -188,7 +188,7 @@ module _ {t : List ℕ} {head : Head} {ts closes mask rows : List ℕ} (x : Sett
           })
         where
           Close : ℕ
-          Close = close_of_lem (pending_at W (suc p)) (length W)
+          Close = close_of (pending_at W (suc p)) (length W)
 
           behind' : List ℕ
           behind' = set behind Close (later (rule_in t found.rule) (get_or behind Close 0))

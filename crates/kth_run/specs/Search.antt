@@ -5,16 +5,16 @@ use Rattle.capped.specs.Capped.{cap, value}
 use Rattle.tables.specs.declared.Head.{Head}
 use Rattle.tables.specs.Table.{rule_in}
 use Rattle.contexts.specs.declared.Context.{Context}
-use Rattle.moves.specs.Moves.{rule_fits_lem}
+use Rattle.moves.specs.Moves.{rule_fits}
 use Rattle.count_theory.specs.believed.CountAt.{sum_below}
 use Rattle.count_theory.specs.Counts.{given}
 use Rattle.count_rows.specs.Rows.{parts_at}
 use Rattle.kth_run.specs.declared.Sought.{Sought}
 use Rattle.kth_run.specs.declared.Found.{Found}
 
--- how many runs have rule q of a table at a position, capped: none where it doesn't fit; the nonterminals below W are the well_matched ones
+-- how many runs have rule q of a table at a position, capped: none where it doesn't fit; the nonterminals below W are the well-matched ones
 abbrev pub size_in : List ℕ → ℕ → Sought → Context → List ℕ → ℕ → ℕ
-size_in t W sought context rows q = given (rule_fits_lem W (rule_in t q) sought.nonterminal context) (cap (parts_at rows context (rule_in t q) * value sought.due))
+size_in t W sought context rows q = given (rule_fits W (rule_in t q) sought.nonterminal context) (cap (parts_at rows context (rule_in t q) * value sought.due))
 
 -- number k among those of all rules is number i among those of rule r, where rule q has f q of them
 pub record LocatedIn (rules : ℕ) (f : ℕ → ℕ) (k r i : ℕ) : Type 0 where

@@ -21,8 +21,8 @@ use Rattle.vpg.specs.declared.Token.{Token}
 use Rattle.vpg.specs.believed.Grammar.{Rules, left}
 use Rattle.level_theory.specs.Masks.{Nonterminals, floor, onto, behind, alone, stands, masks}
 use Rattle.vpg.specs.Tests.{same_token}
-use Rattle.level_theory.specs.Pending.{Closes, rest, pending, pending_at, close_of_lem}
-use Rattle.level_theory.specs.Walk.{test_at_lem}
+use Rattle.level_theory.specs.Pending.{Closes, rest, pending, pending_at, close_of}
+use Rattle.level_theory.specs.Walk.{test_at}
 use Rattle.level_theory.proofs.Walk.{level_test}
 use Rattle.level_theory.proofs.Pending.{pending-from, pending_next, pending_close, pending-rest, masks-outer}
 use Rattle.contexts.specs.declared.Context.{Context}
@@ -47,9 +47,9 @@ tokens_at [] p h = absurd (not-suc-le-zero h)
 tokens_at (t ∷ ts) zero h = refl
 tokens_at (t ∷ ts) (suc p) h = tokens_at ts p (le_of_suc-le-suc h)
 
-close_of : (t : ℕ) (b : CloseName) → token_of t ≡ Token.Close b → b.0 ≡ t / 4
+close_of_lem : (t : ℕ) (b : CloseName) → token_of t ≡ Token.Close b → b.0 ≡ t / 4
 unfolding token_of token_with
-close_of t b h = go (eqb (kind t) 0) (eqb (kind t) 1) h
+close_of_lem t b h = go (eqb (kind t) 0) (eqb (kind t) 1) h
   where
     go : (x y : Bool) → cond x (Token.Mark (record { 0 = t / 4 })) (cond y (Token.Open (record { 0 = t / 4 })) (Token.Close (record { 0 = t / 4 }))) ≡ Token.Close b → b.0 ≡ t / 4
     go true y e = absurd (let z : ◌≡◌ {A = ℕ} 0 1 = cc in omega arith)
@@ -74,28 +74,28 @@ drop-some (x ∷ w) (suc p) e = omega (arith, drop-some w p e)
 pub close_below : (w : List Token) (p : ℕ) (d : CloseName × ℕ) → Memᴰ d (pending_at w p) → d.1 < length w
 close_below w p d m = drop-some w d.1 (pending_close w p d m).at
 
-pub close_most : (w : List Token) (p : ℕ) → close_of_lem (pending_at w p) (length w) ≤ length w
+pub close_most : (w : List Token) (p : ℕ) → close_of (pending_at w p) (length w) ≤ length w
 close_most w p = go (pending_at w p) refl
   where
-    go : (l : Closes) → pending_at w p ≡ l → close_of_lem l (length w) ≤ length w
+    go : (l : Closes) → pending_at w p ≡ l → close_of l (length w) ≤ length w
     go [] e = omega arith
     go (d ∷ l) e = omega (arith, close_below w p d (rw e (Memᴰ.head refl)))
 
-pub close_from : (w : List Token) (p : ℕ) → p ≤ length w → p ≤ close_of_lem (pending_at w p) (length w)
+pub close_from : (w : List Token) (p : ℕ) → p ≤ length w → p ≤ close_of (pending_at w p) (length w)
 close_from w p h = go (pending_at w p) refl
   where
-    go : (l : Closes) → pending_at w p ≡ l → p ≤ close_of_lem l (length w)
+    go : (l : Closes) → pending_at w p ≡ l → p ≤ close_of l (length w)
     go [] e = h
     go (d ∷ l) e = pending-from (drop p w) p d (rw e (Memᴰ.head refl))
 
 -- the first pending close from a token on
-pub top_next : (w : List Token) (i : ℕ) (t : Token) (v : List Token) (top beyond : ℕ) → drop i w ≡ t ∷ v → top ≡ close_of_lem (pending_at w (suc i)) (length w) →
-    beyond ≡ close_of_lem (pending_at w (suc top)) (length w) → next_top t i top beyond ≡ close_of_lem (pending_at w i) (length w)
+pub top_next : (w : List Token) (i : ℕ) (t : Token) (v : List Token) (top beyond : ℕ) → drop i w ≡ t ∷ v → top ≡ close_of (pending_at w (suc i)) (length w) →
+    beyond ≡ close_of (pending_at w (suc top)) (length w) → next_top t i top beyond ≡ close_of (pending_at w i) (length w)
 top_next w i (Token.Mark c) v top beyond e p q = p ∙ rw (pending_next w i e)
 top_next w i (Token.Close b) v top beyond e p q = rw (pending_next w i e)
 top_next w i (Token.Open a) v top beyond e p q = rw (pending_next w i e) (go (pending_at w (suc i)) refl)
   where
-    go : (l : Closes) → pending_at w (suc i) ≡ l → beyond ≡ close_of_lem (rest l) (length w)
+    go : (l : Closes) → pending_at w (suc i) ≡ l → beyond ≡ close_of (rest l) (length w)
     go [] f =
         let k : top ≡ length w = rw f at p in
         q ∙ rw (k, pending_end w (suc (length w)) (omega arith))
@@ -113,13 +113,13 @@ same-stands {low'} t e h k (Rule.Next M i M₁) b = rw (e, h low' M₁ b.1)
 same-stands {low'} t e h k (Rule.Step M a M₁ c M₂) b = rw (e, h true M₁ b.1, k low' c M₂ b.2)
 
 pub stands_end : (W : ℕ) (w : List Token) (mask : List ℕ) (p : ℕ) → p ≡ length w → Stands W w mask p (end_context p)
-unfolding test_at_lem token_with
+unfolding test_at token_with
 stands_end W w mask p h = record { position = refl; closing = rw (pending_end w (suc p) (omega arith)) h; rules = λ g l R b. ends g R }
   where
     over : length w ≤ p
     over = omega arith
 
-    ends : (g : Rules) (R : Rule) → applies_to W R (end_context p) ≡ test_at_lem W g (drop p w) R
+    ends : (g : Rules) (R : Rule) → applies_to W R (end_context p) ≡ test_at W g (drop p w) R
     ends g (Rule.Empty M) = rw (drop_of_length-le w over)
     ends g (Rule.Next M i M₁) = rw (drop_of_length-le w over, bit-zero (goal true M₁)) (and_none (same_token i (Token.Close (record { 0 = 0 }))) (alone i true))
       where
@@ -130,10 +130,10 @@ stands_end W w mask p h = record { position = refl; closing = rw (pending_end w 
     ends g (Rule.Step M a M₁ b M₂) = rw (drop_of_length-le w over)
 
 -- the first nonterminal that derives all that is left, from position p on
-pub floor-pending : (W : ℕ) (ts : List ℕ) (g : Rules) (p : ℕ) → floor_of (close_of_lem (pending_at (tokens_of ts) p) (length (tokens_of ts))) (length ts) W ≡ floor W (masks W g (drop p (tokens_of ts))).1
+pub floor-pending : (W : ℕ) (ts : List ℕ) (g : Rules) (p : ℕ) → floor_of (close_of (pending_at (tokens_of ts) p) (length (tokens_of ts))) (length ts) W ≡ floor W (masks W g (drop p (tokens_of ts))).1
 floor-pending W ts g p = rw (masks-outer W g (tokens_of ts) p) (go (pending_at (tokens_of ts) p) refl)
   where
-    go : (q : Closes) → pending_at (tokens_of ts) p ≡ q → floor_of (close_of_lem q (length (tokens_of ts))) (length ts) W ≡ floor {A = CloseName × Nonterminals} W (map (λ d. (d.0, (masks W g (drop (suc d.1) (tokens_of ts))).0)) q)
+    go : (q : Closes) → pending_at (tokens_of ts) p ≡ q → floor_of (close_of q (length (tokens_of ts))) (length ts) W ≡ floor {A = CloseName × Nonterminals} W (map (λ d. (d.0, (masks W g (drop (suc d.1) (tokens_of ts))).0)) q)
     go [] e = rw (tokens_length ts, le-ltb (length ts) (length ts) (omega arith))
     go (d ∷ q) e = rw (lt-ltb d.1 (length ts) (omega (arith, tokens_length ts, close_below (tokens_of ts) p d (rw e (Memᴰ.head refl)))))
 
@@ -142,7 +142,7 @@ module _ (W : ℕ) (ts mask : List ℕ) (p : ℕ) (here : p < length ts) where
   T = tokens_of ts
 
   abbrev Closing : ℕ
-  Closing = close_of_lem (pending_at T (suc p)) (length T)
+  Closing = close_of (pending_at T (suc p)) (length T)
 
   -- the context with the close b, and y as the word behind it
   abbrev Here : CloseName → ℕ → Context
@@ -155,10 +155,10 @@ module _ (W : ℕ) (ts mask : List ℕ) (p : ℕ) (here : p < length ts) where
   stands-with : (b : CloseName) (y : ℕ) →
       ((g : Rules) → Leveled W g T mask (suc p) → (k : Bool) (c : CloseName) (L : ℕ) → L < 32 → (eqb c.0 b.0 && bit y (goal k L)) ≡ behind k W (masks W g (drop (suc p) T)).1 c L) →
       Stands W T mask p (Here b y)
-  unfolding test_at_lem token_of
+  unfolding test_at token_of
   stands-with b y k = record { position = refl; closing = refl; rules = right }
     where
-      right : (g : Rules) → Leveled W g T mask (suc p) → (R : Rule) → Below 32 R → applies_to W R (Here b y) ≡ test_at_lem W g (drop p T) R
+      right : (g : Rules) → Leveled W g T mask (suc p) → (R : Rule) → Below 32 R → applies_to W R (Here b y) ≡ test_at W g (drop p T) R
       right g l R small =
           rw (tokens_at ts p here)
           (same-stands (token_of (get_or ts p 0)) (rw (kind_below (get_or ts p 0))) (λ low L m. l (suc p) (omega arith) (rw tokens_length here) L m low) (k g l) R small)
@@ -172,7 +172,7 @@ module _ (W : ℕ) (ts mask : List ℕ) (p : ℕ) (here : p < length ts) where
       go g l (d ∷ q) f k c L m =
           let z : Closing ≡ d.1 = rw f in
           let i = pending_close T (suc p) d (rw f (Memᴰ.head refl)) in
-          let n : d.0.0 ≡ get_or ts d.1 0 / 4 = close_of (get_or ts d.1 0) d.0 (heads (sym (tokens_at ts d.1 (rw z at h)) ∙ i.at)) in
+          let n : d.0.0 ≡ get_or ts d.1 0 / 4 = close_of_lem (get_or ts d.1 0) d.0 (heads (sym (tokens_at ts d.1 (rw z at h)) ∙ i.at)) in
           let n' : b.0 ≡ d.0.0 = e ∙ rw z (sym n) in
           let v : floor W (masks W g (drop (suc d.1) T)).1 ≡ floor {A = CloseName × Nonterminals} W (map (λ d. (d.0, (masks W g (drop (suc d.1) T)).0)) q) =
           ap (floor {A = CloseName × Nonterminals} W) (masks-outer W g T (suc d.1) ∙ ap (map (λ (d : CloseName × ℕ). (d.0, (masks W g (drop (suc d.1) T)).0))) (sym (pending-rest T (suc p) d q f))) in
@@ -199,11 +199,11 @@ module _ (ts : List ℕ) where
       let e : k ≡ length ts = omega (arith, tokens_length ts) in
       rw (e, get_or-set_same m (length ts) (length ts) 0 h, pending_end Words (suc (length ts)) (rw tokens_length (omega arith)), tokens_length)
 
-  pub top_end : length ts ≡ close_of_lem (pending_at Words (length ts)) (length Words)
+  pub top_end : length ts ≡ close_of (pending_at Words (length ts)) (length Words)
   top_end = rw (pending_end Words (length ts) (rw tokens_length (omega arith)), tokens_length)
 
-  pub top_turn : (m : List ℕ) (i top : ℕ) → 0 < i → i ≤ length ts → top ≡ close_of_lem (pending_at Words i) (length Words) → Matched Words m i →
-      next_top (token_of (get_or ts (i - 1) 0)) (i - 1) top (get_or m top 0) ≡ close_of_lem (pending_at Words (i - 1)) (length Words)
+  pub top_turn : (m : List ℕ) (i top : ℕ) → 0 < i → i ≤ length ts → top ≡ close_of (pending_at Words i) (length Words) → Matched Words m i →
+      next_top (token_of (get_or ts (i - 1) 0)) (i - 1) top (get_or m top 0) ≡ close_of (pending_at Words (i - 1)) (length Words)
   top_turn m zero top pos h p q = absurd (omega arith)
   top_turn m (suc i) top pos h p q =
       let e : suc i - 1 ≡ i = omega arith in
@@ -212,15 +212,15 @@ module _ (ts : List ℕ) where
       from : suc i ≤ top
       from = rw p (close_from Words (suc i) (rw tokens_length h))
 
-  pub matched_turn : (m : List ℕ) (i top : ℕ) → 0 < i → i ≤ length ts → length ts < length m → top ≡ close_of_lem (pending_at Words i) (length Words) → Matched Words m i →
+  pub matched_turn : (m : List ℕ) (i top : ℕ) → 0 < i → i ≤ length ts → length ts < length m → top ≡ close_of (pending_at Words i) (length Words) → Matched Words m i →
       Matched Words (set m (i - 1) top) (i - 1)
   matched_turn m zero top pos h r p q = absurd (omega arith)
   matched_turn m (suc i) top pos h r p q = let e : suc i - 1 ≡ i = omega arith in rw e (λ k f l. ⊎_elim (now k) (then k l) (eq-or-lt_of_le f))
     where
-      now : (k : ℕ) → i ≡ k → get_or (set m i top) k 0 ≡ close_of_lem (pending_at Words (suc k)) (length Words)
+      now : (k : ℕ) → i ≡ k → get_or (set m i top) k 0 ≡ close_of (pending_at Words (suc k)) (length Words)
       now k e = rw (← e, get_or-set_same m i top 0 (omega arith)) p
 
-      then : (k : ℕ) → k ≤ length Words → i < k → get_or (set m i top) k 0 ≡ close_of_lem (pending_at Words (suc k)) (length Words)
+      then : (k : ℕ) → k ≤ length Words → i < k → get_or (set m i top) k 0 ≡ close_of (pending_at Words (suc k)) (length Words)
       then k l f = rw (get_or-set_other m i k top 0 (λ e. omega arith)) (q k f l)
 
 -- ── words ──
@@ -258,7 +258,7 @@ module _ (t : List ℕ) (head : Head) (x : Indexed t head) (ts : List ℕ) where
   pub level_says : (mask : List ℕ) (i : ℕ) (context : Context) → Stands U T₀ mask i context → Leveled U G T₀ mask (suc i) → (L : ℕ) → bit (level_in U t context head.rules) L ≡ (masks U G (drop i T₀)).0 L
   level_says mask i context s l L =
       level-bit U t context head.rules L
-      ∙ any_like t (λ R. eqb (left R) L && applies_to U R context) (λ R. eqb (left R) L && test_at_lem U G (drop i T₀) R) head.rules
+      ∙ any_like t (λ R. eqb (left R) L && applies_to U R context) (λ R. eqb (left R) L && test_at U G (drop i T₀) R) head.rules
       (λ r m. ap (λ (b : Bool). eqb (left (rule_in t r)) L && b) (s.rules G l (rule_in t r) (x.ready.small r m)))
       ∙ level_test U G (drop i T₀) L
 
@@ -266,7 +266,7 @@ module _ (t : List ℕ) (head : Head) (x : Indexed t head) (ts : List ℕ) where
   abbrev Says : ℕ → ℕ → Type 0
   Says v i = (L : ℕ) → L < 32 → (low : Bool) → bit v (goal low L) ≡ onto low (floor U (masks U G (drop i T₀)).1) (masks U G (drop i T₀)).0 L
 
-  word_says : (set v k i : ℕ) → k ≡ close_of_lem (pending_at T₀ i) (length T₀) → WordOf v set k →
+  word_says : (set v k i : ℕ) → k ≡ close_of (pending_at T₀ i) (length T₀) → WordOf v set k →
       ((L : ℕ) → bit set L ≡ (masks U G (drop i T₀)).0 L) → Says v i
   word_says set v k i e w s L l low = w L l low ∙ rw (e, floor-pending U ts G i) (onto_same low (floor U (masks U G (drop i T₀)).1) (bit set) (masks U G (drop i T₀)).0 L (s L))
 
@@ -295,7 +295,7 @@ module _ (t : List ℕ) (head : Head) (x : Indexed t head) (ts : List ℕ) where
       beyond k f r = absurd (omega (arith, tokens_length ts))
 
   pub leveled_turn : (mask : List ℕ) (i : ℕ) (context : Context) (top v : ℕ) → 0 < i → i ≤ length mask → Leveled U G T₀ mask i → Stands U T₀ mask (i - 1) context →
-      top ≡ close_of_lem (pending_at T₀ (i - 1)) (length T₀) → WordOf v (level_in U t context head.rules) top → Leveled U G T₀ (set mask (i - 1) v) (i - 1)
+      top ≡ close_of (pending_at T₀ (i - 1)) (length T₀) → WordOf v (level_in U t context head.rules) top → Leveled U G T₀ (set mask (i - 1) v) (i - 1)
   leveled_turn mask i context top v pos h l s e w =
       let q : suc (i - 1) ≡ i = omega arith in
       word-turn mask i v pos h l (word_says (level_in U t context head.rules) v top (i - 1) e w (level_says mask (i - 1) context s (rw q l)))

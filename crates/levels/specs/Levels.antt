@@ -6,8 +6,8 @@ use Rattle.vpg.specs.declared.Rule.{Rule}
 use Rattle.vpg.specs.declared.Token.{Token}
 use Rattle.vpg.specs.believed.Grammar.{Rules}
 use Rattle.level_theory.specs.Masks.{floor, onto, masks}
-use Rattle.level_theory.specs.Pending.{pending_at, close_of_lem}
-use Rattle.level_theory.specs.Walk.{test_at_lem}
+use Rattle.level_theory.specs.Pending.{pending_at, close_of}
+use Rattle.level_theory.specs.Walk.{test_at}
 use Rattle.contexts.specs.declared.Context.{Context}
 use Rattle.contexts.specs.Context.{applies_to}
 use Rattle.tables.specs.declared.Head.{Head}
@@ -25,7 +25,7 @@ next_top (Token.Close b) i top beyond = i
 
 -- from position p on, m has the first pending close behind each position (for an open, its own); the length where there is none
 abbrev pub Matched : List Token → List ℕ → ℕ → Type 0
-Matched w m p = (k : ℕ) → p ≤ k → k ≤ length w → get_or m k 0 ≡ close_of_lem (pending_at w (suc k)) (length w)
+Matched w m p = (k : ℕ) → p ≤ k → k ≤ length w → get_or m k 0 ≡ close_of (pending_at w (suc k)) (length w)
 
 -- from position p on, the digits of a position's word say which nonterminals derive what is ahead in their level, and which derive all that is left:
 -- of those below W, where a close is ahead that ends the level, none does
@@ -37,8 +37,8 @@ Leveled W g w mask p =
 -- that can stand before the tokens
 pub record Stands (W : ℕ) (w : List Token) (mask : List ℕ) (p : ℕ) (context : Context) : Type 0 where
   pub position : context.position ≡ p
-  pub closing : context.closing ≡ close_of_lem (pending_at w (suc p)) (length w)
-  pub rules : (g : Rules) → Leveled W g w mask (suc p) → (R : Rule) → Below 32 R → applies_to W R context ≡ test_at_lem W g (drop p w) R
+  pub closing : context.closing ≡ close_of (pending_at w (suc p)) (length w)
+  pub rules : (g : Rules) → Leveled W g w mask (suc p) → (R : Rule) → Below 32 R → applies_to W R context ≡ test_at W g (drop p w) R
 
 -- the first nonterminal that derives all that is left: k is the first pending close, n the number of tokens
 abbrev pub floor_of : ℕ → ℕ → ℕ → ℕ

@@ -85,7 +85,7 @@ fn close_name(t: u32) -> CloseName
 // What stands at the token of position p, from the words of the positions behind it.
 fn context_in(tokens: &[u32], closes: &Closes, masks: &Masks, p: usize) -> Context
     requires tokens { Tokens tokens.now × (p < length tokens.now) }
-    requires cases { Matched (tokens_of tokens.now) closes.now p }
+    requires matched { Matched (tokens_of tokens.now) closes.now p }
     ensures { ((W : ℕ) → Stands W (tokens_of tokens.now) masks.now p result) × (result.kind < 4) }
 {
     let t = tokens[p];
@@ -121,7 +121,7 @@ fn context_in(tokens: &[u32], closes: &Closes, masks: &Masks, p: usize) -> Conte
 // What stands at any position.
 pub fn context_at(tokens: &[u32], closes: &Closes, masks: &Masks, p: usize) -> Context
     requires tokens { Tokens tokens.now × (p ≤ length tokens.now) }
-    requires cases { Matched (tokens_of tokens.now) closes.now p }
+    requires matched { Matched (tokens_of tokens.now) closes.now p }
     ensures { (W : ℕ) → Stands W (tokens_of tokens.now) masks.now p result }
 {
     if p == tokens.len() {

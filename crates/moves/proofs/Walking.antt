@@ -15,7 +15,7 @@ use Rattle.tables.specs.declared.Head.{Head}
 use Rattle.tables.specs.Table.{rule_in}
 use Rattle.rule_index.specs.Classes.{class_at, class_of}
 use Rattle.rule_index.specs.Index.{FirstFrom, FirstEmpty}
-use Rattle.moves.specs.Moves.{rule_fits_lem, Smallest}
+use Rattle.moves.specs.Moves.{rule_fits, Smallest}
 
 -- a fact of all numbers below k, and of all rules of another class, is one of all numbers below the first rule of the class from k on
 pub below_first : (P : ℕ → Type 0) (t : List ℕ) {rules c k n : ℕ} → FirstFrom t rules c k n → ((q : ℕ) → class_of (rule_in t q) ≢ c → P q) → ((q : ℕ) → q < k → P q) →
@@ -28,17 +28,17 @@ below_first P t {k = k} f other h q l = go (ltb q k) refl
 
 module _ (t : List ℕ) (head : Head) (L : ℕ) (context : Context) where
   -- where L can't only end, a rule of another class doesn't fit
-  pub fits_apart : may_end head.well context L ≡ false → (q : ℕ) → class_of (rule_in t q) ≢ class_at (token_here context) → rule_fits_lem head.well (rule_in t q) L context ≡ false
+  pub fits_apart : may_end head.well context L ≡ false → (q : ℕ) → class_of (rule_in t q) ≢ class_at (token_here context) → rule_fits head.well (rule_in t q) L context ≡ false
   fits_apart h q d = other_class head.well context (rule_in t q) L h d
 
   pub empty_smallest : (r : ℕ) → may_end head.well context L ≡ true → FirstEmpty t head.rules L r → Smallest t head L context r
   empty_smallest r h f = record {
     most = f.most;
     found = λ l. ends_stand head.well context (rule_in t r) L h (f.found l);
-    least = λ q l. go q l (rule_fits_lem head.well (rule_in t q) L context) refl;
+    least = λ q l. go q l (rule_fits head.well (rule_in t q) L context) refl;
   }
     where
-      go : (q : ℕ) → q < r → (b : Bool) → rule_fits_lem head.well (rule_in t q) L context ≡ b → b ≡ false
+      go : (q : ℕ) → q < r → (b : Bool) → rule_fits head.well (rule_in t q) L context ≡ b → b ≡ false
       go q l true e = absurd (f.none q l (ends-only head.well context (rule_in t q) L h e))
       go q l false e = refl
 

@@ -8,12 +8,12 @@ use Rattle.contexts.specs.Context.{applies_to}
 use Rattle.tables.specs.declared.Head.{Head}
 use Rattle.tables.specs.Table.{rule_in}
 
--- the rule is for L and can stand here; the nonterminals below W are the well_matched ones
-abbrev pub rule_fits_lem : ℕ → Rule → ℕ → Context → Bool
-rule_fits_lem W R L context = eqb (left R) L && applies_to W R context
+-- the rule is for L and can stand here; the nonterminals below W are the well-matched ones
+abbrev pub rule_fits : ℕ → Rule → ℕ → Context → Bool
+rule_fits W R L context = eqb (left R) L && applies_to W R context
 
 -- r is the smallest rule that is for L and can stand here; where there is none, it is the number of rules
 pub record Smallest (t : List ℕ) (head : Head) (L : ℕ) (context : Context) (r : ℕ) : Type 0 where
   pub most : r ≤ head.rules
-  pub found : r < head.rules → rule_fits_lem head.well (rule_in t r) L context ≡ true
-  pub least : (q : ℕ) → q < r → rule_fits_lem head.well (rule_in t q) L context ≡ false
+  pub found : r < head.rules → rule_fits head.well (rule_in t r) L context ≡ true
+  pub least : (q : ℕ) → q < r → rule_fits head.well (rule_in t q) L context ≡ false

@@ -6,7 +6,7 @@ ghost use Rattle.level_theory.specs.Walk.{inner, later};
 ghost use Rattle.tables.specs.Table.{rule_from, rule_in};
 ghost use Rattle.rule_index.specs.Index.{FirstEmpty, Indexed};
 ghost use Rattle.contexts.specs.Context.{AtKind};
-ghost use Rattle.moves.specs.Moves.{rule_fits_lem, Smallest};
+ghost use Rattle.moves.specs.Moves.{rule_fits, Smallest};
 
 use contexts::Context;
 use levels::Nonterminals;
@@ -15,7 +15,7 @@ use tables::{Head, Six, Table};
 // Whether the rule of number r, any rule, is for the nonterminal and can stand here.
 pub fn fits(table: &Table, head: Head, r: usize, nonterminal: u16, context: Context) -> bool
     requires { Indexed table.now head × (r < head.rules) }
-    ensures { result ≡ rule_fits_lem head.well (rule_in table.now r) nonterminal context }
+    ensures { result ≡ rule_fits head.well (rule_in table.now r) nonterminal context }
 {
     if tables::left_in(table, r) == nonterminal {
         contexts::applies(table, head, r, context)
@@ -27,7 +27,7 @@ pub fn fits(table: &Table, head: Head, r: usize, nonterminal: u16, context: Cont
 // The same for a rule that stands at tokens of this kind.
 pub fn takes(table: &Table, head: Head, r: usize, l: u16, context: Context) -> bool
     requires { Indexed table.now head × (r < head.rules) × AtKind (rule_in table.now r) context.kind }
-    ensures { result ≡ rule_fits_lem head.well (rule_in table.now r) l context }
+    ensures { result ≡ rule_fits head.well (rule_in table.now r) l context }
 {
     if tables::left_in(table, r) == l {
         contexts::takes(table, head, r, context)

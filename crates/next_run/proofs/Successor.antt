@@ -15,7 +15,7 @@ use Rattle.vpg.specs.declared.Rule.{Rule}
 use Rattle.vpg.specs.declared.Token.{Token}
 use Rattle.vpg.specs.believed.Grammar.{Rules, General, left}
 use Rattle.vpg.specs.Extremes.{Least, Next, Last}
-use Rattle.listing_model.specs.believed.Listing.{next, written, no-further, refused, over_entries}
+use Rattle.listing_model.specs.believed.Listing.{next, written, no_further, refused, over_entries}
 use Rattle.listing_model.specs.Calls.{call_on}
 use Rattle.vpg.specs.Runs.{State, entries}
 use Rattle.vpg.proofs.Ascends.{entries_ascending}
@@ -23,8 +23,8 @@ use Rattle.laws.proofs.Bools.{and_left, and_right, both}
 use Rattle.listing_model.proofs.Calls.{next-refused, next-written, next_no_further}
 use Rattle.vpg.proofs.Take.{end}
 use Rattle.level_theory.specs.Masks.{finishes, masks}
-use Rattle.level_theory.specs.Pending.{pending_at, close_of_lem, due_at}
-use Rattle.level_theory.specs.Walk.{Run, test_at_lem}
+use Rattle.level_theory.specs.Pending.{pending_at, close_of, due_at}
+use Rattle.level_theory.specs.Walk.{Run, test_at}
 use Rattle.level_theory.specs.Local.{state_at}
 use Rattle.level_theory.proofs.Alive.{Passes, goes_applies, run_fits}
 use Rattle.level_theory.proofs.Search.{None, end_last, end_next}
@@ -73,10 +73,10 @@ module _ {t : List ℕ} {head : Head} {ts m mask : List ℕ} (set-up : Setting t
   module _ {at f : List ℕ} (k : Reads (grammar_in t head) W E at f) where
     -- ── what the search found, as the theory of runs asks for it ──
 
-    passes_at : (q r : ℕ) → r < head.rules → fits_at t head W at q r ≡ true → Passes (test_at_lem U G (drop q W)) G (get_or at q 0) r
+    passes_at : (q r : ℕ) → r < head.rules → fits_at t head W at q r ≡ true → Passes (test_at U G (drop q W)) G (get_or at q 0) r
     passes_at q r h x = record { rule = rule_in t r; is = rules_at t head.rules r h; from = eqb-true _ _ (and_left _ _ x); passes = and_right (eqb (left (rule_in t r)) (get_or at q 0)) _ x }
 
-    none-at : (q : ℕ) (P : ℕ → Type 0) → ((r : ℕ) → r < head.rules → P r → fits_at t head W at q r ≡ false) → None (test_at_lem U G (drop q W)) G (get_or at q 0) P
+    none-at : (q : ℕ) (P : ℕ → Type 0) → ((r : ℕ) → r < head.rules → P r → fits_at t head W at q r ≡ false) → None (test_at U G (drop q W)) G (get_or at q 0) P
     none-at q P h r x z =
         let l = rules_below t head.rules r z.is in
         let e : rule_in t r ≡ z.rule = some-injective _ _ (sym (rules_at t head.rules r l) ∙ z.is) in
@@ -102,14 +102,14 @@ module _ {t : List ℕ} {head : Head} {ts m mask : List ℕ} (set-up : Setting t
 
     -- ── each number is a rule that fits where it stands ──
 
-    fits_rule : (q r : ℕ) (R : Rule) → get_elem? G r ≡ some R → left R ≡ get_or at q 0 → test_at_lem U G (drop q W) R ≡ true → (r < head.rules) × (fits_at t head W at q r ≡ true)
+    fits_rule : (q r : ℕ) (R : Rule) → get_elem? G r ≡ some R → left R ≡ get_or at q 0 → test_at U G (drop q W) R ≡ true → (r < head.rules) × (fits_at t head W at q r ≡ true)
     fits_rule q r R i a x =
         let l = rules_below t head.rules r i in
         let e : rule_in t r ≡ R = some-injective _ _ (sym (rules_at t head.rules r l) ∙ i) in
         (l, both (eq-eqb _ _ (ap left e ∙ a)) (rw e x))
 
     fits_before : (q : ℕ) → q < length W → (get_or E q 0 < head.rules) × (fits_at t head W at q (get_or E q 0) ≡ true)
-    unfolding test_at_lem
+    unfolding test_at
     fits_before q l =
         let d = k.leads q l in
         let v = leads U G W at f E q d (omega (arith, numbers ts buf long, tokens_length ts)) in
@@ -118,7 +118,7 @@ module _ {t : List ℕ} {head : Head} {ts m mask : List ℕ} (set-up : Setting t
         fits_rule q (get_or E q 0) v.rule v.is a.from (rw d.here a.applied)
 
     fits_end : (get_or E (length W) 0 < head.rules) × (fits_at t head W at (length W) (get_or E (length W) 0) ≡ true)
-    unfolding test_at_lem
+    unfolding test_at
     fits_end = fits_rule (length W) (get_or E (length W) 0) (Rule.Empty (get_or at (length W) 0)) k.ends refl (rw done refl)
 
     pub each_fits : EachFits t head W at buf
@@ -131,13 +131,13 @@ module _ {t : List ℕ} {head : Head} {ts m mask : List ℕ} (set-up : Setting t
     pub is_run : Run G (head.start, []) W E
     is_run = at_start_lem (λ s. Run G s W E) (run_from (length W) 0 (omega arith))
 
-    larger_none : (p q : ℕ) → NoneFrom t head W at buf p → p ≤ q → q ≤ length W → None (test_at_lem U G (drop q W)) G (get_or at q 0) (λ r. get_or E q 0 < r)
+    larger_none : (p q : ℕ) → NoneFrom t head W at buf p → p ≤ q → q ≤ length W → None (test_at U G (drop q W)) G (get_or at q 0) (λ r. get_or E q 0 < r)
     larger_none p q x h l = none-at q (λ r. get_or E q 0 < r) (λ r b a. x q h l r (rw (number ts buf q (omega (arith, tokens_length ts))) at a) b)
 
     last_end : NoneFrom t head W at buf (length W) → LastFrom U G W at f E (length W)
     last_end x = rw (last-number, state_end, done) (end_last G (get_or at (length W) 0) (get_or E (length W) 0) (λ r a z. at_end (drop (length W) W) done (larger_none (length W) (length W) x (omega arith) (omega arith)) r a z))
       where
-        at_end : (v : List Token) → v ≡ [] → None (test_at_lem U G v) G (get_or at (length W) 0) (λ r. get_or E (length W) 0 < r) → None finishes G (get_or at (length W) 0) (λ r. get_or E (length W) 0 < r)
+        at_end : (v : List Token) → v ≡ [] → None (test_at U G v) G (get_or at (length W) 0) (λ r. get_or E (length W) 0 < r) → None finishes G (get_or at (length W) 0) (λ r. get_or E (length W) 0 < r)
         at_end v e h r a z = (rw e at h) r a (end_passes U z)
 
     last-from : (d p : ℕ) → p + d ≡ length W → NoneFrom t head W at buf p → LastFrom U G W at f E p
@@ -145,7 +145,7 @@ module _ {t : List ℕ} {head : Head} {ts m mask : List ℕ} (set-up : Setting t
     last-from (suc d) p e x =
         last-left U G W at f E p (k.leads p (omega arith)) (omega (arith, numbers ts buf long, tokens_length ts)) form (last-from d (suc p) (omega arith) (λ q h. x q (omega arith))) (larger_none p p x (omega arith) (omega arith))
 
-    pub no_further_is : NoneFrom t head W at buf 0 → (no-further, buf) ≡ call_on (over_entries (grammar_in t head) W) next buf
+    pub no_further_is : NoneFrom t head W at buf 0 → (no_further, buf) ≡ call_on (over_entries (grammar_in t head) W) next buf
     no_further_is x =
         sym (next_no_further (entries (grammar_in t head) W) (suc (length W)) buf (entries_ascending (grammar_in t head) W) (rw on_numbers is_run)
         (rw on_numbers (at_start_lem (λ s. Last (Run G s W) E) (last-from (length W) 0 (omega arith) x))))
@@ -163,14 +163,14 @@ module _ {t : List ℕ} {head : Head} {ts m mask : List ℕ} (set-up : Setting t
       above : get_or E p 0 < r
       above = rw (number ts buf p (omega (arith, h.position, tokens_length ts))) h.larger
 
-      between : None (test_at_lem U G (drop p W)) G (get_or at p 0) (λ s. (get_or E p 0 < s) × (s < r))
+      between : None (test_at U G (drop p W)) G (get_or at p 0) (λ s. (get_or E p 0 < s) × (s < r))
       between = none-at p (λ s. (get_or E p 0 < s) × (s < r)) (λ s b a. h.least s (rw (number ts buf p (omega (arith, h.position, tokens_length ts))) at a.0) a.1)
 
       module _ (more : p < length ts) where
         here : drop p W ≡ token_of (get_or ts p 0) ∷ drop (suc p) W
         here = tokens_at ts p more
 
-        inside : close_of_lem (pending_at W (suc p)) (length W) < length f
+        inside : close_of (pending_at W (suc p)) (length W) < length f
         inside = rw k.room_behind (closing_room set-up p (omega arith))
 
         -- where rule r leads from the state at p
@@ -196,10 +196,10 @@ module _ {t : List ℕ} {head : Head} {ts m mask : List ℕ} (set-up : Setting t
       next_end : p ≡ length W → NextFrom U G W at f E p (r ∷ [])
       next_end e = go p e (passes_at p r h.rule h.fits) above between
         where
-          go : (p : ℕ) → p ≡ length W → Passes (test_at_lem U G (drop p W)) G (get_or at p 0) r → get_or E p 0 < r → None (test_at_lem U G (drop p W)) G (get_or at p 0) (λ s. (get_or E p 0 < s) × (s < r)) → NextFrom U G W at f E p (r ∷ [])
+          go : (p : ℕ) → p ≡ length W → Passes (test_at U G (drop p W)) G (get_or at p 0) r → get_or E p 0 < r → None (test_at U G (drop p W)) G (get_or at p 0) (λ s. (get_or E p 0 < s) × (s < r)) → NextFrom U G W at f E p (r ∷ [])
           go p e x a d = rw e (at_end (rw e at x) (rw e at a) (rw e at d))
             where
-              at_end : Passes (test_at_lem U G (drop (length W) W)) G (get_or at (length W) 0) r → get_or E (length W) 0 < r → None (test_at_lem U G (drop (length W) W)) G (get_or at (length W) 0) (λ s. (get_or E (length W) 0 < s) × (s < r)) → NextFrom U G W at f E (length W) (r ∷ [])
+              at_end : Passes (test_at U G (drop (length W) W)) G (get_or at (length W) 0) r → get_or E (length W) 0 < r → None (test_at U G (drop (length W) W)) G (get_or at (length W) 0) (λ s. (get_or E (length W) 0 < s) × (s < r)) → NextFrom U G W at f E (length W) (r ∷ [])
               at_end x a d = rw (last-number, state_end, done) (end_next G (get_or at (length W) 0) (get_or E (length W) 0) r a (passes_end U (rw done at x)) (λ s b z. (rw done at d) s b (end_passes U z)))
 
       follows_next : (x : List ℕ) → Follows G S (drop p W) x → NextFrom U G W at f E p (r ∷ x)

@@ -1,13 +1,13 @@
 -- The last position at which a larger rule still leads to a reading (document 01, "Services": "the successor differs first at the last
 -- place at which a larger rule still leads to a reading"), and what is written from there on.
--- Law: written-is, no_further_is (next_run/proofs/Successor.antt)
+-- Law: written_is, no_further_is (next_run/proofs/Successor.antt)
 use Rattle.std.specs.Prelude.{ℕ, suc, ◌<◌, ◌≤◌, ◌≡◌, Bool, true, false, ◌&&◌, List, [], ◌∷◌, ◌++◌, eqb, length, take, drop, get_or, set}
 use Rattle.vpg.specs.declared.Token.{Token}
 use Rattle.vpg.specs.believed.Grammar.{Rules, left}
 use Rattle.vpg.specs.Extremes.{Least}
-use Rattle.listing_model.specs.believed.Listing.{Answer, written, no-further, refused}
+use Rattle.listing_model.specs.believed.Listing.{Answer, written, no_further, refused}
 use Rattle.vpg.specs.Runs.{State}
-use Rattle.level_theory.specs.Walk.{Run, test_at_lem, inner, later}
+use Rattle.level_theory.specs.Walk.{Run, test_at, inner, later}
 use Rattle.tables.specs.declared.Head.{Head}
 use Rattle.tables.specs.Table.{rule_in}
 use Rattle.tables.specs.Ready.{rules_of}
@@ -19,7 +19,7 @@ use Rattle.next_run.specs.declared.NextAnswer.{NextAnswer}
 
 -- rule number r is for the nonterminal at position q and can stand there
 abbrev pub fits_at : List ℕ → Head → List Token → List ℕ → ℕ → ℕ → Bool
-fits_at t head w at q r = eqb (left (rule_in t r)) (get_or at q 0) && test_at_lem head.well (rules_of t head) (drop q w) (rule_in t r)
+fits_at t head w at q r = eqb (left (rule_in t r)) (get_or at q 0) && test_at head.well (rules_of t head) (drop q w) (rule_in t r)
 
 -- each number of e is a rule that fits where it stands
 abbrev pub EachFits : List ℕ → Head → List Token → List ℕ → List ℕ → Type 0
@@ -65,5 +65,5 @@ pub record Rewritten (t : List ℕ) (head : Head) (w : List Token) (closes : Lis
 -- 16: "the first n + 1 bytes handed to next reading are no reading of this history"
 abbrev pub next_said : NextAnswer → Answer
 next_said NextAnswer.Written = written
-next_said NextAnswer.NoFurther = no-further
+next_said NextAnswer.NoFurther = no_further
 next_said NextAnswer.NoEntry = refused 16

@@ -16,7 +16,7 @@ use Rattle.vpg.specs.declared.OpenName.{OpenName}
 use Rattle.vpg.specs.declared.CloseName.{CloseName}
 use Rattle.vpg.specs.declared.Rule.{Rule}
 use Rattle.vpg.specs.declared.Token.{Token}
-use Rattle.vpg.specs.Tests.{is_open_lem, same_token}
+use Rattle.vpg.specs.Tests.{is_open, same_token}
 use Rattle.vpg.specs.believed.Grammar.{Grammar}
 use Rattle.pair_theory.specs.Pairs.{PairState, single, next_to, over_next, open_to, over_open, finished, close_to, over_close, over_return, derivative}
 use Rattle.tables.specs.declared.Head.{Head}
@@ -27,7 +27,7 @@ use Rattle.pair_words.specs.Words.{Gives, gives_at, gives_behind, words_by}
 use Rattle.pair_words.proofs.Below.{Fits, at-fits, behind-fits}
 use Rattle.pair_words.proofs.Digits.{adds, words_size, bit_words}
 use Rattle.pair_states.specs.Encodes.{Encodes}
-use Rattle.pair_states.specs.Finished.{finished_of_lem}
+use Rattle.pair_states.specs.Finished.{finished_of}
 use Rattle.pair_states.specs.Wide.{wide_grammar}
 use Rattle.pair_states.proofs.Finished.{any_rules, finished_members}
 
@@ -75,7 +75,7 @@ any-or p q (R ∷ l) = ap (λ (b : Bool). (p R || q R) || b) (any-or p q l) ∙ 
 -- ── one rule ──
 
 -- behind a token that doesn't open a step
-next_rule : (i : Token) → ((a : OpenName) → is_open_lem a i ≡ false) → (words : List ℕ) (S : PairState) (L₁ L₃ : ℕ) (R : Rule) → Below 32 R → L₁ < 32 → Encodes words S →
+next_rule : (i : Token) → ((a : OpenName) → is_open a i ≡ false) → (words : List ℕ) (S : PairState) (L₁ L₃ : ℕ) (R : Rule) → Below 32 R → L₁ < 32 → Encodes words S →
     adds (gives_at i words) L₃ L₁ R ≡ next_to i S L₁ L₃ R
 next_rule i o words S L₁ L₃ (Rule.Empty M) h l x = refl
 next_rule i o words S L₁ L₃ (Rule.Next M i' M₁) h l x = rw (x.at L₁ M l h.0) (last-first (same_token i' i) (eqb M₁ L₃) (S L₁ M))
@@ -164,7 +164,7 @@ module _ (t : List ℕ) (head : Head) (indexed : Indexed t head) where
       ∙ ap (λ (b : Bool). b || any q (rules_in t n)) (ap (λ (w : ℕ). bit w K) (get_or-replicate 32 L 0 0 l) ∙ bit-zero K)
 
   -- (1)
-  next_encodes : (i : Token) → ((a : OpenName) → is_open_lem a i ≡ false) → (words : List ℕ) (S : PairState) → Encodes words S → Encodes (words_by (gives_at i words) (replicate 32 0) t n) (over_next g i S)
+  next_encodes : (i : Token) → ((a : OpenName) → is_open a i ≡ false) → (words : List ℕ) (S : PairState) → Encodes words S → Encodes (words_by (gives_at i words) (replicate 32 0) t n) (over_next g i S)
   next_encodes i o words S x = record {
     at = λ L₁ L₃ l₁ l₃. by_rules_alone (gives_at i words) (at-fits i words) L₃ L₁ (next_to i S L₁ L₃) l₃ (λ R h. next_rule i o words S L₁ L₃ R h l₁ x);
   }
@@ -189,10 +189,10 @@ module _ (t : List ℕ) (head : Head) (indexed : Indexed t head) where
 
   -- (3) the step's close, besides a close that is taken alone
   pub close_encodes : (b : CloseName) (a : OpenName) (words saved : List ℕ) (S S₁ : PairState) → Encodes words S → Encodes saved S₁ →
-      Encodes (words_by (gives_behind a b (finished_of_lem words (ends_in t) 32) saved) (words_by (gives_at (Token.Close b) words) (replicate 32 0) t n) t n) (over_return g b S S₁ a)
+      Encodes (words_by (gives_behind a b (finished_of words (ends_in t) 32) saved) (words_by (gives_at (Token.Close b) words) (replicate 32 0) t n) t n) (over_return g b S S₁ a)
   close_encodes b a words saved S S₁ x y = record {
     at = λ L₁ L₅ l₁ l₅.
-        let done = finished_of_lem words (ends_in t) 32 in
+        let done = finished_of words (ends_in t) 32 in
         by_rules (gives_behind a b done saved) (behind-fits a b done saved) _ (alone-size (gives_at (Token.Close b) words) refl) L₅ L₁ (close_to g b S S₁ a L₁ L₅) l₅
         (λ R h. close_rule g b a saved done S S₁ L₁ L₅ R h l₁ y (finished_members t head indexed words S x))
         ∙ ap (λ (c : Bool). c || over_close g b S S₁ a L₁ L₅) ((token_encodes (Token.Close b) words S x).at L₁ L₅ l₁ l₅)

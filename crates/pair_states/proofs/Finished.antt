@@ -22,7 +22,7 @@ use Rattle.tables.specs.declared.Head.{Head}
 use Rattle.tables.specs.Table.{rule_in, rules_in}
 use Rattle.rule_index.specs.Index.{Indexed, end_in, ends_in}
 use Rattle.pair_states.specs.Encodes.{Encodes}
-use Rattle.pair_states.specs.Finished.{finished_of_lem, may_end}
+use Rattle.pair_states.specs.Finished.{finished_of, may_end}
 use Rattle.pair_states.specs.Wide.{wide_grammar}
 
 -- ── tests ──
@@ -35,22 +35,22 @@ any_rules p t (suc n) = any_snoc p (rules_in t n) (rule_in t n) ∙ or_comm (any
 
 -- ── the union ──
 
-bit-finished : (words : List ℕ) (empties n L : ℕ) → bit (finished_of_lem words empties n) L ≡ any_below n (λ k. bit empties k && bit (get_or words k 0) L)
-unfolding finished_of_lem
+bit-finished : (words : List ℕ) (empties n L : ℕ) → bit (finished_of words empties n) L ≡ any_below n (λ k. bit empties k && bit (get_or words k 0) L)
+unfolding finished_of
 bit-finished words empties zero L = bit-zero L
 bit-finished words empties (suc n) L = go (bit empties n) (bit-finished words empties n L)
   where
-    go : (b : Bool) → bit (finished_of_lem words empties n) L ≡ any_below n (λ k. bit empties k && bit (get_or words k 0) L) →
-        bit (cond b (bit_or (finished_of_lem words empties n) (get_or words n 0)) (finished_of_lem words empties n)) L
+    go : (b : Bool) → bit (finished_of words empties n) L ≡ any_below n (λ k. bit empties k && bit (get_or words k 0) L) →
+        bit (cond b (bit_or (finished_of words empties n) (get_or words n 0)) (finished_of words empties n)) L
         ≡ ((b && bit (get_or words n 0) L) || any_below n (λ k. bit empties k && bit (get_or words k 0) L))
     go true h =
-        bit-or (finished_of_lem words empties n) (get_or words n 0) L
-        ∙ or_comm (bit (finished_of_lem words empties n) L) (bit (get_or words n 0) L)
+        bit-or (finished_of words empties n) (get_or words n 0) L
+        ∙ or_comm (bit (finished_of words empties n) L) (bit (get_or words n 0) L)
         ∙ ap (λ (b : Bool). bit (get_or words n 0) L || b) h
     go false h = h
 
-pub finished-turn : (words : List ℕ) (empties k m : ℕ) → m ≡ finished_of_lem words empties k → cond (bit empties k) (bit_or m (get_or words k 0)) m ≡ finished_of_lem words empties (k + 1)
-unfolding finished_of_lem
+pub finished-turn : (words : List ℕ) (empties k m : ℕ) → m ≡ finished_of words empties k → cond (bit empties k) (bit_or m (get_or words k 0)) m ≡ finished_of words empties (k + 1)
+unfolding finished_of
 finished-turn words empties k m e = rw (add-one, e)
 
 -- ── what may be finished ──
@@ -80,7 +80,7 @@ module _ (t : List ℕ) (head : Head) (indexed : Indexed t head) where
       go true q = refl
       go false q = absurd ((indexed.ends K k).none e.number (omega (arith, e.small, ltb-false (end_in t K) n q)) e.is)
 
-  pub finished_members : (words : List ℕ) (S : PairState) → Encodes words S → (L : ℕ) → L < 32 → bit (finished_of_lem words (ends_in t) 32) L ≡ finished g S L
+  pub finished_members : (words : List ℕ) (S : PairState) → Encodes words S → (L : ℕ) → L < 32 → bit (finished_of words (ends_in t) 32) L ≡ finished g S L
   finished_members words S x L l = bit-finished words (ends_in t) 32 L ∙ same_test (any_below 32 current) (finished g S L) forth back
     where
       current : ℕ → Bool
@@ -103,4 +103,4 @@ module _ (t : List ℕ) (head : Head) (indexed : Indexed t head) where
           some_below 32 current K k (both (rule_empties K k (record { number = r.number; small = r.small; is = m.0 })) (x.at L K l k ∙ m.1))
 
   pub finished-some : (words : List ℕ) (S : PairState) → Encodes words S → may_end words (ends_in t) ≡ any_below 32 (finished g S)
-  finished-some words S x = below_same 32 (bit (finished_of_lem words (ends_in t) 32)) (finished g S) (finished_members words S x)
+  finished-some words S x = below_same 32 (bit (finished_of words (ends_in t) 32)) (finished g S) (finished_members words S x)

@@ -14,8 +14,8 @@ use Rattle.pair_states.specs.Wide.{wide_grammar}
 pub proper : (table : List ℕ) (head : Head) → Ready table head → Proper (wide_grammar table head)
 proper table head ready = record {
   form = ready_general table head ready;
-  start_in_lem = ready.start_small;
-  inside_in_lem = λ r L a L₁ b L₂ e.
+  start_in = ready.start_small;
+  inside_in = λ r L a L₁ b L₂ e.
       let l = rules_below table head.rules r e in
       let is : rule_in table r ≡ Rule.Step L a L₁ b L₂ = some-injective _ _ (sym (rules_at table head.rules r l) ∙ e) in
       (subst (Below 32) is (ready.small r l)).1;

@@ -6,10 +6,10 @@ use Rattle.bits.specs.Bit.{bit}
 use Rattle.laws.specs.Any.{any_below}
 
 -- the contexts in which a nonterminal below n that may end is current; empties: the nonterminals that have an empty rule
-unfoldable pub finished_of_lem : List ℕ → ℕ → ℕ → ℕ
-finished_of_lem words empties zero = 0
-finished_of_lem words empties (suc n) = cond (bit empties n) (bit_or (finished_of_lem words empties n) (get_or words n 0)) (finished_of_lem words empties n)
+unfoldable pub finished_of : List ℕ → ℕ → ℕ → ℕ
+finished_of words empties zero = 0
+finished_of words empties (suc n) = cond (bit empties n) (bit_or (finished_of words empties n) (get_or words n 0)) (finished_of words empties n)
 
 -- some context may be finished
 abbrev pub may_end : List ℕ → ℕ → Bool
-may_end words empties = any_below 32 (bit (finished_of_lem words empties 32))
+may_end words empties = any_below 32 (bit (finished_of words empties 32))

@@ -7,7 +7,7 @@ ghost use Rattle.std.specs.Int.Bits.{bit_or};
 ghost use Rattle.pair_theory.specs.Pairs.{PairState, single, over_return, derivative};
 ghost use Rattle.rule_index.specs.Index.{Indexed};
 ghost use Rattle.pair_states.specs.Encodes.{Encodes};
-ghost use Rattle.pair_states.specs.Finished.{finished_of_lem, may_end};
+ghost use Rattle.pair_states.specs.Finished.{finished_of, may_end};
 ghost use Rattle.pair_states.specs.Wide.{wide_grammar};
 
 use pair_words::Words;
@@ -25,7 +25,7 @@ fn join_if(set: u32, word: u32, yes: bool) -> u32
 
 // The contexts whose level may be finished: a current nonterminal has an empty rule.
 pub fn finished_of(words: &Words, empties: u32) -> u32
-    ensures { result ≡ finished_of_lem words.now empties 32 }
+    ensures { result ≡ finished_of words.now empties 32 }
 {
     let mut set: u32 = 0;
     let mut k: usize = 0;

@@ -10,7 +10,7 @@ use Rattle.vpg.specs.declared.CloseName.{CloseName}
 use Rattle.vpg.specs.declared.Rule.{Rule}
 use Rattle.vpg.specs.declared.Token.{Token}
 use Rattle.vpg.specs.believed.Grammar.{left}
-use Rattle.vpg.specs.Tests.{is_open_lem, same_token, if_step}
+use Rattle.vpg.specs.Tests.{is_open, same_token, if_step}
 use Rattle.vpg.specs.Parts.{onward, beyond}
 use Rattle.tables.specs.Table.{rule_in}
 
@@ -31,7 +31,7 @@ or_else L (some M) = M
 abbrev pub begins : Token → Rule → Bool
 begins t (Rule.Empty L) = false
 begins t (Rule.Next L i L₁) = same_token i t
-begins t (Rule.Step L a L₁ b L₂) = is_open_lem a t
+begins t (Rule.Step L a L₁ b L₂) = is_open a t
 
 -- itself alone as context, where own, the contexts of the rule's own nonterminal, has any
 abbrev pub itself_of : ℕ → ℕ → ℕ

@@ -17,8 +17,8 @@ use Rattle.vpg.specs.Runs.{Stack, State}
 use Rattle.laws.proofs.Bools.{and_left, and_right}
 use Rattle.vpg.proofs.Take.{taken, ended}
 use Rattle.level_theory.specs.Masks.{finishes, masks, Calm, Match}
-use Rattle.level_theory.specs.Pending.{pending_at, close_of_lem, due_at}
-use Rattle.level_theory.specs.Walk.{Run, test_at_lem, inner, later}
+use Rattle.level_theory.specs.Pending.{pending_at, close_of, due_at}
+use Rattle.level_theory.specs.Walk.{Run, test_at, inner, later}
 use Rattle.level_theory.specs.Local.{state_at, LeadsTo}
 use Rattle.level_theory.proofs.Alive.{Passes, ends_empty, fits_all, run_fits}
 use Rattle.level_theory.proofs.Search.{live}
@@ -34,14 +34,14 @@ use Rattle.history_file.specs.believed.HistoryFile.{token_of, tokens_of}
 use Rattle.levels.specs.Levels.{Leveled, Stands, Setting, derives_all}
 use Rattle.levels.proofs.Levels.{tokens_length, tokens_at}
 use Rattle.levels.proofs.Setting.{closing, closing_room}
-use Rattle.moves.specs.Moves.{rule_fits_lem}
+use Rattle.moves.specs.Moves.{rule_fits}
 use Rattle.first_run.proofs.Passing.{passes, none, fitting_turn}
 use Rattle.first_run.proofs.Whole.{none_due, start_derives}
 use Rattle.replay.specs.Replayed.{Reads, ReplayIs}
 
 -- the first number of a run is that of a rule that passes
-run_passes : (U : ℕ) (g : Rules) → General U g → (v : List Token) (L : ℕ) (s : Stack) → Calm U L s → (r : ℕ) (x e : List ℕ) → e ≡ r ∷ x → Run g (L, s) v e → Passes (test_at_lem U g v) g L r
-unfolding test_at_lem
+run_passes : (U : ℕ) (g : Rules) → General U g → (v : List Token) (L : ℕ) (s : Stack) → Calm U L s → (r : ℕ) (x e : List ℕ) → e ≡ r ∷ x → Run g (L, s) v e → Passes (test_at U g v) g L r
+unfolding test_at
 run_passes U g form [] L s c r x e q h =
     let k = ended g L s e h in
     let z : r ≡ k.number = heads (sym q ∙ k.shape) in
@@ -106,7 +106,7 @@ module _ {t : List ℕ} {head : Head} {ts m mask : List ℕ} (set-up : Setting t
     after q h l = set-up.leveled q (omega arith) l
 
     abbrev Stood : Bool
-    Stood = ltb (get_or buf p 0) head.rules && rule_fits_lem U (rule_in t (get_or buf p 0)) (get_or at p 0) context
+    Stood = ltb (get_or buf p 0) head.rules && rule_fits U (rule_in t (get_or buf p 0)) (get_or at p 0) context
 
     -- a number that does not stand here: the buffer holds no reading
     pub replaying_refused : Stood ≡ false → Run G (head.start, []) W E → ⊥
@@ -115,17 +115,17 @@ module _ {t : List ℕ} {head : Head} {ts m mask : List ℕ} (set-up : Setting t
         let y = run_passes U G form (drop p W) (get_or at p 0) (due_at U f (pending_at W p) (get_or at p 0)) (calm_due U f (pending_at W p) (get_or at p 0)) (get_or E p 0) (drop (suc p) E) (drop p E) (drop-cons E p 0 (omega (arith, numbers ts buf long, k.most))) x in
         none t head set-up.indexed.ready W mask p (get_or at p 0) context stands after (λ s. s ≡ get_or buf p 0) fails (get_or buf p 0) refl (rw (number ts buf p k.most) at y)
       where
-        fails : (r : ℕ) → r < head.rules → r ≡ get_or buf p 0 → rule_fits_lem U (rule_in t r) (get_or at p 0) context ≡ false
+        fails : (r : ℕ) → r < head.rules → r ≡ get_or buf p 0 → rule_fits U (rule_in t r) (get_or at p 0) context ≡ false
         fails r l e = rw e (rest (get_or buf p 0) (rw e at l) q)
           where
-            rest : (r : ℕ) → r < head.rules → (ltb r head.rules && rule_fits_lem U (rule_in t r) (get_or at p 0) context) ≡ false → rule_fits_lem U (rule_in t r) (get_or at p 0) context ≡ false
+            rest : (r : ℕ) → r < head.rules → (ltb r head.rules && rule_fits U (rule_in t r) (get_or at p 0) context) ≡ false → rule_fits U (rule_in t r) (get_or at p 0) context ≡ false
             rest r l z = rw (lt-ltb r head.rules l) at z
 
     module _ (stood : Stood ≡ true) where
       pub rule_below : get_or buf p 0 < head.rules
       rule_below = ltb-true _ _ (and_left _ _ stood)
 
-      fitting : rule_fits_lem U (rule_in t (get_or buf p 0)) (get_or at p 0) context ≡ true
+      fitting : rule_fits U (rule_in t (get_or buf p 0)) (get_or at p 0) context ≡ true
       fitting = and_right (ltb (get_or buf p 0) head.rules) _ stood
 
       pub replaying_end : p ≡ length ts → Reads (grammar_in t head) W E at f
@@ -138,14 +138,14 @@ module _ {t : List ℕ} {head : Head} {ts m mask : List ℕ} (set-up : Setting t
         room_behind = k.room_behind;
       }
         where
-          finished : (v : List Token) → v ≡ [] → Passes (test_at_lem U G v) G (get_or at p 0) (get_or buf p 0) → Passes finishes G (get_or at p 0) (get_or buf p 0)
+          finished : (v : List Token) → v ≡ [] → Passes (test_at U G v) G (get_or at p 0) (get_or buf p 0) → Passes finishes G (get_or at p 0) (get_or buf p 0)
           finished v z x = passes_end U (rw z at x)
 
       module _ (more : p < length ts) where
         here : drop p W ≡ token_of (get_or ts p 0) ∷ drop (suc p) W
         here = tokens_at ts p more
 
-        inside : close_of_lem (pending_at W (suc p)) (length W) < length f
+        inside : close_of (pending_at W (suc p)) (length W) < length f
         inside = rw k.room_behind (closing_room set-up p (omega arith))
 
         here_turn : Turn U G W (length W) f p (token_of (get_or ts p 0)) here (get_or at p 0) (get_or E p 0) (rule_in t (get_or buf p 0))

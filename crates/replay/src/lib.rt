@@ -7,7 +7,7 @@ ghost use Rattle.tables.specs.Ready.{rules_of, grammar_in};
 ghost use Rattle.rule_index.specs.Index.{Indexed};
 ghost use Rattle.history_file.specs.believed.HistoryFile.{tokens_of};
 ghost use Rattle.levels.specs.Levels.{Setting, derives_all};
-ghost use Rattle.moves.specs.Moves.{rule_fits_lem};
+ghost use Rattle.moves.specs.Moves.{rule_fits};
 ghost use Rattle.replay.specs.Replayed.{ReplayIs};
 
 use contexts::Context;
@@ -25,7 +25,7 @@ pub struct Replayed {
 // Whether r is a rule for the nonterminal that can stand here.
 fn stands(table: &Table, head: Head, r: usize, nonterminal: u16, context: Context) -> bool
     requires { Indexed table.now head }
-    ensures { result ≡ (ltb r head.rules && rule_fits_lem head.well (rule_in table.now r) nonterminal context) }
+    ensures { result ≡ (ltb r head.rules && rule_fits head.well (rule_in table.now r) nonterminal context) }
 {
     if r < head.rules {
         moves::fits(table, head, r, nonterminal, context)

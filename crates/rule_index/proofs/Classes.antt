@@ -1,5 +1,5 @@
 -- A rule stands only at tokens of its class, and at a close if it is empty.
-use Prim.Native.Nat.{ℕ, ◌+◌, ◌*◌, ◌/◌, ◌<◌}
+use Prim.Native.Nat.{ℕ, ◌+◌, ◌/◌, ◌<◌}
 use native.Mathlib.Nat.{mod-lt}
 use native.Mathlib.Omega.{arith}
 use mathlib.Core.Path.{◌≡◌, refl, sym, ◌∙◌, ap}
@@ -10,7 +10,7 @@ use Rattle.vpg.specs.declared.CloseName.{CloseName}
 use Rattle.vpg.specs.declared.Rule.{Rule}
 use Rattle.vpg.specs.declared.Token.{Token}
 use Rattle.vpg.specs.believed.Grammar.{left}
-use Rattle.vpg.specs.Tests.{is_open_lem, any_close, same_token}
+use Rattle.vpg.specs.Tests.{is_open, any_close, same_token}
 use Rattle.vpg.proofs.Tests.{open_is, same_is}
 use Rattle.level_theory.specs.Masks.{Nonterminals, alone, stands}
 use Rattle.rule_index.specs.Classes.{spread, class_at, empty_class, class_of}
@@ -40,7 +40,7 @@ empty_class_lem (Rule.Next M i M₁) L e = absurd (token_class i L e)
 empty_class_lem (Rule.Step M a M₁ b M₂) L e = absurd (omega arith)
 
 module _ (low : Bool) (inside : Bool → Nonterminals) (after : Bool → CloseName → Nonterminals) where
-  -- a rule that can stand at a token is of its class, and at a close not for a well_matched nonterminal; or it is empty, at a close and for such one
+  -- a rule that can stand at a token is of its class, and at a close not for a well-matched nonterminal; or it is empty, at a close and for such one
   pub record InClass (t : Token) (R : Rule) : Type 0 where
     pub class : class_of R ≡ class_at t
     pub high : any_close t ≡ true → low ≡ false
@@ -65,7 +65,7 @@ module _ (low : Bool) (inside : Bool → Nonterminals) (after : Bool → CloseNa
       let s = same_is i t (and_left (same_token i t) _ e) in
       inl (record { class = ap class_at s; high = λ o. alone_high i (and_left (alone i low) _ (and_right (same_token i t) _ e)) (rw s o) })
   stands_class t (Rule.Step M a M₁ b M₂) e =
-      let s = open_is a t (and_left (is_open_lem a t) _ e) in
+      let s = open_is a t (and_left (is_open a t) _ e) in
       inl (record { class = ap class_at s; high = λ o. absurd (false≢true (rw (← s) at o)) })
 
   -- a rule of another class can't stand at a mark or an open
@@ -76,7 +76,7 @@ module _ (low : Bool) (inside : Bool → Nonterminals) (after : Bool → CloseNa
       go true e = ⊎_elim (λ h. absurd (d h.class)) (λ h. absurd (false≢true (sym o ∙ h.closes))) (stands_class t R e)
       go false e = refl
 
-  -- for a well_matched nonterminal no rule but the empty one stands at a close
+  -- for a well-matched nonterminal no rule but the empty one stands at a close
   pub low_class : (t : Token) (R : Rule) → low ≡ true → any_close t ≡ true → stands low inside after t R ≡ true → R ≡ Rule.Empty (left R)
   low_class t R l o e = ⊎_elim (λ h. absurd (false≢true (sym (h.high o) ∙ l))) (λ h. h.empty) (stands_class t R e)
 

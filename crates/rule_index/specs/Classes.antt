@@ -1,6 +1,6 @@
 -- Classes of tokens and of rules: only rules of a token's class can stand at it, and at a close the empty rules besides, a class for each
 -- nonterminal.
--- Law: stands_class, class_apart, one-class, empty_class_lem (rule_index/proofs/Classes.antt)
+-- Law: stands_class, class_apart, one_class, empty_class_lem (rule_index/proofs/Classes.antt)
 use Rattle.std.specs.Prelude.{ℕ, ◌+◌, ◌*◌, ◌/◌, ◌%◌, cond, leb}
 use Rattle.vpg.specs.declared.Rule.{Rule}
 use Rattle.vpg.specs.declared.Token.{Token}

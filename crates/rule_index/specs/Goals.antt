@@ -10,7 +10,7 @@ abbrev pub goal : Bool → ℕ → ℕ
 goal true L = L
 goal false L = 32 + L
 
--- behind the token: a rule for a well_matched nonterminal, one below W, goes on in its level, and the inside of a step is a level; 0 where nothing is
+-- behind the token: a rule for a well-matched nonterminal, one below W, goes on in its level, and the inside of a step is a level; 0 where nothing is
 -- asked for
 abbrev pub inside_goal : ℕ → Rule → ℕ
 inside_goal W (Rule.Empty L) = 0

@@ -29,7 +29,7 @@ word_in t i = get_or t i 0 + 65536 * get_or t (i + 1) 0
 abbrev pub ends_in : List ℕ → ℕ
 ends_in t = word_in t 1152
 
--- the well_matched ones among them: those that can end before a close
+-- the well-matched ones among them: those that can end before a close
 abbrev pub low_ends_in : List ℕ → ℕ
 low_ends_in t = word_in t 1154
 

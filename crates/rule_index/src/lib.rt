@@ -99,7 +99,7 @@ pub fn ends(table: &Table) -> u32
     low + 65536 * high
 }
 
-// The well_matched ones among them: those that can end before a close.
+// The well-matched ones among them: those that can end before a close.
 pub fn low_ends(table: &Table) -> u32
     ensures { result ≡ low_ends_in table.now }
 {

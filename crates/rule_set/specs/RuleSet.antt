@@ -13,7 +13,7 @@ use Rattle.contexts.specs.Context.{applies_to}
 use Rattle.rule_set.specs.declared.Ways.{Ways}
 use Rattle.rule_set.specs.Words.{add_in}
 
--- is the rule in the set, where the nonterminals `here` can stand; those below W are the well_matched ones
+-- is the rule in the set, where the nonterminals `here` can stand; those below W are the well-matched ones
 abbrev pub keeps_at : ℕ → ℕ → Context → Rule → Bool
 keeps_at W here context R = bit here (left R) && applies_to W R context
 

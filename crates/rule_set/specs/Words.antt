@@ -1,5 +1,5 @@
 -- Sets of numbers as words of W digits each, for every W: number r is digit r % W of word r / W.
--- Law: held-word (rule_set/proofs/Words.antt)
+-- Law: held_word (rule_set/proofs/Words.antt)
 use Rattle.std.specs.Prelude.{ℕ, ◌/◌, ◌%◌, ◌^◌, ◌<◌, ◌≡◌, Bool, ◌&&◌, List, ltb, get_or, set}
 use Rattle.bits.specs.Bit.{bit, add_bit}
 

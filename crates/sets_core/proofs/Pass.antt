@@ -24,7 +24,7 @@ use Rattle.sets_theory.specs.ChoiceTest.{met_before, choice}
 use Rattle.sets_theory.specs.KeptTest.{kept}
 use Rattle.sets_theory.specs.believed.Sets.{listed, word_of, set_word}
 use Rattle.sets_theory.proofs.Sets.{length-listed, get_or-listed}
-use Rattle.level_theory.specs.Pending.{pending_at, close_of_lem}
+use Rattle.level_theory.specs.Pending.{pending_at, close_of}
 use Rattle.level_theory.specs.Kept.{keeps, goes_to, returns_to, going, returning, passed, Front}
 use Rattle.level_theory.proofs.Kept.{front_kept, front_start, front_next}
 use Rattle.tables.specs.declared.Head.{Head}
@@ -131,7 +131,7 @@ module _ {t : List ℕ} {head : Head} {ts m mask : List ℕ} (x : Setting t head
       }
         where
           close : ℕ
-          close = close_of_lem (pending_at W (suc p)) (length W)
+          close = close_of (pending_at W (suc p)) (length W)
 
           is : get_or m p 0 ≡ close
           is = closing x p h

@@ -1,5 +1,5 @@
 -- Where the pass over the positions begins.
--- Law: going-start (sets_core/proofs/Pass.antt)
+-- Law: going_start (sets_core/proofs/Pass.antt)
 use Rattle.std.specs.Prelude.{ℕ, Bool, cond}
 use Rattle.bits.specs.Bit.{add_bit}
 

@@ -13,7 +13,7 @@ use Rattle.sets_theory.specs.believed.Sets.{one}
 use Rattle.tables.specs.declared.Head.{Head}
 use Rattle.tables.proofs.Tables.{ready_general}
 use Rattle.rule_index.specs.Index.{Indexed, ends_in}
-use Rattle.pair_states.specs.Finished.{finished_of_lem, may_end}
+use Rattle.pair_states.specs.Finished.{finished_of, may_end}
 use Rattle.pair_states.specs.Wide.{wide_grammar}
 use Rattle.pair_states.proofs.Finished.{finished_members, finished-some}
 use Rattle.configurations.specs.Stack.{Saved, Holds}
@@ -36,7 +36,7 @@ mark-accepts table head indexed d rows stack names x h w =
     g = wide_grammar table head
 
     inside : Bool
-    inside = leb head.well head.start && bit (finished_of_lem rows (ends_in table) 32) head.start
+    inside = leb head.well head.start && bit (finished_of rows (ends_in table) 32) head.start
 
     go : (b : Bool) → bottom x.1 ≡ b → cond b (may_end rows (ends_in table)) inside ≡ accepts g x
     go true q =

@@ -1,0 +1,16 @@
+-- `rows_of`: before position i the pass stands where `Passing` says.
+use Prim.Native.Nat.{suc, ◌-◌}
+use native.Mathlib.Omega.{arith}
+use mathlib.Core.Path.{◌≡◌}
+use Rattle.count_rows.proofs.Pass.{here_empty, passing_next}
+use Rattle.count_rows.proofs.rows_of.Goals as goal
+
+pub fill_row-requires-clause-empty : goal.fill_row-requires-clause-empty
+fill_row-requires-clause-empty c =
+    let e : c.loop-i.i ≡ suc (c.loop-i.i - 1) = omega (arith, c.loop-i-test.true) in
+    here_empty c.requires.setting _ c.loop-i.invariant (c.loop-i.i - 1) e c.context_at-context.result (c.context_at-context.ensures c.args.head.well)
+
+pub loop-i-preserved : goal.loop-i-preserved
+loop-i-preserved c =
+    let e : c.loop-i.i ≡ suc (c.loop-i.i - 1) = omega (arith, c.loop-i-test.true) in
+    passing_next c.requires.setting _ c.loop-i.invariant (c.loop-i.i - 1) e c.context_at-context.result (c.context_at-context.ensures c.args.head.well) _ c.fill_row.ensures

@@ -1,0 +1,8 @@
+-- `levels::derives_all` meets its contract.
+use mathlib.Core.Path.{◌∙◌}
+use mathlib.Core.Bool.{false}
+use native.Mathlib.Omega.{arith}
+use Rattle.levels.proofs.derives_all.Goals as goal
+
+pub returns : goal.returns
+returns c = λ g ts l. c.has_wide.ensures ∙ l 0 (omega arith) (omega arith) _ c.requires false

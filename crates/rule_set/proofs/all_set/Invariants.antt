@@ -1,0 +1,13 @@
+-- `all_set`: up to rule r the ways and the words are those of the first r rules.
+use Prim.Native.Nat.{◌-◌, ◌≤◌}
+use mathlib.Core.Path.{◌≡◌}
+use lib.ListN.{length}
+use Rattle.rule_set.specs.RuleSet.{ways_in, words_in}
+use Rattle.rule_set.proofs.all_set.Given as goal
+
+abbrev pub invariant-loop-r : goal.invariant-loop-r
+invariant-loop-r l =
+    (l.r ≤ l.count) × (length l.words ≡ 4) × (l.ways ≡ ways_in l.head.well l.table l.here l.context l.r) × (l.words ≡ words_in l.head.well l.table l.here l.context l.r)
+
+abbrev pub decreases-loop-r : goal.decreases-loop-r
+decreases-loop-r l = l.count - l.r
