@@ -12,7 +12,7 @@ use Rattle.listing_model.specs.believed.Listing.{Call, first, next, Answer, writ
 use Rattle.listing_model.proofs.Listing.{first_one}
 use Rattle.history_file.specs.believed.HistoryFile.{tokens_of}
 use Rattle.files.specs.believed.Files.{accepted}
-use Rattle.service.specs.believed.Given as goal
+use Rattle.service.specs.believed.Given as service
 use Rattle.service.specs.believed.Opened.{files_in}
 use Rattle.readings.specs.believed.Answers.{subject}
 use Rattle.calls.specs.believed.CallList.{code_of, calls_of, final, model_answers, model_buffer, calls_due}
@@ -62,7 +62,7 @@ module _ (grammar history : List ℕ) (g : Grammar) (ts : List ℕ) (passed : fi
   -- what a list with room for its answers gives
   made : (kinds said : List ℕ) (k size : ℕ) → length kinds ≡ size → size ≤ length answers → model_answers (over Entries n) (calls_of kinds) buf ≡ said →
       model_buffer (over Entries n) (calls_of kinds) buf ≡ entry Entries k ++ drop n buf →
-      calls_due grammar history kinds answers buf ≡ (goal.written, said ++ drop size answers, entry Entries k ++ drop n buf)
+      calls_due grammar history kinds answers buf ≡ (service.written, said ++ drop size answers, entry Entries k ++ drop n buf)
   made kinds said k size e room a b = rw (e, le-ltb (length answers) size room, subject_is, a, b)
 
   begun : (s : Shown) → model_first (length Entries) s ≡ (written, some 1)
@@ -70,7 +70,7 @@ module _ (grammar history : List ℕ) (g : Grammar) (ts : List ℕ) (passed : fi
 
   -- "a first reading and m − 1 next ones give all m entries": after k next readings the buffer has entry k + 1
   pub each_entry : (k : ℕ) → k ≤ j → suc k ≤ length answers →
-      calls_due grammar history (first_and_next k) answers buf ≡ (goal.written, replicate (suc k) 0 ++ drop (suc k) answers, entry Entries (suc k) ++ drop n buf)
+      calls_due grammar history (first_and_next k) answers buf ≡ (service.written, replicate (suc k) 0 ++ drop (suc k) answers, entry Entries (suc k) ++ drop n buf)
   each_entry k h room =
       let size : length (first_and_next k) ≡ suc k = ap suc (length-replicate k 1) in
       let e : 1 + k ≡ suc k = omega arith in
@@ -82,7 +82,7 @@ module _ (grammar history : List ℕ) (g : Grammar) (ts : List ℕ) (passed : fi
 
   -- "and the next one after them says no further"
   pub no_entry_more : suc (suc j) ≤ length answers →
-      calls_due grammar history (first_and_next (suc j)) answers buf ≡ (goal.written, (replicate (suc j) 0 ++ (101 ∷ [])) ++ drop (suc (suc j)) answers, entry Entries (suc j) ++ drop n buf)
+      calls_due grammar history (first_and_next (suc j)) answers buf ≡ (service.written, (replicate (suc j) 0 ++ (101 ∷ [])) ++ drop (suc (suc j)) answers, entry Entries (suc j) ++ drop n buf)
   no_entry_more room =
       let size : length (first_and_next (suc j)) ≡ suc (suc j) = ap suc (length-replicate (suc j) 1) in
       let kinds : calls_of (first_and_next (suc j)) ≡ first ∷ replicate (suc j) next = ap (λ (l : List Call). first ∷ l) (calls_next (suc j)) in

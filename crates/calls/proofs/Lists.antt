@@ -12,10 +12,10 @@ use Rattle.listing_model.specs.Calls.{call_on}
 use Rattle.listing_model.proofs.Listing.{Proper, listing, start_agrees, entries_proper}
 use Rattle.files.specs.believed.Files.{Files, accepted, refused}
 use Rattle.service.specs.believed.Opened.{files_in, opened, served}
-use Rattle.service.specs.believed.Given as goal
+use Rattle.service.specs.believed.Given as service
 use Rattle.history_file.specs.believed.HistoryFile.{tokens_of}
 use Rattle.readings.specs.believed.Answers.{subject}
-use Rattle.calls.specs.believed.CallList.{code_of, call_of, calls_of, coded, final, model_answers, model_buffer, no_room_lem, calls_due}
+use Rattle.calls.specs.believed.CallList.{code_of, call_of, calls_of, coded, final, model_answers, model_buffer, no_room, calls_due}
 
 -- the answers and the last buffer, call by call
 abbrev pub answers_by : Subject → List Call → List ℕ → List ℕ
@@ -95,7 +95,7 @@ module _ (grammar history kinds answers₀ buf₀ : List ℕ) (room : length kin
         kept = drop-set-lt (length kinds) answers i r h ∙ k.kept;
       })
 
-  pub calling_end : {answers buf : List ℕ} {i : ℕ} → Calling grammar history kinds answers₀ buf₀ answers buf i → i ≡ length kinds → (goal.written, answers, buf) ≡ calls_due grammar history kinds answers₀ buf₀
+  pub calling_end : {answers buf : List ℕ} {i : ℕ} → Calling grammar history kinds answers₀ buf₀ answers buf i → i ≡ length kinds → (service.written, answers, buf) ≡ calls_due grammar history kinds answers₀ buf₀
   calling_end {answers} {buf} {i} k e =
       let none : drop i (calls_of kinds) ≡ [] = drop_of_length-le (calls_of kinds) {i = i} (rw (length-map kinds call_of) (omega arith)) in
       let a : take (length kinds) answers ≡ answers_by X (calls_of kinds) buf₀ = rw (← e) (sym (append-nil (take i answers)) ∙ rw none at k.said) in
@@ -106,6 +106,6 @@ module _ (grammar history kinds answers₀ buf₀ : List ℕ) (room : length kin
       let d : buf ≡ model_buffer X (calls_of kinds) buf₀ = b ∙ buffer_model X p (calls_of kinds) buf₀ in
       rw (le-ltb (length answers₀) (length kinds) room, ← c, ← d)
 
-pub calls_short : (grammar history kinds answers buf : List ℕ) (e : ℕ) → length answers < length kinds → e ≡ no_room_lem (files_in grammar history) →
-    (goal.refused e, answers, buf) ≡ calls_due grammar history kinds answers buf
+pub calls_short : (grammar history kinds answers buf : List ℕ) (e : ℕ) → length answers < length kinds → e ≡ no_room (files_in grammar history) →
+    (service.refused e, answers, buf) ≡ calls_due grammar history kinds answers buf
 calls_short grammar history kinds answers buf e h q = rw (lt-ltb (length answers) (length kinds) h, q)

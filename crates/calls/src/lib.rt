@@ -6,7 +6,7 @@ ghost use Rattle.listing_model.specs.Calls.{call_on};
 ghost use Rattle.readings.specs.believed.Answers.{said, subject};
 ghost use Rattle.service.specs.believed.Given.{outcome_said};
 ghost use Rattle.service.specs.believed.Opened.{files_in};
-ghost use Rattle.calls.specs.believed.CallList.{code_of, call_of, coded, no_room_lem, calls_due};
+ghost use Rattle.calls.specs.believed.CallList.{code_of, call_of, coded, no_room, calls_due};
 
 use readings::Answer;
 use service::{Opened, Outcome};
@@ -35,7 +35,7 @@ pub fn call(grammar: &[u8], history: &[u8], kind: u8, buffer: &mut [u8]) -> u8
 
 // The number where the answers have no room: a refused file's, else 15.
 fn no_room(grammar: &[u8], history: &[u8]) -> u8
-    ensures { result ≡ no_room_lem (files_in grammar.now history.now) }
+    ensures { result ≡ no_room (files_in grammar.now history.now) }
 {
     let mut table = [0u16; 1412];
     let mut tokens = [0u32; 1024];

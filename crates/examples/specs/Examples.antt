@@ -4,7 +4,7 @@ use Rattle.std.specs.Prelude.{ℕ, ◌≡◌, List, [], ◌∷◌}
 use Rattle.vpg.specs.declared.Rule.{Rule}
 use Rattle.vpg.specs.declared.Token.{Token}
 use Rattle.vpg.specs.believed.Grammar.{Grammar}
-use Rattle.listing_model.specs.believed.Listing.{first, next, no_reading, no-further, refused}
+use Rattle.listing_model.specs.believed.Listing.{first, next, no_reading, no_further, refused}
 use Rattle.listing_model.specs.Calls.{call_on}
 use Rattle.vpg.specs.Runs.{entries}
 use Rattle.sets_theory.specs.believed.Sets.{choice_count, stop_marks}
@@ -76,7 +76,7 @@ pub record Examples : Type 0 where
       ≡ (1 ∷ 4 ∷ 1 ∷ 4 ∷ 0 ∷ []) ∷ (1 ∷ 4 ∷ 2 ∷ 6 ∷ 0 ∷ []) ∷ (2 ∷ 6 ∷ 1 ∷ 4 ∷ 0 ∷ []) ∷ (2 ∷ 6 ∷ 2 ∷ 6 ∷ 0 ∷ []) ∷ []
   -- "Next after 2 6 2 6 0: no further", "Next after 1 4 1 4 1: 16"
   pub after_last :
-      call_on (subject G (4 ∷ 1 ∷ 2 ∷ 1 ∷ 2 ∷ []) 5) next (2 ∷ 6 ∷ 2 ∷ 6 ∷ 0 ∷ []) ≡ (no-further, 2 ∷ 6 ∷ 2 ∷ 6 ∷ 0 ∷ [])
+      call_on (subject G (4 ∷ 1 ∷ 2 ∷ 1 ∷ 2 ∷ []) 5) next (2 ∷ 6 ∷ 2 ∷ 6 ∷ 0 ∷ []) ≡ (no_further, 2 ∷ 6 ∷ 2 ∷ 6 ∷ 0 ∷ [])
   pub after_none :
       call_on (subject G (4 ∷ 1 ∷ 2 ∷ 1 ∷ 2 ∷ []) 5) next (1 ∷ 4 ∷ 1 ∷ 4 ∷ 1 ∷ []) ≡ (refused 16, 1 ∷ 4 ∷ 1 ∷ 4 ∷ 1 ∷ [])
   -- "G, 1 0: none; marks 1 0"

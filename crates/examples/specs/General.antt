@@ -3,7 +3,7 @@
 use Rattle.std.specs.Prelude.{ℕ, ◌≡◌, List, [], ◌∷◌}
 use Rattle.vpg.specs.declared.Rule.{Rule}
 use Rattle.vpg.specs.declared.Token.{Token}
-use Rattle.vpg.specs.believed.Grammar.{Grammar, Rules, InForm}
+use Rattle.vpg.specs.believed.Grammar.{Rules, InForm}
 use Rattle.vpg.specs.Runs.{entries}
 
 abbrev pub mark : Token
@@ -28,12 +28,12 @@ abbrev pub from : ℕ → List Token → List (List ℕ)
 from L w = entries (record { nonterminals = 2; well = 1; start = L; rules = pending }) w
 
 pub record GeneralExamples : Type 0 where
-  -- a nonterminal that is not well matched takes an open or a close alone, and goes on to a well_matched one or not
+  -- a nonterminal that is not well matched takes an open or a close alone, and goes on to a well-matched one or not
   pub open_alone : InForm 1 (Rule.Next 1 opens 1)
   pub close_alone : InForm 1 (Rule.Next 1 closes 1)
   pub on_to_well : InForm 1 (Rule.Next 1 mark 0)
   pub step_outside : InForm 1 (stepped 1 0 1)
-  -- a well_matched one takes neither, and goes on to well_matched ones only; the inside of a step is well matched
+  -- a well-matched one takes neither, and goes on to well-matched ones only; the inside of a step is well matched
   pub not_open_alone : InForm 1 (Rule.Next 0 opens 0) → ⊥
   pub not_close_alone : InForm 1 (Rule.Next 0 closes 0) → ⊥
   pub not_on_from_well : InForm 1 (Rule.Next 0 mark 1) → ⊥
@@ -51,7 +51,7 @@ pub record GeneralExamples : Type 0 where
   -- once well matched, always: no close alone behind the mark, but a step
   pub no_close_then : from 1 (mark ∷ closes ∷ []) ≡ []
   pub step_then : from 1 (mark ∷ opens ∷ closes ∷ []) ≡ (6 ∷ 1 ∷ 0 ∷ 0 ∷ []) ∷ []
-  -- from a well_matched start only well_matched tokens
+  -- from a well-matched start only well-matched tokens
   pub well_open : from 0 (opens ∷ []) ≡ []
   pub well_close : from 0 (closes ∷ []) ≡ []
   pub well_step : from 0 (opens ∷ closes ∷ []) ≡ (1 ∷ 0 ∷ 0 ∷ []) ∷ []

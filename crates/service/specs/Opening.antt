@@ -4,7 +4,7 @@ use Rattle.std.specs.Prelude.{ℕ, ◌+◌, ◌*◌, ◌≤◌, ◌≡◌, List,
 use Rattle.tables.specs.declared.Head.{Head}
 use Rattle.tables.specs.Ready.{grammar_in}
 use Rattle.rule_index.specs.Index.{Indexed}
-use Rattle.history_file.specs.believed.HistoryFile.{tokens_of, history_of}
+use Rattle.history_file.specs.believed.HistoryFile.{history_of}
 use Rattle.history_file.specs.believed.HistoryFile as history-file
 use Rattle.history_file.specs.HistoryTokens.{Tokens}
 use Rattle.vpg.specs.believed.Grammar.{Grammar}

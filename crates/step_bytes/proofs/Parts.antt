@@ -13,7 +13,7 @@ use Rattle.history_file.specs.believed.HistoryFile
 use Rattle.history_file.specs.believed.HistoryFile.{HistoryFile, history_of}
 use Rattle.history_file.proofs.BothWays.{history_both_ways}
 use Rattle.step_bytes.specs.declared.StepPlace.{StepPlace}
-use Rattle.step_bytes.specs.believed.StepBytes.{StepPart, part, refused, step_length, part_from, step_in_lem, step_from, step_of, bytes_in, start_in, number_in}
+use Rattle.step_bytes.specs.believed.StepBytes.{StepPart, part, refused, step_length, part_from, step_in, step_from, step_of, bytes_in, start_in, number_in}
 use Rattle.step_bytes.specs.Places.{placed}
 use Rattle.step_bytes.proofs.Steps.{open_at}
 
@@ -27,8 +27,8 @@ pub record StepAt (ts : List ℕ) (p start : ℕ) (us : List ℕ) : Type 0 where
   pub starts : start ≡ length (written (length ts ∷ take p ts))
   pub tokens : us ≡ take count (drop p ts)
 
-pub step_at_lem : (ts : List ℕ) (p start : ℕ) (us : List ℕ) → step_in_lem ts p ≡ part start us → StepAt ts p start us
-unfolding step_in_lem
+pub step_at_lem : (ts : List ℕ) (p start : ℕ) (us : List ℕ) → step_in ts p ≡ part start us → StepAt ts p start us
+unfolding step_in
 step_at_lem ts p start us e = go (open_at ts p) refl (step_length 0 (drop p ts)) refl e
   where
     go : (b : Bool) → open_at ts p ≡ b → (x : Option ℕ) → step_length 0 (drop p ts) ≡ x → cond b (part_from ts p x) (refused 17) ≡ part start us
@@ -48,8 +48,8 @@ pub record StepIn (s : List ℕ) (p start : ℕ) (us : List ℕ) : Type 0 where
   pub is : history_of s ≡ HistoryFile.accepted tokens
   pub step : StepAt tokens p start us
 
-pub step_in : (s : List ℕ) (p start : ℕ) (us : List ℕ) → step_of s p ≡ part start us → StepIn s p start us
-step_in s p start us e = go (history_of s) refl e
+pub step_in_lem : (s : List ℕ) (p start : ℕ) (us : List ℕ) → step_of s p ≡ part start us → StepIn s p start us
+step_in_lem s p start us e = go (history_of s) refl e
   where
     go : (f : HistoryFile) → history_of s ≡ f → step_from f p ≡ part start us → StepIn s p start us
     go (HistoryFile.refused k) h e = absurd (let z : ◌≡◌ {A = ℕ} 0 1 = cc in omega arith)
@@ -76,7 +76,7 @@ module _ (s : List ℕ) (small : AllBelow 256 s) (p start : ℕ) (us : List ℕ)
   -- the file: what stands in front of the part, the part, and what follows
   pub file_parts : (front back : List ℕ) × (start ≡ length front) × (s ≡ front ++ (written us ++ back))
   file_parts =
-      let i = step_in s p start us found in
+      let i = step_in_lem s p start us found in
       let ts = i.tokens in
       let k = i.step.count in
       let front = written (length ts ∷ take p ts) in

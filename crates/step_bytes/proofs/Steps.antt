@@ -12,7 +12,7 @@ use borrow.Author.Tests.{ltb-true}
 use Rattle.numbers.specs.Written.{shortest, written}
 use Rattle.history_file.specs.believed.HistoryFile.{kind, depth_after}
 use Rattle.step_bytes.specs.declared.StepEnd.{StepEnd}
-use Rattle.step_bytes.specs.believed.StepBytes.{refused, later, step_length, part_from, step_in_lem}
+use Rattle.step_bytes.specs.believed.StepBytes.{refused, later, step_length, part_from, step_in}
 use Rattle.step_bytes.specs.Places.{ended}
 
 pub ended_some : (x : Option ℕ) (k : ℕ) → StepEnd.Tokens k ≡ ended x → x ≡ some k
@@ -52,10 +52,10 @@ module _ (ts : List ℕ) (p : ℕ) where
       go true b q e = ltb-true p (length ts) q
       go false b q e = absurd (let z : ◌≡◌ {A = ℕ} 0 1 = cc in omega arith)
 
-  pub step_at_open : open_at ≡ true → step_in_lem ts p ≡ part_from ts p (step_length 0 (drop p ts))
-  unfolding step_in_lem
+  pub step_at_open : open_at ≡ true → step_in ts p ≡ part_from ts p (step_length 0 (drop p ts))
+  unfolding step_in
   step_at_open e = rw e
 
-  pub no_step : open_at ≡ false → step_in_lem ts p ≡ refused 17
-  unfolding step_in_lem
+  pub no_step : open_at ≡ false → step_in ts p ≡ refused 17
+  unfolding step_in
   no_step e = rw e

@@ -14,17 +14,17 @@ use lib.Dec.{eqb, ltb}
 use borrow.Author.Tests.{eq-eqb, ne_eqb, eqb-true, lt-ltb}
 use Rattle.vpg.specs.declared.CloseName.{CloseName}
 use Rattle.vpg.specs.declared.Token.{Token}
-use Rattle.level_theory.specs.Pending.{Closes, rest, pending_over, pending, pending_at, close_of_lem}
+use Rattle.level_theory.specs.Pending.{Closes, rest, pending_over, pending, pending_at, close_of}
 use Rattle.numbers.specs.believed.Number.{bytes}
 use Rattle.numbers.specs.Written.{written}
 use Rattle.history_file.specs.believed.HistoryFile
 use Rattle.history_file.specs.believed.HistoryFile.{HistoryFile, history_of, kind, token_of, tokens_of, depth_after}
 use Rattle.history_file.specs.Wellformed.{TokenNumber, Nested, Wellformed}
 use Rattle.history_file.proofs.Accepted.{history_wellformed}
-use Rattle.history_file.proofs.Shapes.{Shape, is_mark_lem, is_open, is_close_lem, shape, depth_mark, depth_open, depth_close}
-use Rattle.step_bytes.specs.believed.StepBytes.{part, refused, later, step_length, part_from, step_in_lem, step_from, step_of}
+use Rattle.history_file.proofs.Shapes.{Shape, is_mark, is_open, is_close, shape, depth_mark, depth_open, depth_close}
+use Rattle.step_bytes.specs.believed.StepBytes.{part, refused, later, step_length, part_from, step_in, step_from, step_of}
 use Rattle.step_bytes.proofs.Steps.{open_at, open_inside, step_at_open, no_step}
-use Rattle.step_bytes.proofs.Parts.{step_at_lem, step_in}
+use Rattle.step_bytes.proofs.Parts.{step_at_lem, step_in_lem}
 
 -- with r + 1 steps of our own open, and e around them, the tokens go on to the close of the outermost of ours
 pub record Closing (ts : List ℕ) (r : ℕ) : Type 0 where
@@ -94,7 +94,7 @@ closing (t ∷ ts) r e h k =
     further on d q = on d (rw (← q) h.2)
 
     go : ((d : ℕ) → Nested (suc d + e) ts → Closing ts d) → (x : Token) → Shape t x → token_of t ≡ x → Closing (t ∷ ts) r
-    go on x (is_mark_lem z) is =
+    go on x (is_mark z) is =
         let c = further on r (depth_mark t (suc r + e) z) in
         onward t ts r x is r c (depth_mark t (suc r) z)
         (λ two. absurd (omega (arith, z, two)), λ one. absurd (omega (arith, z, one)), rw (depth_mark t r z) c.balanced) (λ q l. refl)
@@ -103,7 +103,7 @@ closing (t ∷ ts) r e h k =
         let deeper : depth_after t r ≡ suc r = depth_open t r z ∙ add-one r in
         onward t ts r x is (suc r) c (depth_open t (suc r) z ∙ add-one (suc r))
         (λ two. absurd (omega (arith, z, two)), λ one. omega (arith, h.1 z), rw deeper c.balanced) (λ q l. rest_at l r)
-    go on x (is_close_lem {b} z) is = closes r refl
+    go on x (is_close {b} z) is = closes r refl
       where
         closes : (n : ℕ) → r ≡ n → Closing (t ∷ ts) r
         closes zero z₀ = over t ts r x is b refl z₀ z
@@ -125,7 +125,7 @@ pub record StepTokens (ts : List ℕ) (p : ℕ) (us : List ℕ) : Type 0 where
   pub balanced : Nested 0 inside
   pub closes : kind close ≡ 2
   pub here : take (length us) (drop p ts) ≡ us
-  pub matches : close_of_lem (pending_at (tokens_of ts) (suc p)) (length ts) ≡ suc p + length inside
+  pub matches : close_of (pending_at (tokens_of ts) (suc p)) (length ts) ≡ suc p + length inside
 
 nested_drop : (ts : List ℕ) (depth p : ℕ) → Nested depth ts → p < length ts → (d : ℕ) × Nested d (drop p ts)
 nested_drop [] depth p h l = absurd (omega arith)
@@ -142,7 +142,7 @@ member_drop ts zero x m = m
 member_drop [] (suc p) x m = m
 member_drop (t ∷ ts) (suc p) x m = Memᴰ.tail (member_drop ts p x m)
 
-first-pending : (l : Closes) (n q : ℕ) (b : CloseName) → get_elem? l 0 ≡ some (b, q) → close_of_lem l n ≡ q
+first-pending : (l : Closes) (n q : ℕ) (b : CloseName) → get_elem? l 0 ≡ some (b, q) → close_of l n ≡ q
 first-pending [] n q b e = absurd (let z : ◌≡◌ {A = ℕ} 0 1 = cc in omega arith)
 first-pending (d ∷ l) n q b e = let z : d ≡ (b, q) = some-injective d (b, q) e in ap (λ (x : CloseName × ℕ). x.1) z
 
@@ -183,7 +183,7 @@ module _ (ts : List ℕ) (w : Wellformed ts) (p : ℕ) (inside_of : p < length t
       let e : drop p ts ≡ step ++ found.behind = at_open ∙ ap (λ (l : List ℕ). t ∷ l) (found.tokens ∙ sym (append_assoc found.inside (found.close ∷ []) found.behind)) in
       ap (take (length step)) e ∙ take-append_seam step found.behind
 
-  open_step : step_in_lem ts p ≡ part (length (written (length ts ∷ take p ts))) step
+  open_step : step_in ts p ≡ part (length (written (length ts ∷ take p ts))) step
   open_step =
       step_at_open ts p (rw (lt-ltb p (length ts) inside_of, eq-eqb (kind t) 1 is-open-here))
       ∙ (ap (part_from ts p) length_is ∙ ap (part (length (written (length ts ∷ take p ts)))) step_is)
@@ -200,7 +200,7 @@ module _ (ts : List ℕ) (w : Wellformed ts) (p : ℕ) (inside_of : p < length t
         balanced = found.balanced;
         closes = found.closes;
         here = step_is;
-        matches = ap (λ (x : List Token). close_of_lem (pending x (suc p)) (length ts)) (tokens_drop ts (suc p)) ∙ first-pending (pending (tokens_of v) (suc p)) (length ts) (suc p + length found.inside) f.0 f.1;
+        matches = ap (λ (x : List Token). close_of (pending x (suc p)) (length ts)) (tokens_drop ts (suc p)) ∙ first-pending (pending (tokens_of v) (suc p)) (length ts) (suc p + length found.inside) f.0 f.1;
       }
 
 -- ── of the bytes of a file ──
@@ -232,7 +232,7 @@ pub record StepFound (s : List ℕ) (p start : ℕ) (us : List ℕ) : Type 0 whe
 
 pub step_tokens : (s : List ℕ) (p start : ℕ) (us : List ℕ) → step_of s p ≡ part start us → StepFound s p start us
 step_tokens s p start us e =
-    let i = step_in s p start us e in
+    let i = step_in_lem s p start us e in
     let ts = i.tokens in
     let w = history_wellformed (bytes s) ts i.is in
     let o = open_is ts p i.step.opens in
@@ -241,7 +241,7 @@ step_tokens s p start us e =
     record { tokens = ts; is = i.is; starts = i.step.starts; step = subst (λ (l : List ℕ). StepTokens ts p l) (sym same) (open_tokens ts w p o.0 o.1) }
 
 module _ (s ts : List ℕ) (is : history_of s ≡ HistoryFile.accepted ts) (p : ℕ) where
-  at : step_of s p ≡ step_in_lem ts p
+  at : step_of s p ≡ step_in ts p
   at = ap (λ (f : HistoryFile). step_from f p) is
 
   -- there is a part exactly where an open stands at the position

@@ -6,7 +6,7 @@ ghost use Rattle.std.specs.Prelude.{◌≡◌, ◌&&◌, ◌+◌, ◌≤◌, eqb
 ghost use Rattle.std.proofs.Math.Option.{some};
 ghost use Rattle.numbers.specs.Written.{written};
 ghost use Rattle.history_file.specs.believed.HistoryFile.{kind, depth_after};
-ghost use Rattle.step_bytes.specs.believed.StepBytes.{step_length, part_from, step_in_lem, step_of, bytes_in, start_in, number_in, number_said, within};
+ghost use Rattle.step_bytes.specs.believed.StepBytes.{step_length, part_from, step_in, step_of, bytes_in, start_in, number_in, number_said, within};
 ghost use Rattle.step_bytes.specs.Places.{ended, placed};
 
 use history_file::HistoryAnswer;
@@ -107,7 +107,7 @@ fn part_at(tokens: &[u32], position: usize, count: usize) -> StepPlace
 // The place of the step at a position, where the history has passed.
 fn place_in(tokens: &[u32], position: usize) -> StepPlace
     requires { length tokens.now ≤ 1024 }
-    ensures { result ≡ placed (step_in_lem tokens.now position) }
+    ensures { result ≡ placed (step_in tokens.now position) }
 {
     if is_open(tokens, position) {
         let end = step_end(&tokens[position..]);

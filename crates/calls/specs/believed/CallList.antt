@@ -1,7 +1,7 @@
 -- A list of calls as the listing model goes through it (document 01, "The plain listing").
 -- Clauses: 7.9, 8.8, 8.9 (docs/SPECIFICATION.md)
 use Rattle.std.specs.Prelude.{ℕ, cond, List, [], ◌∷◌, ◌++◌, map, eqb, ltb, length, drop}
-use Rattle.listing_model.specs.believed.Listing.{Call, first, next, Answer, written, no_reading, no-further, refused, Subject, start, model, shows, trace}
+use Rattle.listing_model.specs.believed.Listing.{Call, first, next, Answer, written, no_reading, no_further, refused, Subject, start, model, shows, trace}
 use Rattle.service.specs.believed.Given.{Given}
 use Rattle.service.specs.believed.Given as service
 use Rattle.service.specs.believed.Opened.{files_in, served}
@@ -12,7 +12,7 @@ use Rattle.readings.specs.believed.Answers.{subject}
 abbrev pub code_of : Answer → ℕ
 code_of written = 0
 code_of no_reading = 100
-code_of no-further = 101
+code_of no_further = 101
 code_of (refused k) = k
 
 abbrev pub call_of : ℕ → Call
@@ -43,11 +43,11 @@ abbrev pub calls_made : Subject → List ℕ → List ℕ → List ℕ → Given
 calls_made x kinds answers buf = (service.written, model_answers x (calls_of kinds) buf ++ drop (length kinds) answers, model_buffer x (calls_of kinds) buf)
 
 -- "grammar comes before history, both before 15": the number where the answers have no room
-abbrev pub no_room_lem : Files → ℕ
-no_room_lem files = served (λ e. e) (λ g w. 15) files
+abbrev pub no_room : Files → ℕ
+no_room files = served (λ e. e) (λ g w. 15) files
 
 -- all calls made; or nothing done where the answers have no room
 abbrev pub calls_due : List ℕ → List ℕ → List ℕ → List ℕ → List ℕ → Given Unit × List ℕ × List ℕ
 calls_due grammar history kinds answers buf =
-    cond (ltb (length answers) (length kinds)) (service.refused (no_room_lem (files_in grammar history)), answers, buf)
+    cond (ltb (length answers) (length kinds)) (service.refused (no_room (files_in grammar history)), answers, buf)
     (calls_made (subject grammar history (length buf)) kinds answers buf)

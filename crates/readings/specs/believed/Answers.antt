@@ -1,7 +1,7 @@
 -- What first reading and next reading answer, and what a list of their calls is about.
 -- Clauses: 7.4, 7.5, 8.5 (docs/SPECIFICATION.md)
 use Rattle.std.specs.Prelude.{ℕ, List}
-use Rattle.listing_model.specs.believed.Listing.{written, no_reading, no-further, Subject, due, over_entries}
+use Rattle.listing_model.specs.believed.Listing.{written, no_reading, no_further, Subject, due, over_entries}
 use Rattle.listing_model.specs.believed.Listing as model
 use Rattle.service.specs.believed.Opened.{files_in, opened, served}
 use Rattle.readings.specs.declared.Answer.{Answer}
@@ -10,7 +10,7 @@ use Rattle.readings.specs.declared.Answer.{Answer}
 abbrev pub said : Answer → model.Answer
 said Answer.Written = written
 said Answer.NoReading = no_reading
-said Answer.NoFurther = no-further
+said Answer.NoFurther = no_further
 said (Answer.Refused k) = model.refused k
 
 -- from the bytes of both files and the length of the buffer; a reading is n + 1 bytes

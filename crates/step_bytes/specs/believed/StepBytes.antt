@@ -29,12 +29,12 @@ part_from ts p none = refused 17
 part_from ts p (some k) = part (length (written (length ts ∷ take p ts))) (take k (drop p ts))
 
 -- 17: "when the position is not that of an open"
-unfoldable pub step_in_lem : List ℕ → ℕ → StepPart
-step_in_lem ts p = cond (ltb p (length ts) && eqb (kind (get_or ts p 0)) 1) (part_from ts p (step_length 0 (drop p ts))) (refused 17)
+unfoldable pub step_in : List ℕ → ℕ → StepPart
+step_in ts p = cond (ltb p (length ts) && eqb (kind (get_or ts p 0)) 1) (part_from ts p (step_length 0 (drop p ts))) (refused 17)
 
 -- 17 is "found after the history has passed"
 abbrev pub step_from : HistoryFile → ℕ → StepPart
-step_from (HistoryFile.accepted ts) p = step_in_lem ts p
+step_from (HistoryFile.accepted ts) p = step_in ts p
 step_from (HistoryFile.refused e) p = refused e
 
 -- of the bytes of a file
