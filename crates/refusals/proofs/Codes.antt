@@ -15,13 +15,13 @@ use Rattle.sets_theory.specs.believed.Sets.{choice_count, set_words, stop_marks}
 use Rattle.history_file.specs.believed.HistoryFile.{tokens_of}
 use Rattle.files.specs.believed.Files.{Files, accepted}
 use Rattle.files.specs.believed.Files as files
-use Rattle.listing_model.specs.believed.Listing.{Call, first, next, Answer, written, no_reading, no-further, refused, due, over, over_entries, Shown, find}
+use Rattle.listing_model.specs.believed.Listing.{Call, first, next, Answer, written, no_reading, no_further, refused, due, over, over_entries, Shown, find}
 use Rattle.listing_model.specs.Calls.{successor, next_on, call_on}
 use Rattle.service.specs.believed.Given.{Given}
 use Rattle.service.specs.believed.Given as service
 use Rattle.service.specs.believed.Opened.{files_in, opened, served}
 use Rattle.readings.specs.believed.Answers.{subject}
-use Rattle.calls.specs.believed.CallList.{code_of, no_room_lem, calls_due}
+use Rattle.calls.specs.believed.CallList.{code_of, no_room, calls_due}
 use Rattle.sets.specs.believed.Sets.{sets_due, count_due}
 use Rattle.stop_marks.specs.believed.StopMarks.{marks_due}
 use Rattle.replies.specs.believed.Wire.{count_wire, outcome_code}
@@ -41,7 +41,7 @@ opened_numbers = opened_of Numbered (omega arith, omega arith)
 abbrev OfAnswer : Answer → Type 0
 OfAnswer written = Unit
 OfAnswer no_reading = Unit
-OfAnswer no-further = Unit
+OfAnswer no_further = Unit
 OfAnswer (refused k) = Numbered k
 
 over_numbers : (l : List (List ℕ)) (n : ℕ) (c : Call) (buf : List ℕ) → OfAnswer (call_on (over l n) c buf).0
@@ -64,7 +64,7 @@ call_numbers (accepted g ts) h c buf = over_numbers (entries g (tokens_of ts)) (
 read_back : (a : Answer) → OfAnswer a → answer_of (code_of a) ≡ a
 read_back written h = refl
 read_back no_reading h = refl
-read_back no-further h = refl
+read_back no_further h = refl
 read_back (refused k) h = rw (ne_eqb k 0 (λ q. omega arith), ne_eqb k 100 (λ q. omega arith), ne_eqb k 101 (λ q. omega arith))
 
 pub codes_read_back : (grammar history : List ℕ) (size : ℕ) (c : Call) (buf : List ℕ) → let a = (call_on (subject grammar history size) c buf).0 in answer_of (code_of a) ≡ a
@@ -95,7 +95,7 @@ module _ {B : Type 0} (serve : Grammar → List Token → B) (buffer : B) where
   written_numbers (files.refused e) h = h
   written_numbers (accepted g ts) h = tt
 
-no_room_numbers : (f : Files) → OfFiles Numbered f → Numbered (no_room_lem f)
+no_room_numbers : (f : Files) → OfFiles Numbered f → Numbered (no_room f)
 no_room_numbers (files.refused e) h = h
 no_room_numbers (accepted g ts) h = (omega arith, omega arith)
 
@@ -117,5 +117,5 @@ outcomes_read_back grammar history words marks kinds answers buf =
       sets = count_back _ (sets_numbers words (opened 4 (length words) (files_in grammar history)) (opened_numbers 4 (length words) (files_in grammar history) f));
       choices = count_back _ (count_numbers (files_in grammar history) f);
       stop_marks_lem = written_back _ (written_numbers (λ g w. stop_marks g w ++ drop (length w + 1) marks) marks (opened 1 (length marks) (files_in grammar history)) (opened_numbers 1 (length marks) (files_in grammar history) f));
-      calls = written_back _ (calls_numbers (ltb (length answers) (length kinds)) (no_room_lem (files_in grammar history)) (no_room_numbers (files_in grammar history) f) answers buf _);
+      calls = written_back _ (calls_numbers (ltb (length answers) (length kinds)) (no_room (files_in grammar history)) (no_room_numbers (files_in grammar history) f) answers buf _);
     }

@@ -1,6 +1,6 @@
 -- The number for the bytes of one step is one of a history file's or 17, can be read back from its code, and is there exactly where the part is
 -- empty: so the length of a part tells by itself whether there is a step.
-use Prim.Native.Nat.{ℕ, suc, ◌<◌}
+use Prim.Native.Nat.{ℕ, zero, suc, ◌<◌}
 use native.Mathlib.Omega.{arith}
 use mathlib.Core.Path.{◌≡◌, refl}
 use mathlib.Core.Logic.{◌≢◌, ◌↔◌, ◌⊎◌, inl, inr}
@@ -15,8 +15,8 @@ use Rattle.numbers.specs.Written.{written}
 use Rattle.numbers.proofs.Written.{shortest-some}
 use Rattle.history_file.specs.believed.HistoryFile.{HistoryFile, kind, depth_after, history_of}
 use Rattle.history_file.specs.believed.HistoryFile as history-file
-use Rattle.step_bytes.specs.believed.StepBytes.{StepPart, part, refused, later, step_length, part_from, step_in_lem, step_from, step_of, number_in}
-use Rattle.step_bytes.proofs.Parts.{step_in}
+use Rattle.step_bytes.specs.believed.StepBytes.{StepPart, part, refused, later, step_length, part_from, step_in, step_from, step_of, number_in}
+use Rattle.step_bytes.proofs.Parts.{step_in_lem}
 use Rattle.step_bytes.proofs.Steps.{open_inside}
 use Rattle.replies.specs.believed.Wire.{part_wire, step_code}
 use Rattle.refusals.specs.Codes.{StepNumbered, number_of}
@@ -28,8 +28,8 @@ abbrev OfStep : Option ℕ → Type 0
 OfStep none = Unit
 OfStep (some e) = StepNumbered e
 
-step_in_numbers : (ts : List ℕ) (p : ℕ) → OfStep (number_in (step_in_lem ts p))
-unfolding step_in_lem
+step_in_numbers : (ts : List ℕ) (p : ℕ) → OfStep (number_in (step_in ts p))
+unfolding step_in
 step_in_numbers ts p = go (ltb p (length ts) && eqb (kind (get_or ts p 0)) 1) (step_length 0 (drop p ts))
   where
     go : (b : Bool) (x : Option ℕ) → OfStep (number_in (cond b (part_from ts p x) (refused 17)))
@@ -70,11 +70,12 @@ length_some (t ∷ ts) depth k e = go (eqb (depth_after t depth) 0) (step_length
     go false (some j) q = let z : suc j ≡ k = cc in omega arith
 
 taken_some : (ts : List ℕ) (p k : ℕ) → p < length ts → 0 < k → 0 < length (written (take k (drop p ts)))
+taken_some ts p zero inside h = absurd (omega arith)
 taken_some ts p (suc k) inside h = rw (drop-cons ts p 0 inside) (written-some (get_or ts p 0) (take k (drop (suc p) ts)))
 
 part-some : (s : List ℕ) (p start : ℕ) (us : List ℕ) → step_of s p ≡ part start us → 0 < length (written us)
 part-some s p start us found =
-    let i = step_in s p start us found in
+    let i = step_in_lem s p start us found in
     let ts = i.tokens in
     let k = i.step.count in
     rw i.step.tokens (taken_some ts p k (open_inside ts p i.step.opens) (length_some (drop p ts) 0 k i.step.ends))

@@ -5,7 +5,7 @@
 -- Law: grammar_write_codes, history_write_codes (refusals/proofs/Writers.antt)
 use Rattle.std.specs.Prelude.{ℕ, ◌≤◌, ◌≡◌, ◌⊎◌, cond, eqb}
 use Rattle.std.proofs.Math.Option.{Option, none, some}
-use Rattle.listing_model.specs.believed.Listing.{Answer, written, no_reading, no-further, refused}
+use Rattle.listing_model.specs.believed.Listing.{Answer, written, no_reading, no_further, refused}
 use Rattle.service.specs.believed.Given.{Given}
 use Rattle.service.specs.believed.Given as service
 use Rattle.reading_counts.specs.believed.Numbered.{Told, exact, over}
@@ -16,7 +16,7 @@ Numbered e = (1 ≤ e) × (e ≤ 16)
 
 -- 0 says that a reading was written, 100 "none", 101 "no further"; any other code is the number of a refusal
 abbrev pub answer_of : ℕ → Answer
-answer_of k = cond (eqb k 0) written (cond (eqb k 100) no_reading (cond (eqb k 101) no-further (refused k)))
+answer_of k = cond (eqb k 0) written (cond (eqb k 100) no_reading (cond (eqb k 101) no_further (refused k)))
 
 -- of a service that only writes
 abbrev pub outcome_of : ℕ → Given Unit
