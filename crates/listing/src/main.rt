@@ -1,20 +1,21 @@
 // The listing program: reads grammar.bin and history.bin of the working directory, the first 4,096 bytes of each, and writes their listing.
 #![tactic(auto)]
 
-ghost use Rattle.std.specs.Prelude.{◌≡◌, length};
-ghost use Rattle.io.specs.Counts.{IsPrefixLen};
+ghost use Rattle.std.specs.Prelude.{◌≡◌, ◌≤◌, length};
+
+use std::rt::Files;
+use std::{fs, io};
+use streams::Sink;
 
 // The first bytes of a file; none where it is missing or can't be read.
-fn load(path: &[u8], buf: &mut [u8]) -> usize
-    ensures { IsPrefixLen result buf.new }
+fn load(rt: &impl Files, path: &str, buf: &mut [u8]) -> usize
+    ensures { result ≤ length buf.new }
 {
-    let fd = os::open_read(path);
-    if fd < 0 {
+    let opened = fs::open(rt, path);
+    let Ok(mut file) = opened else {
         return 0;
-    }
-    let n = io::read_full(fd, buf);
-    libc::close(fd);
-    n
+    };
+    streams::read_full(&mut file, buf)
 }
 
 // Room for a piece of the listing: all but the very longest listings are one piece.
@@ -24,11 +25,13 @@ fn space() -> [u8; 1048576]
     [0; 1048576]
 }
 
-fn main() {
-    let mut grammar = io::buffer();
-    let mut history = io::buffer();
-    let g = load(b"grammar.bin", &mut grammar);
-    let h = load(b"history.bin", &mut history);
+fn main(rt: HostRuntime) -> io::Result<()> {
+    let mut grammar = [0u8; 4096];
+    let mut history = [0u8; 4096];
+    let g = load(&rt, "grammar.bin", &mut grammar);
+    let h = load(&rt, "history.bin", &mut history);
     let mut text = space();
-    listing_output::write_listing(&grammar[..g], &history[..h], &mut text);
+    let mut sink = Sink::new(io::writer(&rt));
+    listing_output::write_listing(&grammar[..g], &history[..h], &mut text, &mut sink);
+    sink.outcome()
 }

@@ -1,20 +1,30 @@
-// Writes a listing to standard output, piece by piece.
+// Writes a listing, piece by piece.
 #![tactic(auto)]
 
-ghost use Rattle.std.specs.Prelude.{◌≡◌};
+ghost use Rattle.std.specs.Prelude.{◌≡◌, ◌<◌, length};
+ghost use Rattle.streams.specs.believed.Sent.{Sent};
 ghost use Rattle.listing_text.specs.believed.Listing.{listing};
 ghost use Rattle.listing_text.specs.believed.Written.{Written};
 
 use listing_text::Piece;
+use std::io::Write;
+use streams::Sink;
 
 // Writes the listing of the two files in pieces as long as the buffer, and then what is left in it; answers that last piece.
-pub fn write_listing(grammar: &[u8], history: &[u8], text: &mut [u8]) -> Piece
-    ensures { Written (listing grammar.now history.now) text.old result text.new }
+// Unless a write fails, the listing is what it writes, if the buffer has room for a byte.
+pub fn write_listing<W: Write>(
+    grammar: &[u8],
+    history: &[u8],
+    text: &mut [u8],
+    sink: &mut Sink<W>,
+) -> Piece
+    ensures pieces { Written (listing grammar.now history.now) text.old result text.new }
+    ensures sent { 0 < length text.old → Sent W.contents sink.old sink.new (listing grammar.now history.now) }
 {
-    let end = listing_text::list(grammar, history, text);
+    let end = listing_text::list(grammar, history, text, sink);
     let length = end.at;
     let before = end.before;
-    io::write_all(libc::STDOUT_FILENO, &text[..length]);
+    sink.put(&text[..length]);
     Piece {
         end: before + length,
         length,

@@ -11,7 +11,7 @@ use lib.ListN.{length, take, drop, length-append, length-take, length-drop, drop
 use lib.Seq.{drop-drop}
 use Rattle.lines.specs.believed.Window.{shown, window}
 use Rattle.listing_text.specs.declared.Piece.{Piece}
-use Rattle.listing_text.specs.believed.Pieces.{goes_on_lem, piece_of, piece_after}
+use Rattle.listing_text.specs.believed.Pieces.{goes_on, piece_of, piece_after}
 use Rattle.listing_text.specs.believed.Written.{Pieces, none, one_more, Written}
 
 -- what is shown, and the rest
@@ -26,10 +26,10 @@ shown-length start size text = length-take size (drop start text) ∙ ap (min si
 -- ── how far a piece goes ──
 
 -- behind a piece with none to follow nothing is left, if there is room for a byte
-last_reaches : (start size : ℕ) (text : List ℕ) → 0 < size → goes_on_lem (length (shown start size text)) size ≡ false → length text ≤ start + length (shown start size text)
+last_reaches : (start size : ℕ) (text : List ℕ) → 0 < size → goes_on (length (shown start size text)) size ≡ false → length text ≤ start + length (shown start size text)
 last_reaches start size text room = go (length (shown start size text)) (shown-length start size text)
   where
-    go : (n : ℕ) → n ≡ min size (length text - start) → goes_on_lem n size ≡ false → length text ≤ start + n
+    go : (n : ℕ) → n ≡ min size (length text - start) → goes_on n size ≡ false → length text ≤ start + n
     go n is e = by_test (eqb n size) (ltb 0 n) refl refl e
       where
         by_test : (a b : Bool) → eqb n size ≡ a → ltb 0 n ≡ b → (a && b) ≡ false → length text ≤ start + n
@@ -37,7 +37,7 @@ last_reaches start size text room = go (length (shown start size text)) (shown-l
         by_test true false same more e = omega (arith, eqb-true n size same, ltb-false 0 n more)
         by_test false b other more e = let d : n ≢ size = eqb-false n size other in omega (arith, is, d)
 
-pub piece_is : (p : Piece) (out text : List ℕ) (n : ℕ) (new : List ℕ) (more : Bool) → (n, new) ≡ window p.end out text → more ≡ goes_on_lem n (length out) →
+pub piece_is : (p : Piece) (out text : List ℕ) (n : ℕ) (new : List ℕ) (more : Bool) → (n, new) ≡ window p.end out text → more ≡ goes_on n (length out) →
     (record { end = p.end + n; length = n; more = more }, new) ≡ piece_after p out text
 piece_is p out text n new more e goes = rw goes (ap (piece_of p.end (length out)) e)
 

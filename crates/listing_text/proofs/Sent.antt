@@ -13,7 +13,7 @@ use Rattle.lines.specs.declared.Cursor.{Cursor}
 use Rattle.lines.specs.Laid.{Laid, put, put_if, laid}
 use Rattle.lines.specs.believed.Window.{shown, window}
 use Rattle.listing_text.specs.declared.Piece.{Piece}
-use Rattle.listing_text.specs.believed.Pieces.{goes_on_lem, before_all}
+use Rattle.listing_text.specs.believed.Pieces.{goes_on, before_all}
 use Rattle.listing_text.specs.believed.Written.{Pieces, none, one_more, Written}
 use Rattle.listing_text.specs.Passing.{at_start}
 use Rattle.listing_text.proofs.Pieces.{piece_is, piece_added}
@@ -39,10 +39,10 @@ byte-over x out b h =
 shows : (start : ℕ) (out text y : List ℕ) → take (length out) (drop start text) ≡ y → (length y, over y out) ≡ window start out text
 shows start out text y e = ap (λ (s : List ℕ). (length s, over s out)) (sym e)
 
-full : (n size : ℕ) → n ≡ size → 0 < n → true ≡ goes_on_lem n size
+full : (n size : ℕ) → n ≡ size → 0 < n → true ≡ goes_on n size
 full n size e h = rw (eq-eqb n size e, lt-ltb 0 n h)
 
-not_full : (n size : ℕ) → n < size → false ≡ goes_on_lem n size
+not_full : (n size : ℕ) → n < size → false ≡ goes_on n size
 not_full n size h = rw (ne_eqb n size (λ (e : n ≡ size). absurd (omega arith)))
 
 module _ (text out₀ : List ℕ) where

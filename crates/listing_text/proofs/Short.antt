@@ -10,9 +10,7 @@ use Rattle.vpg.specs.Runs.{entries}
 use Rattle.sets_theory.specs.believed.Sets.{choice_count}
 use Rattle.listing_model.proofs.Listing.{entries_proper}
 use Rattle.grammar_file.specs.believed.GrammarFile.{GrammarFile, grammar_of}
-use Rattle.grammar_file.specs.believed.GrammarFile
 use Rattle.history_file.specs.believed.HistoryFile.{HistoryFile, history_of, token_of, tokens_of}
-use Rattle.history_file.specs.believed.HistoryFile
 use Rattle.history_file.proofs.Accepted.{history_wellformed}
 use Rattle.numbers.specs.believed.Number.{bytes}
 use Rattle.lines.specs.believed.Text.{decimal_by, decimal, line_end, number_line, reading_text, reading_line, tokens_line, choices_line, tokens_word, choices_word, end_word, more_word, refused_word, grammar_word, history_word}

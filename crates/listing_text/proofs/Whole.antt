@@ -15,19 +15,19 @@ use Rattle.listing_model.specs.believed.Listing.{Answer, Subject, over, first, o
 use Rattle.listing_model.specs.Calls.{call_on}
 use Rattle.listing_model.proofs.Listing.{Proper}
 use Rattle.grammar_file.specs.believed.GrammarFile.{GrammarFile}
-use Rattle.grammar_file.specs.believed.GrammarFile
 use Rattle.history_file.specs.believed.HistoryFile.{HistoryFile, tokens_of}
-use Rattle.history_file.specs.believed.HistoryFile
 use Rattle.files.specs.believed.Files.{accepted, refused, files_of}
 use Rattle.files.specs.believed.Checks.{grammar_said, grammar_due}
-use Rattle.files.specs.believed.Checks as checks
 use Rattle.files.specs.declared.GrammarCheck.{GrammarCheck}
-use Rattle.lines.specs.Laid.{Laid, laid}
-use Rattle.lines.proofs.Laying.{laid_both}
+use Rattle.std.specs.declared.option.Option.{Option}
+use Rattle.streams.specs.declared.Sink.{Sink}
+use Rattle.streams.specs.believed.Sent.{Sent}
+use Rattle.lines.specs.Laid.{Laid, laid, gone}
+use Rattle.lines.proofs.Laying.{laid_both, gone_both}
 use Rattle.lines.specs.believed.Text.{tokens_line, choices_line, none_line, refused_grammar_line, refused_history_line}
 use Rattle.listing_text.specs.believed.Listing.{listed_from, most_listed, readings_listed, files_listed}
 use Rattle.listing_text.specs.Passing.{Begun, is_written}
-use Rattle.listing_text.proofs.Turns.{told, entries_are, entries_in_order}
+use Rattle.listing_text.proofs.Turns.{told, entries_are, entries_in_order, Done}
 
 -- ── the first reading ──
 
@@ -76,8 +76,11 @@ some-listed t d [] h = absurd (omega arith)
 some-listed t d (e ∷ l) h = append_assoc t (choices_line d) (listed_from most_listed 0 (e ∷ l))
 
 -- the readings behind the two counts
-pub behind-counts : (p q r : Laid) (t : List ℕ) (d due : ℕ) (y : List ℕ) → d ≡ due → q ≡ laid p (t ++ choices_line d) → r ≡ laid q y → r ≡ laid p ((t ++ choices_line due) ++ y)
-behind-counts p q r t d due y i e f = laid_both p q r (t ++ choices_line due) y (e ∙ ap (λ (x : ℕ). laid p (t ++ choices_line x)) i) f
+pub behind-counts : {W : Type 0} {contents : W → Option (List ℕ)} (p q r : Laid) (s u v : Sink W) (t : List ℕ) (d due : ℕ) (y : List ℕ) → d ≡ due → q ≡ laid p (t ++ choices_line d) →
+    Sent contents s u (gone p (t ++ choices_line d)) → Done contents y q u r v → Done contents ((t ++ choices_line due) ++ y) p s r v
+behind-counts {contents} p q r s u v t d due y i e f k =
+    subst (λ (x : ℕ). Done contents ((t ++ choices_line x) ++ y) p s r v) i
+    (laid_both p q r (t ++ choices_line d) y e k.0, gone_both p q (t ++ choices_line d) y s u v e f k.1)
 
 -- zeros for the longest reading
 abbrev pub zeros : List ℕ

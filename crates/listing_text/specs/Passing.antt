@@ -1,7 +1,7 @@
 -- What is handed from one function to the next.
 -- Law: first_begun, none-listed (listing_text/proofs/Whole.antt)
 use Rattle.std.specs.Prelude.{ℕ, ◌+◌, ◌<◌, ◌≡◌, Bool, true, false, List, [], length, take, get_or}
-use Rattle.listing_model.specs.believed.Listing.{Answer, written, no_reading, no-further, refused}
+use Rattle.listing_model.specs.believed.Listing.{Answer, written, no_reading, no_further, refused}
 use Rattle.lines.specs.declared.Cursor.{Cursor}
 
 -- before the first byte of the text
@@ -17,5 +17,5 @@ pub record Begun (l : List (List ℕ)) (n : ℕ) (reading : List ℕ) : Type 0 w
 abbrev pub is_written : Answer → Bool
 is_written written = true
 is_written no_reading = false
-is_written no-further = false
+is_written no_further = false
 is_written (refused k) = false

@@ -4,9 +4,7 @@ use Rattle.std.specs.Prelude.{ℕ, zero, suc, List, [], ◌∷◌, ◌++◌, len
 use Rattle.vpg.specs.Runs.{entries}
 use Rattle.sets_theory.specs.believed.Sets.{choice_count}
 use Rattle.grammar_file.specs.believed.GrammarFile.{GrammarFile, grammar_of}
-use Rattle.grammar_file.specs.believed.GrammarFile
 use Rattle.history_file.specs.believed.HistoryFile.{HistoryFile, history_of, tokens_of}
-use Rattle.history_file.specs.believed.HistoryFile
 use Rattle.lines.specs.believed.Text.{tokens_line, choices_line, none_line, reading_line, end_line, more_line, refused_grammar_line, refused_history_line}
 
 -- the readings behind the first k, of which `left` may still be listed: "each reading's place in the order and its rule numbers, and how many

@@ -5,8 +5,8 @@ use Rattle.lines.specs.believed.Window.{window}
 use Rattle.listing_text.specs.declared.Piece.{Piece}
 
 -- a piece that fills its buffer may be followed by another; one for which there is no room at all never is
-abbrev pub goes_on_lem : ℕ → ℕ → Bool
-goes_on_lem n size = eqb n size && ltb 0 n
+abbrev pub goes_on : ℕ → ℕ → Bool
+goes_on n size = eqb n size && ltb 0 n
 
 -- before the first piece
 abbrev pub before_all : Piece
@@ -14,7 +14,7 @@ before_all = record { end = 0; length = 0; more = true }
 
 -- the piece that shows the text from the byte number `start` on, w: how many bytes it shows, and the buffer
 abbrev pub piece_of : ℕ → ℕ → ℕ × List ℕ → Piece × List ℕ
-piece_of start size w = (record { end = start + w.0; length = w.0; more = goes_on_lem w.0 size }, w.1)
+piece_of start size w = (record { end = start + w.0; length = w.0; more = goes_on w.0 size }, w.1)
 
 -- the piece behind p, in a buffer that holds `out`, and the buffer then
 abbrev pub piece_after : Piece → List ℕ → List ℕ → Piece × List ℕ
