@@ -4,72 +4,69 @@
 #![tactic(auto)]
 
 use files::{GrammarCheck, HistoryCheck};
+use std::io::Read;
+use std::{fs, io};
 use test_packed::{part, two};
 
-fn print_refused(e: u8) {
-    io::write_all(1, b"refused ");
-    io::print_decimal(1, e as u64);
+fn print_refused(rt: &impl Print, e: u8) -> io::Result<()> {
+    print!(rt; "refused {e}")
 }
 
-fn print_accepted(count: u16) {
-    io::write_all(1, b"accepted ");
-    io::print_decimal(1, count as u64);
+fn print_accepted(rt: &impl Print, count: u16) -> io::Result<()> {
+    print!(rt; "accepted {count}")
 }
 
-fn print_grammar_check(file: &[u8]) {
+fn print_grammar_check(rt: &impl Print, file: &[u8]) -> io::Result<()> {
     let answer = files::grammar_check(file);
     match answer {
         GrammarCheck::Accepted(nonterminals, rules) => {
-            print_accepted(nonterminals);
-            io::write_all(1, b" ");
-            io::print_decimal(1, rules as u64);
+            print_accepted(rt, nonterminals)?;
+            print!(rt; " {rules}")
         }
-        GrammarCheck::Refused(e) => print_refused(e),
+        GrammarCheck::Refused(e) => print_refused(rt, e),
     }
 }
 
-fn print_history_check(file: &[u8]) {
+fn print_history_check(rt: &impl Print, file: &[u8]) -> io::Result<()> {
     let answer = files::history_check(file);
     match answer {
-        HistoryCheck::Accepted(tokens) => print_accepted(tokens),
-        HistoryCheck::Refused(e) => print_refused(e),
+        HistoryCheck::Accepted(tokens) => print_accepted(rt, tokens),
+        HistoryCheck::Refused(e) => print_refused(rt, e),
     }
 }
 
 // The next case; false where the file has no further one.
-fn one(fd: i32) -> bool {
+fn one<F: Read>(rt: &impl Print, cases: &mut F) -> io::Result<bool> {
     let mut head = [0u8; 4];
-    let got = io::read_full(fd, &mut head);
+    let got = streams::read_full(cases, &mut head);
     if got < 4 {
-        return false;
+        return Ok(false);
     }
-    let mut label = io::buffer();
-    let mut file = io::buffer();
-    let shown = part(fd, two(head[1], 0), &mut label);
-    let size = part(fd, two(head[2], head[3]), &mut file);
-    io::write_all(1, &label[..shown]);
-    io::write_all(1, b": ");
+    let mut label = [0u8; 4096];
+    let mut file = [0u8; 4096];
+    let shown = part(cases, two(head[1], 0), &mut label);
+    let size = part(cases, two(head[2], head[3]), &mut file);
+    rt.write_all(&label[..shown])?;
+    print!(rt; ": ")?;
     if head[0] == 0 {
-        print_grammar_check(&file[..size]);
+        print_grammar_check(rt, &file[..size])?;
     } else {
-        print_history_check(&file[..size]);
+        print_history_check(rt, &file[..size])?;
     }
-    io::write_all(1, b"\n");
-    true
+    println!(rt; "")?;
+    Ok(true)
 }
 
-fn all(fd: i32) {
-    let mut turns: u32 = 10000;
-    while turns > 0 && one(fd) {
-        turns -= 1;
+fn all<F: Read>(rt: &impl Print, cases: &mut F) -> io::Result<()> {
+    for _ in 0..10000 {
+        if !one(rt, cases)? {
+            return Ok(());
+        }
     }
+    Ok(())
 }
 
-fn main() {
-    let fd = os::open_read(b"cases.bin");
-    if fd < 0 {
-        return;
-    }
-    all(fd);
-    libc::close(fd);
+fn main(rt: HostRuntime) -> io::Result<()> {
+    let mut cases = fs::open(&rt, "cases.bin")?;
+    all(&rt, &mut cases)
 }

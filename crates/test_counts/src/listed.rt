@@ -21,7 +21,8 @@ fn same_reading(grammar: &[u8], history: &[u8], k: u64, path: &[u8]) -> bool {
     let Outcome::Done = given else {
         return false;
     };
-    check::same(&buffer, path)
+    let written: &[u8] = &buffer;
+    written == path
 }
 
 // Whether the enumerator lists as many readings as the total says, each being the reading of its number.

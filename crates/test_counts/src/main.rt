@@ -7,26 +7,23 @@ mod head;
 mod listed;
 mod sums;
 
+use std::io::Read;
+use std::{fs, io};
 use test_packed::{part, two};
 
-const OUT: i32 = libc::STDOUT_FILENO;
-
 // Writes a line where the two differ. Cases are numbered from 0.
-fn tell(same: bool, what: &[u8], number: u32, label: &[u8]) {
+fn tell(rt: &impl Print, same: bool, what: &str, number: u32, label: &[u8]) -> io::Result<()> {
     if same {
-        return;
+        return Ok(());
     }
-    io::write_all(OUT, b"case ");
-    io::print_decimal(OUT, number as u64);
-    io::write_all(OUT, b", ");
-    io::write_all(OUT, label);
-    io::write_all(OUT, b": ");
-    io::write_all(OUT, what);
-    io::write_all(OUT, b" DIFFERS\n");
+    print!(rt; "case {number}, ")?;
+    rt.write_all(label)?;
+    println!(rt; ": {what} DIFFERS")
 }
 
 // The answer, and every byte of the buffer.
 fn compare(
+    rt: &impl Print,
     number: u32,
     head: &[u8; 33],
     label: &[u8],
@@ -34,29 +31,32 @@ fn compare(
     history: &[u8],
     buffer: &mut [u8],
     after: &[u8],
-) {
+) -> io::Result<()> {
     let asked = head::asked_in(head);
     let due = head::due_in(head);
-    let same = answers::same_answer(asked, grammar, history, buffer, due);
-    tell(same, b"the answer", number, label);
-    tell(check::same(buffer, after), b"the buffer", number, label);
+    let answered = answers::same_answer(asked, grammar, history, buffer, due);
+    let left = *buffer == *after;
+    tell(rt, answered, "the answer", number, label)?;
+    tell(rt, left, "the buffer", number, label)
 }
 
 // Reads the rest of a case, and compares.
-fn compare_lent(
-    fd: i32,
+fn compare_lent<F: Read>(
+    rt: &impl Print,
+    cases: &mut F,
     number: u32,
     head: &[u8; 33],
     label: &[u8],
     grammar: &[u8],
     history: &[u8],
-) {
-    let mut buffer = io::buffer();
-    let mut after = io::buffer();
+) -> io::Result<()> {
+    let mut buffer = [0u8; 4096];
+    let mut after = [0u8; 4096];
     let size = two(head[31], head[32]);
-    let b = part(fd, size, &mut buffer);
-    let a = part(fd, size, &mut after);
+    let b = part(cases, size, &mut buffer);
+    let a = part(cases, size, &mut after);
     compare(
+        rt,
         number,
         head,
         label,
@@ -64,42 +64,46 @@ fn compare_lent(
         history,
         &mut buffer[..b],
         &after[..a],
-    );
+    )
 }
 
 // The case of that number; false where the file has no further one.
-fn one(fd: i32, number: u32) -> bool {
+fn one<F: Read>(rt: &impl Print, cases: &mut F, number: u32) -> io::Result<bool> {
     let mut head = [0u8; 33];
-    let got = io::read_full(fd, &mut head);
+    let got = streams::read_full(cases, &mut head);
     if got < 33 {
-        return false;
+        return Ok(false);
     }
-    let mut label = io::buffer();
-    let mut grammar = io::buffer();
-    let mut history = io::buffer();
-    let l = part(fd, two(head[2], 0), &mut label);
-    let g = part(fd, two(head[27], head[28]), &mut grammar);
-    let h = part(fd, two(head[29], head[30]), &mut history);
-    compare_lent(fd, number, &head, &label[..l], &grammar[..g], &history[..h]);
-    true
+    let mut label = [0u8; 4096];
+    let mut grammar = [0u8; 4096];
+    let mut history = [0u8; 4096];
+    let l = part(cases, two(head[2], 0), &mut label);
+    let g = part(cases, two(head[27], head[28]), &mut grammar);
+    let h = part(cases, two(head[29], head[30]), &mut history);
+    compare_lent(
+        rt,
+        cases,
+        number,
+        &head,
+        &label[..l],
+        &grammar[..g],
+        &history[..h],
+    )?;
+    Ok(true)
 }
 
 // Compares all cases, and answers how many.
-fn all(fd: i32) -> u32 {
-    let mut cases: u32 = 0;
-    while cases < 10000 && one(fd, cases) {
-        cases += 1;
+fn all<F: Read>(rt: &impl Print, cases: &mut F) -> io::Result<u32> {
+    for count in 0..10000 {
+        if !one(rt, cases, count)? {
+            return Ok(count);
+        }
     }
-    cases
+    Ok(10000)
 }
 
-fn main() {
-    let fd = os::open_read(b"cases.bin");
-    if fd < 0 {
-        return;
-    }
-    let cases = all(fd);
-    libc::close(fd);
-    io::print_decimal(OUT, cases as u64);
-    io::write_all(OUT, b" cases compared\n");
+fn main(rt: HostRuntime) -> io::Result<()> {
+    let mut cases = fs::open(&rt, "cases.bin")?;
+    let count = all(&rt, &mut cases)?;
+    println!(rt; "{count} cases compared")
 }

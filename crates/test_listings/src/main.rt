@@ -2,56 +2,62 @@
 // A case is four bytes (the grammar's length and the history's, low byte first), then the grammar and the history, the first 4,096 bytes of each.
 #![tactic(auto)]
 
+use std::io::Read;
+use std::rt::Files;
+use std::{fs, io};
+use streams::Sink;
 use test_packed::{part, two};
 
 // Writes the listing in pieces of 65,536 bytes: in one piece, since no case has more.
-fn show_whole(grammar: &[u8], history: &[u8]) {
-    let mut text = io::large_buffer();
-    listing_output::write_listing(grammar, history, &mut text);
+fn show_whole(rt: &impl Print, grammar: &[u8], history: &[u8]) -> io::Result<()> {
+    let mut text = [0u8; 65536];
+    let mut sink = Sink::new(io::writer(rt));
+    listing_output::write_listing(grammar, history, &mut text, &mut sink);
+    sink.outcome()
 }
 
 // Writes the listing in pieces of 4,096 bytes.
-fn show_pieces(grammar: &[u8], history: &[u8]) {
-    let mut text = io::buffer();
-    listing_output::write_listing(grammar, history, &mut text);
+fn show_pieces(rt: &impl Print, grammar: &[u8], history: &[u8]) -> io::Result<()> {
+    let mut text = [0u8; 4096];
+    let mut sink = Sink::new(io::writer(rt));
+    listing_output::write_listing(grammar, history, &mut text, &mut sink);
+    sink.outcome()
 }
 
 // The next case; false where the file has no further one.
-fn one(fd: i32, whole: bool) -> bool {
+fn one<F: Read>(rt: &impl Print, cases: &mut F, whole: bool) -> io::Result<bool> {
     let mut head = [0u8; 4];
-    let got = io::read_full(fd, &mut head);
+    let got = streams::read_full(cases, &mut head);
     if got < 4 {
-        return false;
+        return Ok(false);
     }
-    let mut grammar = io::buffer();
-    let mut history = io::buffer();
-    let g = part(fd, two(head[0], head[1]), &mut grammar);
-    let h = part(fd, two(head[2], head[3]), &mut history);
+    let mut grammar = [0u8; 4096];
+    let mut history = [0u8; 4096];
+    let g = part(cases, two(head[0], head[1]), &mut grammar);
+    let h = part(cases, two(head[2], head[3]), &mut history);
     if whole {
-        show_whole(&grammar[..g], &history[..h]);
+        show_whole(rt, &grammar[..g], &history[..h])?;
     } else {
-        show_pieces(&grammar[..g], &history[..h]);
+        show_pieces(rt, &grammar[..g], &history[..h])?;
     }
-    true
+    Ok(true)
 }
 
-fn all(fd: i32, whole: bool) {
-    let mut turns: u32 = 10000;
-    while turns > 0 && one(fd, whole) {
-        turns -= 1;
+fn all<F: Read>(rt: &impl Print, cases: &mut F, whole: bool) -> io::Result<()> {
+    for _ in 0..10000 {
+        if !one(rt, cases, whole)? {
+            return Ok(());
+        }
     }
+    Ok(())
 }
 
-fn show_file(name: &[u8], whole: bool) {
-    let fd = os::open_read(name);
-    if fd < 0 {
-        return;
-    }
-    all(fd, whole);
-    libc::close(fd);
+fn show_file(rt: &(impl Files + Print), name: &str, whole: bool) -> io::Result<()> {
+    let mut cases = fs::open(rt, name)?;
+    all(rt, &mut cases, whole)
 }
 
-fn main() {
-    show_file(b"cases.bin", true);
-    show_file(b"random.bin", false);
+fn main(rt: HostRuntime) -> io::Result<()> {
+    show_file(&rt, "cases.bin", true)?;
+    show_file(&rt, "random.bin", false)
 }

@@ -1,8 +1,9 @@
 // Reads a packed file of test cases, in which the lengths of a case's parts stand before the parts.
 #![tactic(auto)]
 
-ghost use Rattle.std.specs.Prelude.{◌≡◌, ◌+◌, ◌*◌};
-ghost use Rattle.io.specs.Counts.{IsPrefixLen};
+ghost use Rattle.std.specs.Prelude.{◌≡◌, ◌+◌, ◌*◌, ◌≤◌, length};
+
+use std::io::Read;
 
 // A number of two bytes, the low one first.
 pub fn two(low: u8, high: u8) -> u16
@@ -19,10 +20,10 @@ pub fn four(low: u16, high: u16) -> u32
 }
 
 // Reads n bytes, or as many as the buffer holds, to the buffer's start.
-pub fn part(fd: i32, n: u16, buf: &mut [u8]) -> usize
-    ensures { IsPrefixLen result buf.new }
+pub fn part<R: Read>(file: &mut R, n: u16, buf: &mut [u8]) -> usize
+    ensures { result ≤ length buf.new }
 {
-    let k = io::count(n as isize, buf);
-    io::read_full(fd, &mut buf[..k]);
-    io::count(k as isize, buf)
+    let k = (n as usize).min(buf.len());
+    streams::read_full(file, &mut buf[..k]);
+    k
 }

@@ -3,10 +3,10 @@
 // bytes each the first byte of the part that is due, how many there are, and the history's length; low bytes first), then label and history.
 #![tactic(auto)]
 
+use std::io::Read;
+use std::{fs, io};
 use step_bytes::{StepCheck, StepPlace};
 use test_packed::{four, part, two};
-
-const OUT: i32 = libc::STDOUT_FILENO;
 
 // A number of eight bytes, from its halves.
 fn eight(low: u32, high: u32) -> usize {
@@ -67,45 +67,35 @@ fn same_place(history: &[u8], position: usize, due: Due) -> bool {
 }
 
 // Writes a line where the two differ.
-fn tell(same: bool, what: &[u8], label: &[u8], position: usize) {
+fn tell(rt: &impl Print, same: bool, what: &str, label: &[u8], position: usize) -> io::Result<()> {
     if same {
-        return;
+        return Ok(());
     }
-    io::write_all(OUT, label);
-    io::write_all(OUT, b", position ");
-    io::print_decimal(OUT, position as u64);
-    io::write_all(OUT, b": ");
-    io::write_all(OUT, what);
-    io::write_all(OUT, b" DIFFERS\n");
+    rt.write_all(label)?;
+    println!(rt; ", position {position}: {what} DIFFERS")
 }
 
-fn compare(label: &[u8], history: &[u8], position: usize, due: Due) {
-    tell(
-        same_bytes(history, position, due),
-        b"step_bytes",
-        label,
-        position,
-    );
-    tell(
-        same_number(history, position, due),
-        b"step_check",
-        label,
-        position,
-    );
-    tell(
-        same_place(history, position, due),
-        b"locate",
-        label,
-        position,
-    );
+fn compare(
+    rt: &impl Print,
+    label: &[u8],
+    history: &[u8],
+    position: usize,
+    due: Due,
+) -> io::Result<()> {
+    let bytes = same_bytes(history, position, due);
+    tell(rt, bytes, "step_bytes", label, position)?;
+    let number = same_number(history, position, due);
+    tell(rt, number, "step_check", label, position)?;
+    let place = same_place(history, position, due);
+    tell(rt, place, "locate", label, position)
 }
 
 // The next case; false where the file has no further one.
-fn one(fd: i32) -> bool {
+fn one<F: Read>(rt: &impl Print, cases: &mut F) -> io::Result<bool> {
     let mut head = [0u8; 16];
-    let got = io::read_full(fd, &mut head);
+    let got = streams::read_full(cases, &mut head);
     if got < 16 {
-        return false;
+        return Ok(false);
     }
     let low = four(two(head[0], head[1]), two(head[2], head[3]));
     let high = four(two(head[4], head[5]), two(head[6], head[7]));
@@ -114,30 +104,26 @@ fn one(fd: i32) -> bool {
         start: two(head[10], head[11]) as usize,
         length: two(head[12], head[13]) as usize,
     };
-    let mut label = io::buffer();
-    let mut history = io::buffer();
-    let l = part(fd, two(head[9], 0), &mut label);
-    let h = part(fd, two(head[14], head[15]), &mut history);
-    compare(&label[..l], &history[..h], eight(low, high), due);
-    true
+    let mut label = [0u8; 4096];
+    let mut history = [0u8; 4096];
+    let l = part(cases, two(head[9], 0), &mut label);
+    let h = part(cases, two(head[14], head[15]), &mut history);
+    compare(rt, &label[..l], &history[..h], eight(low, high), due)?;
+    Ok(true)
 }
 
 // Compares all cases, and answers how many.
-fn all(fd: i32) -> u32 {
-    let mut cases: u32 = 0;
-    while cases < 10000 && one(fd) {
-        cases += 1;
+fn all<F: Read>(rt: &impl Print, cases: &mut F) -> io::Result<u32> {
+    for count in 0..10000 {
+        if !one(rt, cases)? {
+            return Ok(count);
+        }
     }
-    cases
+    Ok(10000)
 }
 
-fn main() {
-    let fd = os::open_read(b"cases.bin");
-    if fd < 0 {
-        return;
-    }
-    let cases = all(fd);
-    libc::close(fd);
-    io::print_decimal(OUT, cases as u64);
-    io::write_all(OUT, b" cases compared\n");
+fn main(rt: HostRuntime) -> io::Result<()> {
+    let mut cases = fs::open(&rt, "cases.bin")?;
+    let count = all(&rt, &mut cases)?;
+    println!(rt; "{count} cases compared")
 }

@@ -125,8 +125,8 @@ pub(crate) fn same_calls(
     entries: Entries,
 ) -> bool {
     let mut answers_space = [FILLER; 300];
-    let mut buffer_space = io::buffer();
-    let n = io::count(buffer.len() as isize, &buffer_space);
+    let mut buffer_space = [0u8; 4096];
+    let n = buffer.len().min(4096);
     let due_answers: &mut [u8] = &mut answers_space;
     let due_buffer: &mut [u8] = &mut buffer_space[..n];
     copy_from(buffer, 0, due_buffer, n);

@@ -5,6 +5,7 @@ use crate::entries::Entries;
 use crate::kept_rules::stands;
 use crate::shown::{say_choices, tell};
 use sets::CountAnswer;
+use std::io;
 use test_enumerator::{left_side, rule_count};
 
 // Whether rule s is of the same stage as rule r, and some entry has it at position p.
@@ -72,11 +73,18 @@ fn several(entries: Entries) -> bool {
 }
 
 // Writes whether the count is 0 exactly where there are no two readings; where the list is whole, whether it is the list's.
-fn tell_count(count: u32, rules: &[u32], list: &[u8], entries: Entries) {
-    tell(b"several readings", several(entries) == (0 < count));
+fn tell_count(
+    rt: &impl Print,
+    count: u32,
+    rules: &[u32],
+    list: &[u8],
+    entries: Entries,
+) -> io::Result<()> {
+    tell(rt, "several readings", several(entries) == (0 < count))?;
     if entries.whole {
-        tell(b"choice count", count == choices(rules, list, entries));
+        return tell(rt, "choice count", count == choices(rules, list, entries));
     }
+    Ok(())
 }
 
 // Whether the call that writes the sets answers the same count.
@@ -92,18 +100,18 @@ fn same_with_sets(grammar: &[u8], history: &[u8], count: u32) -> bool {
 
 // Writes the service's choice count, and how it compares with the one that comes with the sets and with the list.
 pub(crate) fn compare_count(
+    rt: &impl Print,
     grammar: &[u8],
     history: &[u8],
     rules: &[u32],
     list: &[u8],
     entries: Entries,
-) {
+) -> io::Result<()> {
     let answer = sets::choice_count(grammar, history);
     let CountAnswer::Count(count) = answer else {
-        tell(b"choice count", false);
-        return;
+        return tell(rt, "choice count", false);
     };
-    say_choices(count);
-    tell(b"with sets", same_with_sets(grammar, history, count));
-    tell_count(count, rules, list, entries);
+    say_choices(rt, count)?;
+    tell(rt, "with sets", same_with_sets(grammar, history, count))?;
+    tell_count(rt, count, rules, list, entries)
 }

@@ -5,7 +5,7 @@ use crate::compare::copy_to;
 use test_enumerator::Found;
 
 // How many bytes a reading takes, how many all that are listed take, whether these are all, and whether the enumerator gave up.
-#[derive(Drop)]
+#[derive(Clone, Copy)]
 pub struct Entries {
     pub size: u16,
     pub end: u16,

@@ -17,10 +17,13 @@ ghost use Rattle.std.specs.Prelude.{◌≤◌, length};
 
 use entries::Entries;
 use shown::tell;
+use std::io::Read;
+use std::{fs, io};
 use test_packed::{part, two};
 
 // What goes by the list of all readings, where the enumerator has them all.
 fn compare_whole(
+    rt: &impl Print,
     grammar: &[u8],
     history: &[u8],
     kinds: &[u8],
@@ -28,32 +31,39 @@ fn compare_whole(
     buffer: &mut [u8],
     list: &[u8],
     entries: Entries,
-) {
+) -> io::Result<()> {
     if !entries.whole {
-        return;
+        return Ok(());
     }
-    tell(
-        b"sets",
-        kept_rules::same_sets(grammar, history, list, entries),
-    );
-    tell(
-        b"calls",
-        called::same_calls(grammar, history, kinds, answers, buffer, list, entries),
-    );
+    let sets = kept_rules::same_sets(grammar, history, list, entries);
+    tell(rt, "sets", sets)?;
+    let calls = called::same_calls(grammar, history, kinds, answers, buffer, list, entries);
+    tell(rt, "calls", calls)
 }
 
 // What goes by the services and the tokens alone.
-fn compare_short(grammar: &[u8], history: &[u8], rules: &[u32], tokens: &[u32], with_marks: bool)
+fn compare_short(
+    rt: &impl Print,
+    grammar: &[u8],
+    history: &[u8],
+    rules: &[u32],
+    tokens: &[u32],
+    with_marks: bool,
+) -> io::Result<()>
     requires { length tokens.now ≤ 1024 }
 {
+    let buffers = refused::short_refused(grammar, history, tokens.len());
+    tell(rt, "short buffers", buffers)?;
     tell(
-        b"short buffers",
-        refused::short_refused(grammar, history, tokens.len()),
-    );
-    tell(b"short answers", refused::calls_refused(grammar, history));
+        rt,
+        "short answers",
+        refused::calls_refused(grammar, history),
+    )?;
     if with_marks {
-        tell(b"marks", marks::same_marks(grammar, history, rules, tokens));
+        let marks = marks::same_marks(grammar, history, rules, tokens);
+        return tell(rt, "marks", marks);
     }
+    Ok(())
 }
 
 // What is shown of a case, and for how many bytes of readings there is room.
@@ -65,6 +75,7 @@ struct Wanted {
 
 // A case whose files pass, with its rules and tokens.
 fn compare_read(
+    rt: &impl Print,
     wanted: Wanted,
     grammar: &[u8],
     history: &[u8],
@@ -72,42 +83,49 @@ fn compare_read(
     tokens: &[u32],
     kinds: &[u8],
     buffer: &mut [u8],
-)
+) -> io::Result<()>
     requires { length tokens.now ≤ 1024 }
 {
     let what = wanted.what;
-    let mut list_space = io::large_buffer();
+    let mut list_space = [0u8; 65536];
     let list: &mut [u8] = &mut list_space;
     let mut answers_space = [compare::FILLER; 300];
     let answers: &mut [u8] = &mut answers_space;
     let entries = entries::enumerate(rules, tokens, wanted.limit, list);
-    shown::say_count(entries);
-    tell(b"list", listed::same_list(grammar, history, list, entries));
-    compare_short(grammar, history, rules, tokens, what / 2 % 2 == 1);
-    choices::compare_count(grammar, history, rules, list, entries);
-    compare_whole(grammar, history, kinds, answers, buffer, list, entries);
-    io::write_all(libc::STDOUT_FILENO, b"\n");
+    shown::say_count(rt, entries)?;
+    tell(
+        rt,
+        "list",
+        listed::same_list(grammar, history, list, entries),
+    )?;
+    compare_short(rt, grammar, history, rules, tokens, what / 2 % 2 == 1)?;
+    choices::compare_count(rt, grammar, history, rules, list, entries)?;
+    compare_whole(rt, grammar, history, kinds, answers, buffer, list, entries)?;
+    println!(rt; "")?;
     if what % 2 == 1 {
-        shown::show_list(list, entries);
-        shown::show_marks(grammar, history, tokens);
-        shown::show_answers(answers, kinds);
+        shown::show_list(rt, list, entries)?;
+        shown::show_marks(rt, grammar, history, tokens)?;
+        shown::show_answers(rt, answers, kinds)?;
     }
+    Ok(())
 }
 
 // A case whose files pass.
 fn compare_case(
+    rt: &impl Print,
     what: u8,
     limit: u16,
     grammar: &[u8],
     history: &[u8],
     kinds: &[u8],
     buffer: &mut [u8],
-) {
+) -> io::Result<()> {
     let n = test_enumerator::token_count(history);
     let size = test_enumerator::rule_numbers(grammar);
     let rules = test_enumerator::rules_of(grammar);
     let tokens = test_enumerator::tokens_of(history);
     compare_read(
+        rt,
         Wanted { what, limit },
         grammar,
         history,
@@ -115,62 +133,61 @@ fn compare_case(
         &tokens[..n],
         kinds,
         buffer,
-    );
+    )
 }
 
 // A case with a file that is turned down.
-fn refused_case(grammar: &[u8], history: &[u8], due: u8) {
-    tell(b"refused", refused::all_refused(grammar, history, due));
-    io::write_all(libc::STDOUT_FILENO, b"\n");
+fn refused_case(rt: &impl Print, grammar: &[u8], history: &[u8], due: u8) -> io::Result<()> {
+    tell(rt, "refused", refused::all_refused(grammar, history, due))?;
+    println!(rt; "")
 }
 
 // The next case; false where the file has no further one.
-fn one(fd: i32) -> bool {
+fn one<F: Read>(rt: &impl Print, cases: &mut F) -> io::Result<bool> {
     let mut head = [0u8; 13];
-    let got = io::read_full(fd, &mut head);
+    let got = streams::read_full(cases, &mut head);
     if got < 13 {
-        return false;
+        return Ok(false);
     }
-    let mut label = io::buffer();
-    let mut grammar = io::buffer();
-    let mut history = io::buffer();
-    let mut buffer = io::buffer();
-    let mut kinds = io::buffer();
-    let l = part(fd, two(head[4], head[5]), &mut label);
-    let g = part(fd, two(head[6], head[7]), &mut grammar);
-    let h = part(fd, two(head[8], head[9]), &mut history);
-    let b = part(fd, two(head[10], head[11]), &mut buffer);
-    let k = part(fd, two(head[12], 0), &mut kinds);
-    io::write_all(libc::STDOUT_FILENO, &label[..l]);
-    io::write_all(libc::STDOUT_FILENO, b":");
+    let mut label = [0u8; 4096];
+    let mut grammar = [0u8; 4096];
+    let mut history = [0u8; 4096];
+    let mut buffer = [0u8; 4096];
+    let mut kinds = [0u8; 4096];
+    let l = part(cases, two(head[4], head[5]), &mut label);
+    let g = part(cases, two(head[6], head[7]), &mut grammar);
+    let h = part(cases, two(head[8], head[9]), &mut history);
+    let b = part(cases, two(head[10], head[11]), &mut buffer);
+    let k = part(cases, two(head[12], 0), &mut kinds);
+    rt.write_all(&label[..l])?;
+    print!(rt; ":")?;
     if head[0] != 0 {
-        refused_case(&grammar[..g], &history[..h], head[0]);
-        return true;
+        refused_case(rt, &grammar[..g], &history[..h], head[0])?;
+        return Ok(true);
     }
     let limit = two(head[2], head[3]);
     compare_case(
+        rt,
         head[1],
         limit,
         &grammar[..g],
         &history[..h],
         &kinds[..k],
         &mut buffer[..b],
-    );
-    true
+    )?;
+    Ok(true)
 }
 
-fn all(fd: i32) {
-    let mut turns: u32 = 10000;
-    while turns > 0 && one(fd) {
-        turns -= 1;
+fn all<F: Read>(rt: &impl Print, cases: &mut F) -> io::Result<()> {
+    for _ in 0..10000 {
+        if !one(rt, cases)? {
+            return Ok(());
+        }
     }
+    Ok(())
 }
 
-fn main() {
-    let fd = os::open_read(b"cases.bin");
-    if fd < 0 {
-        return;
-    }
-    all(fd);
-    libc::close(fd);
+fn main(rt: HostRuntime) -> io::Result<()> {
+    let mut cases = fs::open(&rt, "cases.bin")?;
+    all(&rt, &mut cases)
 }

@@ -2,47 +2,39 @@
 ghost use Rattle.std.specs.Prelude.{◌≤◌};
 
 use crate::entries::Entries;
+use std::io;
 
-const OUT: i32 = libc::STDOUT_FILENO;
-
-fn say(text: &[u8]) {
-    io::write_all(OUT, text);
+fn say(rt: &impl Print, text: &str) -> io::Result<()> {
+    rt.print(text)
 }
 
 // How many readings the enumerator has listed, and whether these are all.
-pub(crate) fn say_count(entries: Entries) {
+pub(crate) fn say_count(rt: &impl Print, entries: Entries) -> io::Result<()> {
     if entries.lost {
-        say(b" the enumerator gave up;");
-        return;
+        return say(rt, " the enumerator gave up;");
     }
     let size = entries.size as u64;
     if size == 0 {
-        return;
+        return Ok(());
     }
-    say(b" readings ");
-    io::print_decimal(OUT, entries.end as u64 / size);
-    if !entries.whole {
-        say(b" and more");
+    let readings = entries.end as u64 / size;
+    if entries.whole {
+        return print!(rt; " readings {readings};");
     }
-    say(b";");
+    print!(rt; " readings {readings} and more;")
 }
 
 // How many choices the service counts.
-pub(crate) fn say_choices(count: u32) {
-    say(b" choices ");
-    io::print_decimal(OUT, count as u64);
-    say(b";");
+pub(crate) fn say_choices(rt: &impl Print, count: u32) -> io::Result<()> {
+    print!(rt; " choices {count};")
 }
 
 // What was compared, and whether it is the same.
-pub(crate) fn tell(what: &[u8], same: bool) {
-    say(b" ");
-    say(what);
+pub(crate) fn tell(rt: &impl Print, what: &str, same: bool) -> io::Result<()> {
     if same {
-        say(b" same;");
-    } else {
-        say(b" DIFFERS;");
+        return print!(rt; " {what} same;");
     }
+    print!(rt; " {what} DIFFERS;")
 }
 
 fn shorter(a: usize, b: usize) -> usize
@@ -52,43 +44,49 @@ fn shorter(a: usize, b: usize) -> usize
 }
 
 // Writes n bytes of the list as numbers, on a line of their own.
-fn show_line(list: &[u8], from: usize, n: usize)
+fn show_line(rt: &impl Print, list: &[u8], from: usize, n: usize) -> io::Result<()>
     requires { (from ≤ 200000) × (n ≤ 70000) }
 {
     let mut i: usize = 0;
     while i < n {
-        say(b" ");
-        io::print_decimal(OUT, test_enumerator::byte(list, from + i) as u64);
+        let byte = test_enumerator::byte(list, from + i);
+        print!(rt; " {byte}")?;
         i += 1;
     }
-    say(b"\n");
+    println!(rt; "")
 }
 
 // Writes each reading of the list.
-pub(crate) fn show_list(list: &[u8], entries: Entries) {
+pub(crate) fn show_list(rt: &impl Print, list: &[u8], entries: Entries) -> io::Result<()> {
     let size = entries.size as usize;
     let end = entries.end as usize;
     if size == 0 {
-        return;
+        return Ok(());
     }
     let mut from: usize = 0;
     while from < end {
-        say(b"  reading");
-        show_line(list, from, size);
+        say(rt, "  reading")?;
+        show_line(rt, list, from, size)?;
         from += size;
     }
+    Ok(())
 }
 
 // Writes the stop marks.
-pub(crate) fn show_marks(grammar: &[u8], history: &[u8], tokens: &[u32]) {
+pub(crate) fn show_marks(
+    rt: &impl Print,
+    grammar: &[u8],
+    history: &[u8],
+    tokens: &[u32],
+) -> io::Result<()> {
     let mut marks = [crate::compare::FILLER; 1028];
     stop_marks::stop_marks(grammar, history, &mut marks);
-    say(b"  marks");
-    show_line(&marks, 0, shorter(tokens.len(), 1024) + 1);
+    say(rt, "  marks")?;
+    show_line(rt, &marks, 0, shorter(tokens.len(), 1024) + 1)
 }
 
 // Writes the answers to a list of calls.
-pub(crate) fn show_answers(answers: &[u8], kinds: &[u8]) {
-    say(b"  answers");
-    show_line(answers, 0, shorter(kinds.len(), 300));
+pub(crate) fn show_answers(rt: &impl Print, answers: &[u8], kinds: &[u8]) -> io::Result<()> {
+    say(rt, "  answers")?;
+    show_line(rt, answers, 0, shorter(kinds.len(), 300))
 }

@@ -5,10 +5,10 @@
 
 ghost use Rattle.std.specs.Prelude.{◌≡◌, ◌+◌, ◌*◌, ◌≤◌, length};
 
+use std::io::Read;
+use std::{fs, io};
 use test_packed::{four, part, two};
 use writers::WriteAnswer;
-
-const OUT: i32 = libc::STDOUT_FILENO;
 
 // As many elements as a case may have.
 const MOST: usize = 5000;
@@ -75,72 +75,74 @@ fn same_answer(given: WriteAnswer, due: Due) -> bool {
 }
 
 // Writes a line where the two differ.
-fn tell(same: bool, what: &[u8], label: &[u8], size: usize) {
+fn tell(rt: &impl Print, same: bool, what: &str, label: &[u8], size: usize) -> io::Result<()> {
     if same {
-        return;
+        return Ok(());
     }
-    io::write_all(OUT, label);
-    io::write_all(OUT, b", buffer of ");
-    io::print_decimal(OUT, size as u64);
-    io::write_all(OUT, b": ");
-    io::write_all(OUT, what);
-    io::write_all(OUT, b" DIFFERS\n");
+    rt.write_all(label)?;
+    println!(rt; ", buffer of {size}: {what} DIFFERS")
 }
 
 // The writer's answer, and every byte of the buffer.
-fn compare(which: u8, label: &[u8], packed: &[u8], buffer: &mut [u8], after: &[u8], due: Due) {
+fn compare(
+    rt: &impl Print,
+    which: u8,
+    label: &[u8],
+    packed: &[u8],
+    buffer: &mut [u8],
+    after: &[u8],
+    due: Due,
+) -> io::Result<()> {
     let given = write_packed(which, packed, buffer);
     let size = after.len();
-    tell(same_answer(given, due), b"the answer", label, size);
-    tell(check::same(buffer, after), b"the buffer", label, size);
+    let same = *buffer == *after;
+    tell(rt, same_answer(given, due), "the answer", label, size)?;
+    tell(rt, same, "the buffer", label, size)
 }
 
 // The next case; false where the file has no further one.
-fn one(fd: i32) -> bool {
+fn one<F: Read>(rt: &impl Print, cases: &mut F) -> io::Result<bool> {
     let mut head = [0u8; 9];
-    let got = io::read_full(fd, &mut head);
+    let got = streams::read_full(cases, &mut head);
     if got < 9 {
-        return false;
+        return Ok(false);
     }
     let due = Due {
         number: head[1],
         length: two(head[3], head[4]) as usize,
     };
-    let mut label = io::buffer();
-    let mut packed = io::large_buffer();
-    let mut buffer = io::buffer();
-    let mut after = io::buffer();
-    let l = part(fd, two(head[2], 0), &mut label);
-    let e = part(fd, two(head[5], head[6]), &mut packed);
-    let b = part(fd, two(head[7], head[8]), &mut buffer);
-    let a = part(fd, two(head[7], head[8]), &mut after);
+    let mut label = [0u8; 4096];
+    let mut packed = [0u8; 65536];
+    let mut buffer = [0u8; 4096];
+    let mut after = [0u8; 4096];
+    let l = part(cases, two(head[2], 0), &mut label);
+    let e = part(cases, two(head[5], head[6]), &mut packed);
+    let b = part(cases, two(head[7], head[8]), &mut buffer);
+    let a = part(cases, two(head[7], head[8]), &mut after);
     compare(
+        rt,
         head[0],
         &label[..l],
         &packed[..e],
         &mut buffer[..b],
         &after[..a],
         due,
-    );
-    true
+    )?;
+    Ok(true)
 }
 
 // Compares all cases, and answers how many.
-fn all(fd: i32) -> u32 {
-    let mut cases: u32 = 0;
-    while cases < 10000 && one(fd) {
-        cases += 1;
+fn all<F: Read>(rt: &impl Print, cases: &mut F) -> io::Result<u32> {
+    for count in 0..10000 {
+        if !one(rt, cases)? {
+            return Ok(count);
+        }
     }
-    cases
+    Ok(10000)
 }
 
-fn main() {
-    let fd = os::open_read(b"cases.bin");
-    if fd < 0 {
-        return;
-    }
-    let cases = all(fd);
-    libc::close(fd);
-    io::print_decimal(OUT, cases as u64);
-    io::write_all(OUT, b" cases compared\n");
+fn main(rt: HostRuntime) -> io::Result<()> {
+    let mut cases = fs::open(&rt, "cases.bin")?;
+    let count = all(&rt, &mut cases)?;
+    println!(rt; "{count} cases compared")
 }
