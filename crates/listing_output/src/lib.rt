@@ -11,7 +11,7 @@ use std::io::Write;
 use streams::Sink;
 
 // Writes the listing of the two files in pieces as long as the buffer, and then what is left in it; answers that last piece.
-// Unless a write fails, the listing is what it writes, if the buffer has room for a byte.
+// Where the sink has no error at the end, and what its writer holds is known, the listing is what it writes, if the buffer has room for a byte.
 pub fn write_listing<W: Write>(
     grammar: &[u8],
     history: &[u8],

@@ -7,8 +7,9 @@ use Rattle.std.specs.declared.result.Result.{Result}
 use Rattle.std.specs.declared.io.Error.{Error}
 use Rattle.streams.specs.declared.Sink.{Sink}
 
--- between the sinks s₀ and s, whose writers hold what `contents` says, bs was handed on: where nothing has failed, all of it went out, behind what the
--- writer held; and where something had failed before, nothing did
+-- between the sinks s₀ and s, whose writers hold what `contents` says, bs was handed on. Where nothing has failed, the writer holds bs behind what it
+-- held, if that is known: of a Vec it is, of standard output or a file it isn't, and there `whole` says nothing of the bytes. Where something had
+-- failed before, the writer is the one that it was. Of the call that fails, nothing is said.
 pub record Sent {W : Type 0} (contents : W → Option (List ℕ)) (s₀ s : Sink W) (bs : List ℕ) : Type 0 where
   pub whole : s.failed ≡ None → (s₀.failed ≡ None) × Appends (contents s₀.writer) (contents s.writer) bs
   pub stays : (e : Error) → s₀.failed ≡ Some e → (s.failed ≡ Some e) × (s.writer ≡ s₀.writer)
