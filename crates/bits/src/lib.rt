@@ -4,12 +4,12 @@
 ghost use Rattle.std.specs.Prelude.{◌≡◌, ◌&&◌, ℕ, ◌+◌, ◌*◌, ◌%◌, ◌<◌, ◌≤◌, leb};
 ghost use Rattle.bits.specs.Bit.{bit, add_bit};
 
-// Whether b is in the set m: digit b of m is 1.
-pub fn has(m: u32, b: usize) -> bool
-    requires { b < 32 }
-    ensures { result ≡ bit m b }
+// Whether b is in a set of up to 64 digits: digit b of the word is 1.
+pub fn has(word: u64, b: usize) -> bool
+    requires { b < 64 }
+    ensures { result ≡ bit word b }
 {
-    (m >> b) % 2 == 1
+    (word >> b) % 2 == 1
 }
 
 // The set m with b.
@@ -18,14 +18,6 @@ pub fn with(m: u32, b: usize) -> u32
     ensures { result ≡ add_bit m b }
 {
     m | (1 << b)
-}
-
-// Whether b is in a set of 64 digits.
-pub fn has_wide(word: u64, b: usize) -> bool
-    requires { b < 64 }
-    ensures { result ≡ bit word b }
-{
-    (word >> b) % 2 == 1
 }
 
 // The members of m from b on.

@@ -3,46 +3,48 @@
 
 ghost use Rattle.std.specs.Prelude.{◌≡◌, length};
 ghost use Rattle.listing_model.specs.Calls.{call_on};
-ghost use Rattle.readings.specs.believed.Answers.{said, subject};
+ghost use Rattle.readings.specs.believed.Answers.{subject};
 ghost use Rattle.service.specs.believed.Given.{outcome_said};
 ghost use Rattle.service.specs.believed.Opened.{files_in};
+ghost use Rattle.refusal.specs.believed.Refusal.{number};
 ghost use Rattle.calls.specs.believed.CallList.{code_of, call_of, coded, no_room, calls_due};
+ghost use Rattle.calls.specs.Told.{told};
 
-use readings::Answer;
-use service::{Opened, Outcome};
+use first_run::Answer;
+use refusal::Refusal;
+use service::Contents;
 
-// An answer as a byte: 0 for a reading written, 100 for none, 101 for no further, else the number of the refusal.
-pub fn code_of(answer: Answer) -> u8
-    ensures { result ≡ code_of (said answer) }
+// An answer as a byte: 0 for a reading written, 100 for none, 101 for no further, else the number of the refusal, which may be any.
+pub fn code_of(answer: Result<Answer, u8>) -> u8
+    ensures { result ≡ code_of (told answer) }
 {
     match answer {
-        Answer::Written => 0,
-        Answer::NoReading => 100,
-        Answer::NoFurther => 101,
-        Answer::Refused(k) => k,
+        Ok(Answer::Written) => 0,
+        Ok(Answer::NoReading) => 100,
+        Ok(Answer::NoFurther) => 101,
+        Err(number) => number,
     }
 }
 
 // One call: 0 is first reading, any other number next reading.
+#[tactic(auto, using(crate::proofs::Told::told_said))]
 pub fn call(grammar: &[u8], history: &[u8], kind: u8, buffer: &mut [u8]) -> u8
     ensures { (result, buffer.new) ≡ coded (call_on (subject grammar.now history.now (length buffer.old)) (call_of kind) buffer.old) }
 {
-    if kind == 0 {
-        return code_of(readings::first_reading(grammar, history, buffer));
-    }
-    code_of(readings::next_reading(grammar, history, buffer))
+    let answer = match kind {
+        0 => readings::first_reading(grammar, history, buffer),
+        _ => readings::next_reading(grammar, history, buffer),
+    };
+    code_of(answer.map_err(u8::from))
 }
 
-// The number where the answers have no room: a refused file's, else 15.
-fn no_room(grammar: &[u8], history: &[u8]) -> u8
-    ensures { result ≡ no_room (files_in grammar.now history.now) }
+// Why there is no room for the answers: a refused file, else the short buffer.
+fn no_room(grammar: &[u8], history: &[u8]) -> Refusal
+    ensures { number result ≡ no_room (files_in grammar.now history.now) }
 {
-    let mut table = [0u16; 1412];
-    let mut tokens = [0u32; 1024];
-    let opened = service::open_files(grammar, history, 0, 0, &mut table, &mut tokens);
-    match opened {
-        Opened::Files(_, _) => 15,
-        Opened::Refused(e) => e,
+    match service::open_files(grammar, history, 0, 0, &mut Contents::new()) {
+        Ok(_) => Refusal::ShortBuffer,
+        Err(refusal) => refusal,
     }
 }
 
@@ -53,16 +55,14 @@ pub fn run_calls(
     calls: &[u8],
     answers: &mut [u8],
     buffer: &mut [u8],
-) -> Outcome
+) -> Result<(), Refusal>
     ensures { (outcome_said result, answers.new, buffer.new) ≡ calls_due grammar.now history.now calls.now answers.old buffer.old }
 {
     if answers.len() < calls.len() {
-        return Outcome::Refused(no_room(grammar, history));
+        return Err(no_room(grammar, history));
     }
-    let mut i: usize = 0;
-    while i < calls.len() {
+    for i in 0..calls.len() {
         answers[i] = call(grammar, history, calls[i], buffer);
-        i += 1;
     }
-    Outcome::Done
+    Ok(())
 }

@@ -4,58 +4,23 @@
 ghost use Rattle.std.specs.Prelude.{◌≡◌, ◌+◌, ◌*◌, ◌-◌, ◌≤◌, ltb};
 ghost use Rattle.capped.specs.Capped.{cap, value};
 
-// How many there are, exactly, or that there are more than 2^64 - 1.
-#[derive(Clone, Copy)]
-pub enum Count {
-    Exact(u64),
-    Over,
-}
+// How many there are, exactly; None: more than 2^64 - 1.
+pub type Count = Option<u64>;
 
 pub fn sum(a: Count, b: Count) -> Count
     ensures { value result ≡ cap (value a + value b) }
 {
-    match a {
-        Count::Exact(x) => match b {
-            Count::Exact(y) => {
-                if x > 18446744073709551615 - y {
-                    return Count::Over;
-                }
-                Count::Exact(x + y)
-            }
-            Count::Over => Count::Over,
-        },
-        Count::Over => Count::Over,
-    }
+    a?.checked_add(b?)
 }
 
 // None times any number is none, however many they are.
 pub fn product(a: Count, b: Count) -> Count
     ensures { value result ≡ cap (value a * value b) }
 {
-    match a {
-        Count::Exact(x) => {
-            if x == 0 {
-                return Count::Exact(0);
-            }
-            match b {
-                Count::Exact(y) => {
-                    if y > 18446744073709551615 / x {
-                        return Count::Over;
-                    }
-                    Count::Exact(x * y)
-                }
-                Count::Over => Count::Over,
-            }
-        }
-        Count::Over => match b {
-            Count::Exact(y) => {
-                if y == 0 {
-                    return Count::Exact(0);
-                }
-                Count::Over
-            }
-            Count::Over => Count::Over,
-        },
+    match (a, b) {
+        (Some(a), Some(b)) => a.checked_mul(b),
+        (Some(0), None) | (None, Some(0)) => Some(0),
+        _ => None,
     }
 }
 
@@ -63,10 +28,7 @@ pub fn product(a: Count, b: Count) -> Count
 pub fn is_below(k: u64, n: Count) -> bool
     ensures { result ≡ ltb k (value n) }
 {
-    match n {
-        Count::Exact(x) => k < x,
-        Count::Over => true,
-    }
+    n.is_none_or(|n| k < n)
 }
 
 // What k is more than a count.
@@ -74,8 +36,5 @@ pub fn minus(k: u64, n: Count) -> u64
     requires { value n ≤ k }
     ensures { result ≡ k - value n }
 {
-    match n {
-        Count::Exact(x) => k - x,
-        Count::Over => 0,
-    }
+    n.map_or(0, |n| k - n)
 }

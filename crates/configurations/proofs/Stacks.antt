@@ -1,47 +1,56 @@
--- The words of a stack: what a push and a pop make of them, and one step of the pass.
+-- The open steps of a stack: what a push and a pop make of them, and one step of the pass.
 use Prim.Native.Nat.{ℕ, zero, suc, ◌+◌, ◌-◌, ◌<◌, ◌≤◌}
 use native.Mathlib.Numerals.{add-one}
 use native.Mathlib.Omega.{arith}
-use mathlib.Core.Path.{◌≡◌, refl, sym, ◌∙◌, ap, subst}
-use mathlib.Core.Bool.{Bool, true, false, cond, not}
-use mathlib.Core.Logic.{◌≢◌}
+use mathlib.Core.Path.{◌≡◌, sym, ◌∙◌, ap, subst}
 use mathlib.Core.List.{List, [], ◌∷◌}
-use lib.ListN.{length, get_or, set, length-set}
-use lib.Seq.{get_or-set_same, get_or-set_other}
-use Rattle.vpg.specs.declared.MarkName.{MarkName}
+use lib.ListN.{length, get_or, set}
+use lib.Seq.{get_or-set_same, get_or-set_other, set-set}
 use Rattle.vpg.specs.declared.OpenName.{OpenName}
 use Rattle.vpg.specs.declared.CloseName.{CloseName}
 use Rattle.vpg.specs.declared.Token.{Token}
 use Rattle.vpg.specs.believed.Grammar.{Grammar}
 use Rattle.pair_theory.specs.Depth.{open_after}
 use Rattle.pair_theory.specs.Pairs.{PairState, PairStack, over_next, over_open, over_return, closed}
-use Rattle.vpg.proofs.Tests.{name_open}
 use Rattle.tables.specs.declared.Head.{Head}
+use Rattle.tables.specs.declared.Table.{Table}
+use Rattle.pair_states.specs.declared.Opened.{Opened}
 use Rattle.pair_states.specs.Encodes.{Encodes}
 use Rattle.pair_states.specs.Wide.{wide_grammar}
-use Rattle.configurations.specs.Stack.{Saved, Holds, StepHolds}
+use Rattle.configurations.specs.declared.stack.Stack.{Stack}
+use Rattle.configurations.specs.Stack.{nothing, Saved, Pushed, Holds, StepHolds}
 
 -- ── push and pop ──
 
-saved_same : (stack stack' : List (List ℕ)) (names names' : List ℕ) (d : ℕ) (T : PairStack) → ((e : ℕ) → e < d → get_or stack' e [] ≡ get_or stack e []) →
-    ((e : ℕ) → e < d → get_or names' e 0 ≡ get_or names e 0) → Saved stack names d T → Saved stack' names' d T
-saved_same stack stack' names names' zero [] f h x = tt
-saved_same stack stack' names names' zero (y ∷ T) f h x = x
-saved_same stack stack' names names' (suc d) [] f h x = x
-saved_same stack stack' names names' (suc d) (y ∷ T) f h x = (
-  subst (λ (b : List ℕ). Encodes b y.0) (sym (f d (omega arith))) x.0,
-  h d (omega arith) ∙ x.1,
-  saved_same stack stack' names names' d T (λ e l. f e (omega arith)) (λ e l. h e (omega arith)) x.2,
+-- the stack goes by the open steps alone
+saved_same : (opened opened' : List Opened) (d : ℕ) (T : PairStack) → ((e : ℕ) → e < d → get_or opened' e nothing ≡ get_or opened e nothing) → Saved opened d T → Saved opened' d T
+saved_same opened opened' zero [] f x = tt
+saved_same opened opened' zero (y ∷ T) f x = x
+saved_same opened opened' (suc d) [] f x = x
+saved_same opened opened' (suc d) (y ∷ T) f x = (
+  subst (λ (o : Opened). Encodes o.words y.0) (sym (f d (omega arith))) x.0,
+  ap (λ (o : Opened). o.name) (f d (omega arith)) ∙ x.1,
+  saved_same opened opened' d T (λ e l. f e (omega arith)) x.2,
 )
 
-pushed : (stack : List (List ℕ)) (names rows : List ℕ) (d : ℕ) (S : PairState) (a : OpenName) (T : PairStack) → d < length stack → d < length names →
-    Encodes rows S → Saved stack names d T → Saved (set stack d rows) (set names d a.0) (suc d) ((S, a) ∷ T)
-pushed stack names rows d S a T more more' x y = (
-  subst (λ (b : List ℕ). Encodes b S) (sym (get_or-set_same stack d rows [] more)) x,
-  get_or-set_same names d a.0 0 more',
-  saved_same stack (set stack d rows) names (set names d a.0) d T (λ e l. get_or-set_other stack d e rows [] (omega arith))
-      (λ e l. get_or-set_other names d e a.0 0 (omega arith)) y,
-)
+pub pushed : (before after : Stack) (a : OpenName) (words : List ℕ) → before.depth < 128 → after.opened ≡ set before.opened before.depth (record { name = a; words = words }) → after.depth ≡ before.depth + 1 →
+    Pushed a words before after
+pushed before after a words more e f = record {
+  holds = λ S T x y. rw (f, add-one) (
+    subst (λ (o : Opened). Encodes o.words S) (sym top) x,
+    ap (λ (o : Opened). o.name) top,
+    saved_same before.opened after.opened before.depth T (λ k l. rw e (get_or-set_other before.opened before.depth k (record { name = a; words = words }) nothing (omega arith))) y,
+  );
+  depth = f;
+}
+  where
+    top : get_or after.opened before.depth nothing ≡ record { name = a; words = words }
+    top = rw e (get_or-set_same before.opened before.depth _ nothing (omega (arith, before.bounded.0)))
+
+-- the place behind the open steps is written twice: the name first, then the words
+pub written : (opened : List Opened) (d : ℕ) (a : OpenName) (words words' : List ℕ) → d < length opened →
+    set (set opened d (record { name = a; words = words' })) d (record { name = (get_or (set opened d (record { name = a; words = words' })) d nothing).name; words = words }) ≡ set opened d (record { name = a; words = words })
+written opened d a words words' l = rw (get_or-set_same opened d (record { name = a; words = words' }) nothing l) (set-set opened d _ _)
 
 -- ── one step ──
 
@@ -50,57 +59,40 @@ pub room : (t : Token) (a : OpenName) (d : ℕ) → t ≡ Token.Open a → open_
 room t a d e h = let l : open_after (Token.Open a) d ≤ 128 = rw e at h in omega arith
 
 -- over each kind of token
-module _ (table : List ℕ) (head : Head) (d : ℕ) (rows : List ℕ) (stack : List (List ℕ)) (names : List ℕ) (long : length stack ≡ 128) (long' : length names ≡ 128) where
+module _ (table : Table) (head : Head) (words : List ℕ) (stack : Stack) where
   abbrev g : Grammar
   g = wide_grammar table head
 
-  pub mark-step : (c : MarkName) (rows' : List ℕ) → ((S : PairState) → Encodes rows S → Encodes rows' (over_next g (Token.Mark c) S)) →
-      StepHolds table head (Token.Mark c) d rows stack names d rows' stack names
-  mark-step c rows' f = record { holds = λ x h. record { state = f x.0 h.state; saved = h.saved }; steps_open = refl; stack_size = long; names-size = long' }
+  pub open_step : (a : OpenName) (words' : List ℕ) (stack' : Stack) → Pushed a words stack stack' → ((S : PairState) → Encodes words S → Encodes words' (over_open g a S)) →
+      StepHolds table head (Token.Open a) words stack words' stack'
+  open_step a words' stack' p f = record { holds = λ x h. record { state = f x.0 h.state; saved = p.holds x.0 x.1 h.state h.saved }; steps_open = p.depth }
 
-  pub open_step : (a : OpenName) (rows' : List ℕ) → d < 128 → ((S : PairState) → Encodes rows S → Encodes rows' (over_open g a S)) →
-      StepHolds table head (Token.Open a) d rows stack names (d + 1) rows' (set stack d rows) (set names d a.0)
-  open_step a rows' more f = record {
-    holds = λ x h. record {
-      state = f x.0 h.state;
-      saved = rw (add-one d) (pushed stack names rows d x.0 a x.1 (omega arith) (omega arith) h.state h.saved);
-    };
-    steps_open = refl;
-    stack_size = length-set stack d rows ∙ long;
-    names-size = length-set names d a.0 ∙ long';
-  }
-
-  -- the words after the close of step e
+  -- the words after the close of the step at number e
   abbrev Back : CloseName → ℕ → List ℕ → Type 0
-  Back b e rows' = (S S₁ : PairState) → Encodes rows S → Encodes (get_or stack e []) S₁ → Encodes rows' (over_return g b S S₁ (record { 0 = get_or names e 0 }))
+  Back b e words' =
+      (S S₁ : PairState) → Encodes words S → Encodes (get_or stack.opened e nothing).words S₁ → Encodes words' (over_return g b S S₁ (get_or stack.opened e nothing).name)
 
-  pub close_step : (b : CloseName) (rows' : List ℕ) → d ≢ 0 → Back b (d - 1) rows' → StepHolds table head (Token.Close b) d rows stack names (d - 1) rows' stack names
-  close_step b rows' more f =
-      record { holds = λ x h. go d more f x.0 x.1 h.state h.saved; steps_open = refl; stack_size = long; names-size = long' }
+  pub close_step : (b : CloseName) (words' : List ℕ) (stack' : Stack) → 0 < stack.depth → stack'.opened ≡ stack.opened → stack'.depth ≡ stack.depth - 1 → Back b (stack.depth - 1) words' →
+      StepHolds table head (Token.Close b) words stack words' stack'
+  close_step b words' stack' more e f back =
+      record { holds = λ x h. let r = go stack.depth more back x.0 x.1 h.state h.saved in record { state = r.0; saved = rw (e, f) r.1 }; steps_open = f }
     where
-      go : (d : ℕ) → d ≢ 0 → Back b (d - 1) rows' → (S : PairState) (T : PairStack) → Encodes rows S → Saved stack names d T → Holds (d - 1) rows' stack names (closed g b S T)
-      go zero more f S T x y = absurd (more refl)
+      go : (d : ℕ) → 0 < d → Back b (d - 1) words' → (S : PairState) (T : PairStack) → Encodes words S → Saved stack.opened d T →
+          Encodes words' (closed g b S T).0 × Saved stack.opened (d - 1) (closed g b S T).1
+      go zero more f S T x y = absurd (omega arith)
       go (suc d) more f S [] x y = absurd y
       go (suc d) more f S (p ∷ T) x y =
           let e : suc d - 1 ≡ d = omega arith in
-          let a : record { 0 = get_or names (suc d - 1) 0 } ≡ p.1 = name_open (ap (λ (k : ℕ). get_or names k 0) e ∙ y.1) in
-          record {
-            state = subst (λ (o : OpenName). Encodes rows' (over_return g b S p.0 o)) a
-                (f S p.0 x (subst (λ (k : ℕ). Encodes (get_or stack k []) p.0) (sym e) y.0));
-            saved = subst (λ (k : ℕ). Saved stack names k T) (sym e) y.2;
-          }
+          let at = rw e at f in (
+            subst (λ (o : OpenName). Encodes words' (over_return g b S p.0 o)) y.1 (at S p.0 x y.0),
+            rw e y.2,
+          )
 
   -- with no open before it
-  pub close_none : (b : CloseName) (rows' : List ℕ) → d ≡ 0 → ((S : PairState) → Encodes rows S → Encodes rows' (over_next g (Token.Close b) S)) →
-      StepHolds table head (Token.Close b) d rows stack names 0 rows' stack names
-  close_none b rows' none f =
-      record { holds = λ x h. go x.0 x.1 h.state (subst (λ (k : ℕ). Saved stack names k x.1) none h.saved); steps_open = rw none; stack_size = long; names-size = long' }
+  pub close_none : (b : CloseName) (words' : List ℕ) → stack.depth ≡ 0 → ((S : PairState) → Encodes words S → Encodes words' (over_next g (Token.Close b) S)) →
+      StepHolds table head (Token.Close b) words stack words' stack
+  close_none b words' none f = record { holds = λ x h. go x.0 x.1 h.state (subst (λ (k : ℕ). Saved stack.opened k x.1) none h.saved); steps_open = rw none }
     where
-      go : (S : PairState) (T : PairStack) → Encodes rows S → Saved stack names 0 T → Holds 0 rows' stack names (closed g b S T)
-      go S [] x y = record { state = f S x; saved = tt }
+      go : (S : PairState) (T : PairStack) → Encodes words S → Saved stack.opened 0 T → Holds words' stack (closed g b S T)
+      go S [] x y = record { state = f S x; saved = rw none tt }
       go S (p ∷ T) x y = absurd y
-
--- after a token the other array has the state
-pub other : (first : Bool) (a b : List ℕ) → cond first b a ≡ cond (not first) a b
-other true a b = refl
-other false a b = refl

@@ -6,7 +6,6 @@ use native.Mathlib.Omega.{arith}
 use mathlib.Core.Path.{◌≡◌, refl, sym, ◌∙◌, ap}
 use mathlib.Core.Logic.{◌⊎◌, inl, inr, ⊎_elim, ◌≢◌}
 use mathlib.Core.Bool.{Bool, true, false, cond, ◌&&◌, ◌||◌, or-true, or-false, false≢true}
-use mathlib.Core.List.{List}
 use native.Mathlib.Decide.{dec_lt}
 use borrow.Author.Tests.{eqb-true, ltb-true, ltb-false, lt-ltb, le-ltb, le-leb, lt-leb, leb-true, ne_eqb}
 use lib.Dec.{eqb, ltb, leb}
@@ -18,25 +17,27 @@ use Rattle.vpg.specs.believed.Grammar.{left}
 use Rattle.vpg.specs.Tests.{any_close}
 use Rattle.level_theory.proofs.Alive.{some-lefts}
 use Rattle.tables.specs.declared.Head.{Head}
+use Rattle.tables.specs.declared.Table.{Table}
 use Rattle.tables.specs.Table.{rule_in, rules_in}
 use Rattle.tables.proofs.Tables.{rules_at}
 use Rattle.tables.specs.Ready.{Ready}
 use Rattle.rule_index.specs.Classes.{class_at, class_of}
-use Rattle.rule_index.specs.Index.{FirstEmpty, Indexed, end_in, ends_in, low_ends_in}
+use Rattle.rule_index.specs.Index.{FirstEmpty, FirstFrom, Indexed, end_in, ends_in, low_ends_in}
+use Rattle.rule_index.proofs.Chains.{passed_below}
 use Rattle.rule_index.proofs.Classes.{Ends, stands_class, low_class}
 use Rattle.history_file.specs.believed.HistoryFile.{token_with}
 use Rattle.contexts.specs.declared.Context.{Context}
-use Rattle.contexts.specs.Context.{token_here, low_here, may_end, inside_here, after_close, applies_to, base_of, with_left, level_in}
+use Rattle.contexts.specs.Context.{code, token_here, low_here, may_end, inside_here, after_close, applies_to, base_of, with_left, level_in}
 use Rattle.contexts.proofs.Contexts.{with-bit, level-bit}
 
 -- every kind but those of marks and opens is that of closes
-pub close_kind : (p : Context) → 2 ≤ p.kind → any_close (token_here p) ≡ true
+pub close_kind : (p : Context) → 2 ≤ code p.kind → any_close (token_here p) ≡ true
 unfolding token_with
-close_kind p h = rw (ne_eqb p.kind 0 (λ e. omega arith), ne_eqb p.kind 1 (λ e. omega arith))
+close_kind p h = rw (ne_eqb (code p.kind) 0 (λ e. omega arith), ne_eqb (code p.kind) 1 (λ e. omega arith))
 
-close_only : (p : Context) → any_close (token_here p) ≡ true → 2 ≤ p.kind
+close_only : (p : Context) → any_close (token_here p) ≡ true → 2 ≤ code p.kind
 unfolding token_with
-close_only p e = go p.kind e
+close_only p e = go (code p.kind) e
   where
     go : (k : ℕ) → any_close (token_with k p.name) ≡ true → 2 ≤ k
     go zero e = absurd (false≢true e)
@@ -57,12 +58,12 @@ FitsHere W p R L = eqb (left R) L && applies_to W R p
 pub ends-only : (W : ℕ) (p : Context) (R : Rule) (L : ℕ) → may_end W p L ≡ true → FitsHere W p R L ≡ true → R ≡ Rule.Empty L
 ends-only W p R L m e =
     let s = eqb-true (left R) L (and_left _ _ e) in
-    let w = and_right (leb 2 p.kind) (low_here W p L) m in
-    let o = close_kind p (leb-true 2 p.kind (and_left _ _ m)) in
+    let w = and_right (leb 2 (code p.kind)) (low_here W p L) m in
+    let o = close_kind p (leb-true 2 (code p.kind) (and_left _ _ m)) in
     low_class (low_here W p (left R)) (inside_here p) (after_close p) (token_here p) R (ap (low_here W p) s ∙ w) o (and_right (eqb (left R) L) (applies_to W R p) e) ∙ ap Rule.Empty s
 
 pub ends_stand : (W : ℕ) (p : Context) (R : Rule) (L : ℕ) → may_end W p L ≡ true → R ≡ Rule.Empty L → FitsHere W p R L ≡ true
-ends_stand W p R L m e = rw e (both (eqb_refl L) (both (and_right (leb 2 p.kind) (low_here W p L) m) (close_kind p (leb-true 2 p.kind (and_left _ _ m)))))
+ends_stand W p R L m e = rw e (both (eqb_refl L) (both (and_right (leb 2 (code p.kind)) (low_here W p L) m) (close_kind p (leb-true 2 (code p.kind) (and_left _ _ m)))))
 
 -- where it can't, a rule of another class doesn't fit
 pub other_class : (W : ℕ) (p : Context) (R : Rule) (L : ℕ) → may_end W p L ≡ false → class_of R ≢ class_at (token_here p) → FitsHere W p R L ≡ false
@@ -72,15 +73,15 @@ other_class W p R L m d = go (FitsHere W p R L) refl
     go false e = refl
     go true e =
         let s = eqb-true (left R) L (and_left _ _ e) in
-        ⊎_elim (λ k. absurd (d k.class)) (λ k. absurd (false≢true (sym m ∙ both (le-leb 2 p.kind (close_only p k.closes)) (sym (ap (low_here W p) s) ∙ k.well))))
+        ⊎_elim (λ k. absurd (d k.class)) (λ k. absurd (false≢true (sym m ∙ both (le-leb 2 (code p.kind) (close_only p k.closes)) (sym (ap (low_here W p) s) ∙ k.well))))
         (stands_class (low_here W p (left R)) (inside_here p) (after_close p) (token_here p) R (and_right (eqb (left R) L) (applies_to W R p) e))
 
 -- at the end
-pub end_ends : (W : ℕ) (p : Context) → 4 ≤ p.kind → (L : ℕ) → may_end W p L ≡ true
-end_ends W p h L = both (le-leb 2 p.kind (omega arith)) (rw (le-leb 4 p.kind h))
+pub end_ends : (W : ℕ) (p : Context) → 4 ≤ code p.kind → (L : ℕ) → may_end W p L ≡ true
+end_ends W p h L = both (le-leb 2 (code p.kind) (omega arith)) (rw (le-leb 4 (code p.kind) h))
 
 -- no rule of a ready table is for a nonterminal from 32 on
-pub none_above : {t : List ℕ} {head : Head} → Ready t head → (L : ℕ) → 32 ≤ L → FirstEmpty t head.rules L head.rules
+pub none_above : {t : Table} {head : Head} → Ready t head → (L : ℕ) → 32 ≤ L → FirstEmpty t head.rules L head.rules
 none_above {t} {head} x L h = record {
   most = omega arith;
   found = λ l. absurd (omega arith);
@@ -89,7 +90,7 @@ none_above {t} {head} x L h = record {
 
 -- ── the level at the end ──
 
-module _ (W : ℕ) (t : List ℕ) (head : Head) (p : Context) (close : 4 ≤ p.kind) where
+module _ (W : ℕ) (t : Table) (head : Head) (p : Context) (close : 4 ≤ code p.kind) where
   -- rule q is for L and can stand here
   abbrev Fits : ℕ → ℕ → Bool
   Fits q L = eqb (left (rule_in t q)) L && applies_to W (rule_in t q) p
@@ -125,7 +126,7 @@ module _ (W : ℕ) (t : List ℕ) (head : Head) (p : Context) (close : 4 ≤ p.k
   level_empty L e f (suc n) h =
       with-bit (applies_to W (rule_in t n) p) (level_in W t p n) (left (rule_in t n)) L (ltb e n) (level_empty L e f n (omega arith)) ∙ one_more L e f n h
 
-module _ (W : ℕ) (t : List ℕ) (head : Head) (p : Context) (x : Indexed t head) (h : 4 ≤ p.kind) where
+module _ (W : ℕ) (t : Table) (head : Head) (p : Context) (x : Indexed t head) (h : 4 ≤ code p.kind) where
   abbrev Level : ℕ
   Level = level_in W t p head.rules
 
@@ -142,10 +143,10 @@ module _ (W : ℕ) (t : List ℕ) (head : Head) (p : Context) (x : Indexed t hea
 -- ── the level at a token ──
 
 -- a rule that can stand is in its level
-pub level-has : (W : ℕ) (t : List ℕ) (p : Context) (n q : ℕ) → q < n → applies_to W (rule_in t q) p ≡ true → bit (level_in W t p n) (left (rule_in t q)) ≡ true
+pub level-has : (W : ℕ) (t : Table) (p : Context) (n q : ℕ) → q < n → applies_to W (rule_in t q) p ≡ true → bit (level_in W t p n) (left (rule_in t q)) ≡ true
 level-has W t p n q l e = level-bit W t p n (left (rule_in t q)) ∙ some-lefts (λ R. applies_to W R p) (rules_in t n) (left (rule_in t q)) q (rule_in t q) (rules_at t n q l) refl e
 
-module _ (t : List ℕ) (head : Head) (p : Context) (x : Indexed t head) (h : p.kind < 4) where
+module _ (t : Table) (head : Head) (p : Context) (x : Indexed t head) (h : code p.kind < 4) where
   abbrev W : ℕ
   W = head.well
 
@@ -154,13 +155,13 @@ module _ (t : List ℕ) (head : Head) (p : Context) (x : Indexed t head) (h : p.
   Sofar L n = bit (base_of t p) L || bit (level_in W t p n) L
 
   low_is : (L : ℕ) → low_here W p L ≡ ltb L head.well
-  low_is L = rw (lt-leb 4 p.kind h)
+  low_is L = rw (lt-leb 4 (code p.kind) h)
 
   -- at a close: the first empty rule of a well-matched nonterminal
-  base_has : (q L : ℕ) → q < head.rules → 2 ≤ p.kind → L < head.well → rule_in t q ≡ Rule.Empty L → bit (base_of t p) L ≡ true
+  base_has : (q L : ℕ) → q < head.rules → 2 ≤ code p.kind → L < head.well → rule_in t q ≡ Rule.Empty L → bit (base_of t p) L ≡ true
   base_has q L l k w e =
       let f = x.ends L (omega (arith, w, x.ready.well_small)) in
-      rw (le-leb 2 p.kind k) (x.low L ∙ rw (lt-ltb L head.well w) (first (dec_lt (end_in t L) head.rules) f))
+      rw (le-leb 2 (code p.kind) k) (x.low L ∙ rw (lt-ltb L head.well w) (first (dec_lt (end_in t L) head.rules) f))
     where
       first : Dec (end_in t L < head.rules) → FirstEmpty t head.rules L (end_in t L) → ltb (end_in t L) head.rules ≡ true
       first (yes m) f = lt-ltb _ _ m
@@ -181,7 +182,7 @@ module _ (t : List ℕ) (head : Head) (p : Context) (x : Indexed t head) (h : p.
           ending : Ends (low_here W p (left R)) (inside_here p) (after_close p) (token_here p) R → (bit (base_of t p) L || bit (add_bit (level_in W t p q) (left R)) L) ≡ Sofar L q
           ending k = rw (bit-add (level_in W t p q) (left R) L) (at (eqb L (left R)) refl)
             where
-              two : 2 ≤ p.kind
+              two : 2 ≤ code p.kind
               two = close_only p k.closes
 
               at : (b : Bool) → eqb L (left R) ≡ b → (bit (base_of t p) L || (bit (level_in W t p q) L || b)) ≡ Sofar L q
@@ -190,12 +191,12 @@ module _ (t : List ℕ) (head : Head) (p : Context) (x : Indexed t head) (h : p.
 
   -- what is there from the start is there in the end
   base_in : (L : ℕ) → bit (base_of t p) L ≡ true → bit (level_in W t p head.rules) L ≡ true
-  base_in L e = go (leb 2 p.kind) refl e
+  base_in L e = go (leb 2 (code p.kind)) refl e
     where
-      go : (b : Bool) → leb 2 p.kind ≡ b → bit (cond b (low_ends_in t) 0) L ≡ true → bit (level_in W t p head.rules) L ≡ true
+      go : (b : Bool) → leb 2 (code p.kind) ≡ b → bit (cond b (low_ends_in t) 0) L ≡ true → bit (level_in W t p head.rules) L ≡ true
       go false k e = absurd (false≢true (sym (bit-zero L) ∙ e))
       go true k e =
-          let two = leb-true 2 p.kind k in
+          let two = leb-true 2 (code p.kind) k in
           let m = sym (x.low L) ∙ e in
           let w = ltb-true L head.well (and_left (ltb L head.well) _ m) in
           let l = ltb-true (end_in t L) head.rules (and_right (ltb L head.well) _ m) in
@@ -210,6 +211,10 @@ module _ (t : List ℕ) (head : Head) (p : Context) (x : Indexed t head) (h : p.
       go : (L : ℕ) (b : Bool) → bit (base_of t p) L ≡ b → (b || bit (level_in W t p head.rules) L) ≡ bit (level_in W t p head.rules) L
       go L true i = sym (base_in L i)
       go L false i = refl
+
+  -- so up to the first rule of the class from number k on nothing is added
+  pub sofar_over : (set k n : ℕ) → FirstFrom t head.rules (class_at (token_here p)) k n → ((L : ℕ) → bit set L ≡ Sofar L k) → (L : ℕ) → bit set L ≡ Sofar L n
+  sofar_over set k n f e L = e L ∙ sym (passed_below (Sofar L) t head.rules (class_at (token_here p)) (sofar_apart L) f)
 
   -- at the start, before the first rule of the class
   pub sofar_start : (set L : ℕ) → set ≡ base_of t p → bit set L ≡ Sofar L 0

@@ -7,7 +7,6 @@ use native.Mathlib.Decide.{dec_lt}
 use mathlib.Core.Path.{◌≡◌, refl, sym, ◌∙◌, ap}
 use mathlib.Core.Bool.{Bool, true, false, cond, not, ◌&&◌, ◌||◌, and-true, and-false, false≢true}
 use borrow.Author.Tests.{ne_eqb, eq-eqb, eqb-true, eqb-false, le-leb, lt-leb, le-ltb, leb-true, leb-false}
-use mathlib.Core.List.{List}
 use lib.Dec.{eqb, ltb, leb}
 use Rattle.vpg.specs.declared.OpenName.{OpenName}
 use Rattle.vpg.specs.declared.CloseName.{CloseName}
@@ -19,6 +18,7 @@ use Rattle.level_theory.specs.Masks.{alone}
 use Rattle.level_theory.proofs.Alive.{alone_high}
 use Rattle.bits.specs.Bit.{bit}
 use Rattle.tables.specs.declared.Six.{Six}
+use Rattle.tables.specs.declared.Table.{Table}
 use Rattle.vpg.specs.Forms.{name_of}
 use Rattle.tables.specs.Table.{token_by, six_in, rule_in}
 use Rattle.tables.proofs.Tables.{rule_empty, rule_next, rule_step}
@@ -27,7 +27,7 @@ use Rattle.rule_index.specs.Goals.{goal, inside_goal, after_goal}
 use Rattle.rule_index.specs.Index.{inside_in, after_in}
 use Rattle.history_file.specs.believed.HistoryFile.{token_with}
 use Rattle.contexts.specs.declared.Context.{Context}
-use Rattle.contexts.specs.Context.{token_here, low_here, may_end, KindOf, AtKind, kind_fits, first_name, closes_by, takes_by, applies_to}
+use Rattle.contexts.specs.Context.{code, token_here, low_here, may_end, KindOf, AtKind, kind_fits, first_name, closes_by, takes_by, applies_to}
 
 -- ── the token of a kind ──
 
@@ -71,7 +71,7 @@ class_kind R k name h e = go R (e ∙ sym (class_here k name)) (dec_lt k 2)
 
 module _ (W : ℕ) (p : Context) where
   abbrev K : ℕ
-  K = p.kind
+  K = code p.kind
 
   -- before the end the well-matched nonterminals are those below W
   low_is : (L : ℕ) → K < 4 → low_here W p L ≡ ltb L W
@@ -157,14 +157,14 @@ by_name form name = go (eqb form 3) (eqb form 4)
     go false true = refl
     go false false = refl
 
-module _ (W : ℕ) (p : Context) (t : List ℕ) (r : ℕ) (v : Six) (is : v ≡ six_in t (r * 6)) where
+module _ (W : ℕ) (p : Context) (t : Table) (r : ℕ) (v : Six) (is : v ≡ six_in t r) where
   abbrev R : Rule
   R = rule_in t r
 
-  not_empty : AtKind R p.kind → v.0 ≡ 0 → ⊥
+  not_empty : AtKind R (code p.kind) → v.0 ≡ 0 → ⊥
   not_empty k e = rw (rule_empty t r v is e) at k
 
-  module _ (form : InForm W R) (k : AtKind R p.kind) (goals : (inside_in t r ≡ inside_goal W R) × (after_in t r ≡ after_goal W R)) where
+  module _ (form : InForm W R) (k : AtKind R (code p.kind)) (goals : (inside_in t r ≡ inside_goal W R) × (after_in t r ≡ after_goal W R)) where
     named : (b : Bool) → eqb v.0 2 ≡ b → v.2 ≡ first_name R
     named true e = rw (rule_step t r v is (eqb-true v.0 2 e))
     named false e = rw (rule_next t r v is (not_empty k) (eqb-false v.0 2 e)) (sym (by_name v.0 v.2))
@@ -198,27 +198,27 @@ module _ (W : ℕ) (p : Context) (t : List ℕ) (r : ℕ) (v : Six) (is : v ≡ 
 
   pub empty_applies : v.0 ≡ 0 → may_end W p v.1 ≡ applies_to W R p
   unfolding token_with
-  empty_applies e = rw (rule_empty t r v is e) (go (leb 2 p.kind) refl)
+  empty_applies e = rw (rule_empty t r v is e) (go (leb 2 (code p.kind)) refl)
     where
-      go : (b : Bool) → leb 2 p.kind ≡ b → (b && low_here W p v.1) ≡ (low_here W p v.1 && any_close (token_here p))
-      go true e = rw (close_with p.kind p.name (leb-true 2 p.kind e)) (sym (and-true (low_here W p v.1)))
-      go false e = rw (before p.kind (leb-false 2 p.kind e)) (sym (and-false (low_here W p v.1)))
+      go : (b : Bool) → leb 2 (code p.kind) ≡ b → (b && low_here W p v.1) ≡ (low_here W p v.1 && any_close (token_here p))
+      go true e = rw (close_with (code p.kind) p.name (leb-true 2 (code p.kind) e)) (sym (and-true (low_here W p v.1)))
+      go false e = rw (before (code p.kind) (leb-false 2 (code p.kind) e)) (sym (and-false (low_here W p v.1)))
         where
           before : (k : ℕ) → k < 2 → any_close (token_with k p.name) ≡ false
           before zero h = refl
           before (suc zero) h = refl
           before (suc (suc k)) h = absurd (omega arith)
 
-  pub form_at : (v.0 ≡ 0 → ⊥) → kind_fits v.0 p.kind ≡ true → AtKind R p.kind
+  pub form_at : (v.0 ≡ 0 → ⊥) → kind_fits v.0 (code p.kind) ≡ true → AtKind R (code p.kind)
   form_at d q = go (eqb v.0 2) refl
     where
-      go : (b : Bool) → eqb v.0 2 ≡ b → AtKind R p.kind
-      go true e = let z = eqb-true v.0 2 e in rw (rule_step t r v is z) (eqb-true p.kind 1 (rw z at q))
+      go : (b : Bool) → eqb v.0 2 ≡ b → AtKind R (code p.kind)
+      go true e = let z = eqb-true v.0 2 e in rw (rule_step t r v is z) (eqb-true (code p.kind) 1 (rw z at q))
       go false e = let z = eqb-false v.0 2 e in rw (rule_next t r v is d z) (form_kind W p v.0 v.2 z q)
 
-  pub form_apart : (v.0 ≡ 0 → ⊥) → kind_fits v.0 p.kind ≡ false → false ≡ applies_to W R p
+  pub form_apart : (v.0 ≡ 0 → ⊥) → kind_fits v.0 (code p.kind) ≡ false → false ≡ applies_to W R p
   form_apart d q = go (eqb v.0 2) refl
     where
       go : (b : Bool) → eqb v.0 2 ≡ b → false ≡ applies_to W R p
-      go true e = let z = eqb-true v.0 2 e in rw (rule_step t r v is z) (sym (other_open W p v.1 (record { 0 = v.2 }) v.3 (record { 0 = v.4 }) v.5 (eqb-false p.kind 1 (rw z at q))))
+      go true e = let z = eqb-true v.0 2 e in rw (rule_step t r v is z) (sym (other_open W p v.1 (record { 0 = v.2 }) v.3 (record { 0 = v.4 }) v.5 (eqb-false (code p.kind) 1 (rw z at q))))
       go false e = let z = eqb-false v.0 2 e in rw (rule_next t r v is d z) (sym (other_kind W p v.1 (token_by v.0 v.2) v.3 (λ k. false≢true (sym q ∙ kind_form W p v.0 v.2 z k))))

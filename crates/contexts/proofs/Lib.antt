@@ -1,3 +1,4 @@
 pub mod Contexts
 pub mod Ends
 pub mod Forms
+pub mod NumberedKinds

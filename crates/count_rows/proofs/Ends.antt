@@ -5,7 +5,6 @@ use native.Mathlib.Omega.{arith}
 use mathlib.Core.Path.{◌≡◌, refl, sym, ◌∙◌, ap}
 use mathlib.Core.Logic.{◌⊎◌, inl, inr, ◌≢◌}
 use mathlib.Core.Bool.{Bool, true, false, ◌&&◌, and-false, false≢true}
-use mathlib.Core.List.{List}
 use borrow.Author.Tests.{eq-eqb, ne_eqb, ltb-true, ltb-false, lt-ltb, le-ltb, le-leb, lt-leb}
 use lib.Dec.{eqb, ltb, leb}
 use Rattle.laws.proofs.Bools.{eqb_refl, and_right, both}
@@ -13,14 +12,16 @@ use Rattle.laws.proofs.Lists.{trichotomy}
 use Rattle.vpg.specs.declared.Rule.{Rule}
 use Rattle.vpg.specs.believed.Grammar.{left}
 use Rattle.tables.specs.declared.Head.{Head}
+use Rattle.tables.specs.declared.Table.{Table}
 use Rattle.tables.specs.Table.{rule_in}
 use Rattle.rule_index.specs.Classes.{class_at}
 use Rattle.rule_index.specs.Index.{FirstFrom, FirstEmpty, Indexed, end_in}
 use Rattle.contexts.specs.declared.Context.{Context}
-use Rattle.contexts.specs.Context.{token_here, low_here, may_end, applies_to}
+use Rattle.contexts.specs.Context.{code, token_here, low_here, may_end, applies_to}
 use Rattle.contexts.proofs.Ends.{ends-only, ends_stand, other_class, end_ends}
 use Rattle.count_theory.specs.Counts.{Counts, given}
 use Rattle.count_theory.proofs.Places.{below_none, only_one}
+use Rattle.count_rows.specs.declared.rows.Rows.{Rows}
 use Rattle.count_rows.specs.Rows.{capped_parts, row_in, AddedIf, EndsOnly, InRow}
 use Rattle.count_rows.proofs.Row.{row_added, row_same}
 
@@ -29,7 +30,7 @@ dead : (a b o : Bool) (n : ℕ) → (a && b) ≡ false → given (a && (o && b))
 dead true b o n e = rw (e, and-false o)
 dead false b o n e = refl
 
-module _ (t : List ℕ) (head : Head) (context : Context) (x : Indexed t head) {low : ℕ} (o : EndsOnly t head context low) (ok : ℕ → Bool) (inside after : Counts) where
+module _ (t : Table) (head : Head) (context : Context) (x : Indexed t head) {low : ℕ} (o : EndsOnly t head context low) (ok : ℕ → Bool) (inside after : Counts) where
   abbrev Fits : ℕ → ℕ → Bool
   Fits q M = eqb (left (rule_in t q)) M && applies_to head.well (rule_in t q) context
 
@@ -90,10 +91,10 @@ module _ (t : List ℕ) (head : Head) (context : Context) (x : Indexed t head) {
 -- ── nonterminal by nonterminal ──
 
 -- the empty rules of the nonterminals below l
-abbrev pub ends_below : List ℕ → ℕ → (ℕ → Bool) → ℕ → Counts
+abbrev pub ends_below : Table → ℕ → (ℕ → Bool) → ℕ → Counts
 ends_below t rules ok l M = given (ltb M l && (ltb (end_in t M) rules && ok (end_in t M))) 1
 
-pub ends_next : (t : List ℕ) (rules : ℕ) (ok : ℕ → Bool) (l : ℕ) {rows rows' rows'' : List ℕ} {p : ℕ} → l < 32 → InRow rows p (ends_below t rules ok l) rows' →
+pub ends_next : (t : Table) (rules : ℕ) (ok : ℕ → Bool) (l : ℕ) {rows rows' rows'' : Rows} {p : ℕ} → l < 32 → InRow rows p (ends_below t rules ok l) rows' →
     AddedIf (ltb (end_in t l) rules && ok (end_in t l)) rows' p l 1 rows'' → InRow rows p (ends_below t rules ok (suc l)) rows''
 ends_next t rules ok l h x a = row_same (λ M. ends_below t rules ok l M + given (eqb l M && test l) 1) (ends_below t rules ok (suc l)) (λ M k. go M (trichotomy M l)) (row_added (test l) (ends_below t rules ok l) h x a)
   where
@@ -106,32 +107,32 @@ ends_next t rules ok l h x a = row_same (λ M. ends_below t rules ok l M + given
     go M (inr (inr k)) = rw (le-ltb M l (omega arith), le-ltb M (suc l) (omega arith), ne_eqb l M (λ e. omega (arith, e)))
 
 -- all of them
-pub ends-filled : (t : List ℕ) (head : Head) (context : Context) (x : Indexed t head) {low : ℕ} → EndsOnly t head context low → (ok : ℕ → Bool) (inside after : Counts) {rows rows' : List ℕ} {p : ℕ} (l : ℕ) → l ≡ low →
+pub ends-filled : (t : Table) (head : Head) (context : Context) (x : Indexed t head) {low : ℕ} → EndsOnly t head context low → (ok : ℕ → Bool) (inside after : Counts) {rows rows' : Rows} {p : ℕ} (l : ℕ) → l ≡ low →
     InRow rows p (ends_below t head.rules ok l) rows' → InRow rows p (row_in head.well t ok context inside after head.rules) rows'
 ends-filled t head context x o ok inside after l e z =
     row_same (ends_below t head.rules ok l) (row_in head.well t ok context inside after head.rules) (λ M k. rw e (ends-all t head context x o ok inside after M k)) z
 
 -- ── where only empty rules can stand ──
 
-module _ {t : List ℕ} {head : Head} (x : Indexed t head) (p : Context) where
-  pub only_end : 4 ≤ p.kind → EndsOnly t head p 32
+module _ {t : Table} {head : Head} (x : Indexed t head) (p : Context) where
+  pub only_end : 4 ≤ code p.kind → EndsOnly t head p 32
   only_end h = record {
     only = λ q L l f. let e = ends-only head.well p (rule_in t q) L (end_ends head.well p h L) f in (e, let s : left (rule_in t q) ≡ L = ap left e in omega (arith, (x.ready.small q l).0));
     fits = λ q L e b. ends_stand head.well p (rule_in t q) L (end_ends head.well p h L) e;
   }
 
-  pub only_close : p.kind < 4 → 2 ≤ p.kind → {n : ℕ} → FirstFrom t head.rules (class_at (token_here p)) 0 n → head.rules ≤ n → EndsOnly t head p head.well
+  pub only_close : code p.kind < 4 → 2 ≤ code p.kind → {n : ℕ} → FirstFrom t head.rules (class_at (token_here p)) 0 n → head.rules ≤ n → EndsOnly t head p head.well
   only_close near h first none = record { only = ends; fits = stands }
     where
       low_is : (L : ℕ) → low_here head.well p L ≡ ltb L head.well
-      low_is L = rw (lt-leb 4 p.kind near)
+      low_is L = rw (lt-leb 4 (code p.kind) near)
 
       ends : (q L : ℕ) → q < head.rules → (eqb (left (rule_in t q)) L && applies_to head.well (rule_in t q) p) ≡ true → (rule_in t q ≡ Rule.Empty L) × (L < head.well)
       ends q L l f = go (may_end head.well p L) refl
         where
           go : (b : Bool) → may_end head.well p L ≡ b → (rule_in t q ≡ Rule.Empty L) × (L < head.well)
           go false m = absurd (false≢true (sym (other_class head.well p (rule_in t q) L m (first.none q (omega arith) (omega arith))) ∙ f))
-          go true m = (ends-only head.well p (rule_in t q) L m f, ltb-true L head.well (sym (low_is L) ∙ and_right (leb 2 p.kind) (low_here head.well p L) m))
+          go true m = (ends-only head.well p (rule_in t q) L m f, ltb-true L head.well (sym (low_is L) ∙ and_right (leb 2 (code p.kind)) (low_here head.well p L) m))
 
       stands : (q L : ℕ) → rule_in t q ≡ Rule.Empty L → L < head.well → (eqb (left (rule_in t q)) L && applies_to head.well (rule_in t q) p) ≡ true
-      stands q L e b = ends_stand head.well p (rule_in t q) L (both (le-leb 2 p.kind h) (low_is L ∙ lt-ltb L head.well b)) e
+      stands q L e b = ends_stand head.well p (rule_in t q) L (both (le-leb 2 (code p.kind) h) (low_is L ∙ lt-ltb L head.well b)) e

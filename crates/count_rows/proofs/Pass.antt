@@ -25,6 +25,7 @@ use Rattle.level_theory.specs.Pending.{Closes, pending_at, close_of}
 use Rattle.level_theory.specs.Walk.{test_at}
 use Rattle.level_theory.proofs.Pending.{masks-outer, drop-next}
 use Rattle.tables.specs.declared.Head.{Head}
+use Rattle.tables.specs.declared.Table.{Table}
 use Rattle.tables.specs.Table.{rule_in, rules_in}
 use Rattle.tables.specs.Ready.{Below, Ready, rules_of}
 use Rattle.tables.proofs.Tables.{length_rules, rules_at}
@@ -37,7 +38,8 @@ use Rattle.count_theory.specs.Allowed.{Allowed}
 use Rattle.count_theory.specs.Counts.{Counts, given, sum, parts, counts_at, worth}
 use Rattle.count_theory.proofs.Here.{counts_here}
 use Rattle.count_theory.proofs.Kth.{sum-take}
-use Rattle.count_rows.specs.Rows.{Sized, value_at, capped_parts, row_in, InRow, Clear, Counted, Empty}
+use Rattle.count_rows.specs.declared.rows.Rows.{Rows}
+use Rattle.count_rows.specs.Rows.{value_at, capped_parts, row_in, InRow, Clear, Counted, Empty}
 
 -- ── positions ──
 
@@ -48,12 +50,12 @@ closes-behind w p h = ⊎_elim (λ e. rw (pending_end w (suc p) (omega (arith, e
 -- ── sums over a table ──
 
 -- over the rules before r
-pub sum_before : (f : ℕ → Rule → ℕ) (t : List ℕ) (n r : ℕ) → r ≤ n → sum f 0 (take r (rules_in t n)) ≡ sum_below r (λ q. f q (rule_in t q))
+pub sum_before : (f : ℕ → Rule → ℕ) (t : Table) (n r : ℕ) → r ≤ n → sum f 0 (take r (rules_in t n)) ≡ sum_below r (λ q. f q (rule_in t q))
 sum_before f t n zero h = refl
 sum_before f t n (suc r) h = sum-take f 0 (rules_in t n) r (rule_in t r) (rules_at t n r h) ∙ rw (sum_before f t n r (omega arith), zero-add r)
 
 -- over all
-pub sum_rules : (f : ℕ → Rule → ℕ) (t : List ℕ) (n : ℕ) → sum f 0 (rules_in t n) ≡ sum_below n (λ q. f q (rule_in t q))
+pub sum_rules : (f : ℕ → Rule → ℕ) (t : Table) (n : ℕ) → sum f 0 (rules_in t n) ≡ sum_below n (λ q. f q (rule_in t q))
 sum_rules f t n = let h : length (rules_in t n) ≤ n = omega (arith, length_rules t n) in ap (sum f 0) (sym (take_all n (rules_in t n) h)) ∙ sum_before f t n n (omega arith)
 
 -- ── what a rule counts for ──
@@ -107,7 +109,7 @@ given_tests true true false n m h = refl
 cap-both : (a b c d : ℕ) → cap a ≡ cap b → c ≡ cap d → cap (a + c) ≡ cap (b + d)
 cap-both a b c d e f = rw f (omega (arith, e))
 
-module _ (t : List ℕ) (head : Head) (ready : Ready t head) (w : List Token) (mask : List ℕ) (p : ℕ) (context : Context) (stands : Stands head.well w mask p context) (leveled : Leveled head.well (rules_of t head) w mask 0) (ok : Allowed) where
+module _ (t : Table) (head : Head) (ready : Ready t head) (w : List Token) (mask : List ℕ) (p : ℕ) (context : Context) (stands : Stands head.well w mask p context) (leveled : Leveled head.well (rules_of t head) w mask 0) (ok : Allowed) where
   abbrev U : ℕ
   U = head.well
 
@@ -132,7 +134,7 @@ module _ (t : List ℕ) (head : Head) (ready : Ready t head) (w : List Token) (m
   row_counts x y e f M = row_up_to x y e f M head.rules (omega arith) ∙ ap cap (sym (counts_here ok U G w p M ∙ sum_rules (λ r R. given (eqb (left R) M && ok p r) (worth ok U G w p R)) t head.rules))
 
   -- from position p + 1 on to position p
-  pub counted_next : (rows rows' : List ℕ) (j : ℕ) → j ≡ Close → p ≤ length w → Counted ok U G w rows (suc p) →
+  pub counted_next : (rows rows' : Rows) (j : ℕ) → j ≡ Close → p ≤ length w → Counted ok U G w rows (suc p) →
       InRow rows p (row_in head.well t (ok p) context (value_at rows (suc p)) (value_at rows (suc j)) head.rules) rows' → Counted ok U G w rows' p
   counted_next rows rows' j e h old x k M l m s = ⊎_elim (λ q. here (sym q)) (λ q. behind_it q) (eq-or-lt_of_le l)
     where
@@ -154,34 +156,31 @@ module _ (t : List ℕ) (head : Head) (ready : Ready t head) (w : List Token) (m
 -- ── the pass ──
 
 -- position i and those behind it are done
-pub record Passing (ok : Allowed) (W : ℕ) (g : Rules) (w : List Token) (rows : List ℕ) (i : ℕ) : Type 0 where
+pub record Passing (ok : Allowed) (W : ℕ) (g : Rules) (w : List Token) (rows : Rows) (i : ℕ) : Type 0 where
   pub within : i ≤ length w + 1
-  pub sized : Sized rows
   pub clear : Clear rows i
   pub counted : Counted ok W g w rows i
 
-pub passing_start : (ok : Allowed) (W : ℕ) (g : Rules) (ts rows : List ℕ) → length ts ≤ 1024 → Sized rows → Clear rows 1025 → Passing ok W g (tokens_of ts) rows (length ts + 1)
-passing_start ok W g ts rows few s c = record {
+pub passing_start : (ok : Allowed) (W : ℕ) (g : Rules) (ts : List ℕ) (rows : Rows) → length ts ≤ 1024 → Clear rows 1025 → Passing ok W g (tokens_of ts) rows (length ts + 1)
+passing_start ok W g ts rows few c = record {
   within = omega (arith, tokens_length ts);
-  sized = s;
   clear = λ k M l m. c k M (omega arith) m;
   counted = λ k M l m z. absurd (omega (arith, tokens_length ts));
 }
 
-module _ {t : List ℕ} {head : Head} {ts closes mask rows : List ℕ} {i : ℕ} (x : Setting t head ts closes mask) (ok : Allowed) (s : Passing ok head.well (rules_of t head) (tokens_of ts) rows i) (p : ℕ) (is : i ≡ suc p) where
+module _ {t : Table} {head : Head} {ts closes mask : List ℕ} {rows : Rows} {i : ℕ} (x : Setting t head ts closes mask) (ok : Allowed) (s : Passing ok head.well (rules_of t head) (tokens_of ts) rows i) (p : ℕ) (is : i ≡ suc p) where
   here : p ≤ length (tokens_of ts)
   here = omega (arith, s.within)
 
   module _ (context : Context) (stands : Stands head.well (tokens_of ts) mask p context) where
     pub here_empty : Empty context rows
     here_empty = record {
-      sized = s.sized;
       near = rw (stands.position, stands.closing) (closes-behind (tokens_of ts) p here);
       far = omega (arith, stands.closing, close_most (tokens_of ts) (suc p), x.tokens.few, tokens_length ts);
       none = λ M l. rw stands.position (s.clear p M (omega arith) l);
     }
 
-    pub passing_next : (rows' : List ℕ) →
+    pub passing_next : (rows' : Rows) →
         InRow rows context.position (row_in head.well t (ok context.position) context (value_at rows (suc context.position)) (value_at rows (suc context.closing)) head.rules) rows' →
         Passing ok head.well (rules_of t head) (tokens_of ts) rows' p
     unfolding row_in
@@ -189,7 +188,6 @@ module _ {t : List ℕ} {head : Head} {ts closes mask rows : List ℕ} {i : ℕ}
         let r = rw stands.position at filled in
         record {
           within = omega (arith, here);
-          sized = r.sized;
           clear = λ k M l m. r.others k M m (λ z. omega (arith, z)) ∙ s.clear k M (omega arith) m;
           counted = counted_next t head x.indexed.ready (tokens_of ts) mask p context stands x.leveled ok rows rows' context.closing stands.closing here (rw is at s.counted) r;
         }

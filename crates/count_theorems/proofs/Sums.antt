@@ -1,11 +1,9 @@
 -- Where the number of all readings is told exactly, so is that of each rule at each position, and these add up to it.
 use Prim.Native.Nat.{ℕ, ◌<◌, ◌≤◌}
 use native.Mathlib.Omega.{arith}
-use mathlib.Core.Path.{◌≡◌, refl, ◌∙◌, ap}
-use mathlib.Core.Bool.{Bool, true, false}
+use mathlib.Core.Path.{◌≡◌, ◌∙◌, ap}
 use mathlib.Core.List.{List}
-use borrow.Author.Tests.{lt-ltb, le-ltb, ltb-true}
-use lib.Dec.{ltb}
+use borrow.Author.Tests.{lt-ltb, le-ltb}
 use lib.ListN.{length}
 use Rattle.vpg.specs.declared.Token.{Token}
 use Rattle.vpg.specs.believed.Grammar.{Grammar}
@@ -17,7 +15,7 @@ use Rattle.count_theory.specs.believed.CountAt.{count_at, sum_below}
 use Rattle.count_theory.proofs.Places.{counts-add_up, count_most, no_such_rule}
 use Rattle.service.specs.believed.Given.{given}
 use Rattle.service.specs.believed.Opened.{files_in}
-use Rattle.reading_counts.specs.believed.Numbered.{exact, over, told, readings_due, readings_at_due}
+use Rattle.reading_counts.specs.believed.Numbered.{exact, told, readings_due, readings_at_due}
 
 -- what the services tell of a position p where there are m readings
 pub record CountsAt (grammar history : List ℕ) (g : Grammar) (m p : ℕ) : Type 0 where
@@ -27,20 +25,6 @@ pub record CountsAt (grammar history : List ℕ) (g : Grammar) (m p : ℕ) : Typ
   pub sum : sum_below (length g.rules) count ≡ m
   -- and a number that is no rule's has none
   pub others : (r : ℕ) → length g.rules ≤ r → count r ≡ 0
-
--- a count that is told exactly is the count, and is no more than 2^64 - 1
-told_is : (n m : ℕ) → told n ≡ exact m → (n < 18446744073709551616) × (n ≡ m)
-told_is n m e = go (ltb n 18446744073709551616) refl
-  where
-    same : exact n ≡ exact m → n ≡ m
-    same q = cc
-
-    apart : over ≡ exact m → ⊥
-    apart q = let z : ◌≡◌ {A = ℕ} 0 1 = cc in omega arith
-
-    go : (b : Bool) → ltb n 18446744073709551616 ≡ b → (n < 18446744073709551616) × (n ≡ m)
-    go true q = (ltb-true n 18446744073709551616 q, same (rw q at e))
-    go false q = absurd (apart (rw q at e))
 
 pub counts-told : (grammar history : List ℕ) (g : Grammar) (ts : List ℕ) (m p : ℕ) → files_in grammar history ≡ accepted g ts → readings_due grammar history ≡ given (exact m) → p ≤ length ts → CountsAt grammar history g m p
 counts-told grammar history g ts m p passed total h = record {
@@ -59,11 +43,10 @@ counts-told grammar history g ts m p passed total h = record {
     inside : p ≤ length w
     inside = rw tokens_length h
 
-    same : given (told (length l)) ≡ given (exact m) → told (length l) ≡ exact m
-    same q = cc
-
     is : (length l < 18446744073709551616) × (length l ≡ m)
-    is = told_is (length l) m (same (rw passed at total))
+    is =
+        let t : given (told (length l)) ≡ given (exact m) = rw passed at total in
+        grind arith
 
     small : (r : ℕ) → count_at l p r < 18446744073709551616
-    small r = omega (arith, is.0, count_most l p r)
+    small r = grind (arith, count_most l p r)

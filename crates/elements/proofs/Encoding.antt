@@ -1,14 +1,11 @@
 -- The bytes of the first elements, one more at a turn of the loop that encodes them.
-use Prim.Native.Nat.{ℕ, ◌+◌, ◌*◌, ◌/◌, ◌%◌, ◌<◌, ◌≤◌}
+use Prim.Native.Nat.{ℕ, min, ◌+◌, ◌*◌, ◌/◌, ◌%◌, ◌<◌, ◌≤◌}
 use mathlib.Core.Path.{◌≡◌, refl, sym, ap, ◌∙◌}
-use mathlib.Core.Bool.{Bool, true, false}
 use mathlib.Core.List.{List, [], ◌∷◌, ◌++◌, append-nil, map, map-append}
 use native.Mathlib.Omega.{arith}
 use native.Mathlib.Numerals.{add-one}
-use borrow.Author.Tests.{ltb-true, ltb-false, lt-ltb, le-ltb}
-use lib.Dec.{ltb}
-use lib.ListN.{length, get_or, take, drop, length-append, length-drop}
-use lib.Seq.{take-suc, take_all, take_at, drop-append-add, drop-drop, length-take-le}
+use lib.ListN.{length, get_or, take, drop, length-append}
+use lib.Seq.{take-suc, take_all, take_at, drop-append-add, drop-drop}
 use Rattle.numbers.specs.Written.{shortest, written}
 use Rattle.numbers.proofs.Written.{one_byte, two_bytes, three_bytes, shortest_most, written-append}
 use Rattle.elements.specs.Encoded.{writable, encoded}
@@ -17,18 +14,15 @@ use Rattle.elements.specs.Encoded.{writable, encoded}
 
 pub writable_large : (n : ℕ) → 2097151 < n → writable n ≡ 2097151
 unfolding writable
-writable_large n h = rw (lt-ltb 2097151 n h)
+writable_large n h = omega arith
 
 pub writable-same : (n : ℕ) → n ≤ 2097151 → writable n ≡ n
 unfolding writable
-writable-same n h = rw (le-ltb 2097151 n h)
+writable-same n h = omega arith
 
 pub writable_small : (n : ℕ) → writable n < 2097152
-writable_small n = go (ltb 2097151 n) refl
-  where
-    go : (b : Bool) → ltb 2097151 n ≡ b → writable n < 2097152
-    go true e = rw (writable_large n (ltb-true 2097151 n e)) (omega arith)
-    go false e = let h = ltb-false 2097151 n e in rw (writable-same n h) (omega arith)
+unfolding writable
+writable_small n = omega arith
 
 -- a number below 128 is its own byte, one below 128 × 128 has two bytes, a larger one three
 pub one-byte_of : (n : ℕ) → n < 128 → shortest (writable n) ≡ n ∷ []
@@ -38,14 +32,11 @@ pub two_bytes_of : (n : ℕ) → 128 ≤ n → n < 16384 → shortest (writable 
 two_bytes_of n h m = rw (writable-same n (omega arith)) (two_bytes n h m)
 
 pub three_bytes_of : (n : ℕ) → 16384 ≤ n → shortest (writable n) ≡ (writable n % 128 + 128) ∷ (writable n / 128 % 128 + 128) ∷ (writable n / 16384) ∷ []
-three_bytes_of n h = three_bytes (writable n) (go (ltb 2097151 n) refl) ∙ rw (halves (writable n))
-  where
-    go : (b : Bool) → ltb 2097151 n ≡ b → 16384 ≤ writable n
-    go true e = rw (writable_large n (ltb-true 2097151 n e)) (omega arith)
-    go false e = rw (writable-same n (ltb-false 2097151 n e)) h
-
-    halves : (m : ℕ) → m / 128 / 128 ≡ m / 16384
-    halves m = omega arith
+unfolding writable
+three_bytes_of n h =
+    let l : 16384 ≤ min n 2097151 = omega arith in
+    let halves : min n 2097151 / 128 / 128 ≡ min n 2097151 / 16384 = omega arith in
+    three_bytes (min n 2097151) l ∙ rw halves
 
 module _ (es : List ℕ) where
   -- the bytes of the first i elements
@@ -60,32 +51,12 @@ module _ (es : List ℕ) where
       ∙ (ap written (map-append writable (take i es) (get_or es i 0 ∷ []))
       ∙ (written-append (map writable (take i es)) (writable (get_or es i 0) ∷ []) ∙ rw append-nil))
 
-  -- how many elements are encoded
-  pub count_is : (n : ℕ) → n ≡ length (take 1026 es) → (n ≤ 1026) × (n ≤ length es) × (take n es ≡ take 1026 es)
-  count_is n e = go (ltb 1026 (length es)) refl
-    where
-      go : (b : Bool) → ltb 1026 (length es) ≡ b → (n ≤ 1026) × (n ≤ length es) × (take n es ≡ take 1026 es)
-      go true t =
-          let l = ltb-true 1026 (length es) t in
-          let m : n ≡ 1026 = e ∙ length-take-le 1026 es (omega arith) in
-          (omega arith, omega arith, ap (λ k. take k es) m)
-      go false t =
-          let l = ltb-false 1026 (length es) t in
-          let m : n ≡ length es = e ∙ ap length (take_all 1026 es l) in
-          (omega arith, omega arith, take_all n es (omega arith) ∙ sym (take_all 1026 es l))
-
   module _ (file₀ : List ℕ) where
     -- the first i elements are encoded, up to a place
     pub record EncodedTo (file : List ℕ) (at i : ℕ) : Type 0 where
       pub at_is : at ≡ length (bytes_to i)
       pub room : at ≤ 3 * i
       pub file_is : file ≡ bytes_to i ++ drop at file₀
-
-    -- the file keeps its size
-    pub encoding_size : (file : List ℕ) (at i : ℕ) → at ≤ length file₀ → EncodedTo file at i → length file ≡ length file₀
-    encoding_size file at i h q =
-        let n : length file ≡ length (bytes_to i) + length (drop at file₀) = ap length q.file_is ∙ length-append (bytes_to i) (drop at file₀) in
-        omega (arith, n, q.at_is, length-drop at file₀)
 
     pub encoding_starts : EncodedTo file₀ 0 0
     unfolding written
@@ -109,14 +80,12 @@ module _ (es : List ℕ) where
         file_is = rw (before, behind, bytes_next i h);
       }
 
-    pub encoding_ends : (file : List ℕ) (at n i : ℕ) → n ≡ length (take 1026 es) → i ≤ n → n ≤ i → EncodedTo file at i
-        → (at ≡ length (encoded es)) × (file ≡ encoded es ++ drop at file₀)
+    -- with `es` the elements that are looked at, of all that there are
+    pub encoding_ends : (all file : List ℕ) (at i : ℕ) → es ≡ take 1026 all → length es ≤ i → EncodedTo file at i
+        → (at ≡ length (encoded all)) × (file ≡ encoded all ++ drop at file₀)
     unfolding encoded
-    encoding_ends file at n i c below above q =
-        let m = count_is n c in
-        let e : i ≡ n = omega arith in
-        let t : take i es ≡ take 1026 es = ap (λ k. take k es) e ∙ m.2 in
-        let b : bytes_to i ≡ written (map writable (take 1026 es)) = ap (λ l. written (map writable l)) t in
+    encoding_ends all file at i is above q =
+        let b : bytes_to i ≡ written (map writable (take 1026 all)) = ap (λ l. written (map writable l)) (take_all i es above ∙ is) in
         (q.at_is ∙ ap length b, q.file_is ∙ ap (λ l. l ++ drop at file₀) b)
 
     -- the front of what `encode` leaves is the encoding

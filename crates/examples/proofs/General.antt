@@ -7,15 +7,15 @@ use Rattle.examples.specs.General.{GeneralExamples}
 pub general : GeneralExamples
 unfolding runs
 general = record {
-  open_alone = λ p. omega (arith, p);
-  close_alone = λ p. omega (arith, p);
-  on_to_well = λ p. omega (arith, p);
-  step_outside = (omega (arith), λ p. omega (arith, p));
-  not_open_alone = λ f. (f (omega (arith))).0;
-  not_close_alone = λ f. (f (omega (arith))).0;
-  not_on_from_well = λ f. omega (arith, (f (omega (arith))).1);
-  not-behind_well = λ f. omega (arith, f.1 (omega (arith)));
-  not_inside = λ f. omega (arith, f.0);
+  open_alone = λ p. omega arith;
+  close_alone = λ p. omega arith;
+  on_to_well = λ p. omega arith;
+  step_outside = (omega arith, λ p. omega arith);
+  not_open_alone = λ f. grind arith;
+  not_close_alone = λ f. grind arith;
+  not_on_from_well = λ f. grind arith;
+  not-behind_well = λ f. grind arith;
+  not_inside = λ f. grind arith;
   cut_behind = refl;
   cut_before = refl;
   cut_both = refl;

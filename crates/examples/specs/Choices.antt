@@ -5,7 +5,6 @@ use Rattle.sets_theory.specs.ChoiceTest.{choice}
 use Rattle.sets_theory.specs.believed.Sets.{listed}
 use Rattle.history_file.specs.believed.HistoryFile.{tokens_of}
 use Rattle.files.specs.believed.Files.{Files}
-use Rattle.files.specs.believed.Files
 use Rattle.service.specs.believed.Opened.{files_in}
 use Rattle.examples.specs.Examples.{G, readings_of, choices_of}
 

@@ -9,13 +9,10 @@ use Rattle.listing_model.specs.Calls.{call_on}
 use Rattle.vpg.specs.Runs.{entries}
 use Rattle.sets_theory.specs.believed.Sets.{choice_count, stop_marks}
 use Rattle.files.specs.believed.Files.{Files}
-use Rattle.files.specs.believed.Files
 use Rattle.service.specs.believed.Opened.{files_in}
 use Rattle.readings.specs.believed.Answers.{subject}
 use Rattle.grammar_file.specs.believed.GrammarFile.{GrammarFile, grammar_of}
-use Rattle.grammar_file.specs.believed.GrammarFile
 use Rattle.history_file.specs.believed.HistoryFile.{HistoryFile, history_of, tokens_of}
-use Rattle.history_file.specs.believed.HistoryFile
 
 -- "G below is the 28 bytes 3 7 / 0 0 / 2 0 0 1 0 0 / 2 0 0 2 0 0 / 1 1 0 1 / 0 1 / 1 2 0 2 / 0 2 (decimal)"
 abbrev pub G : List ℕ

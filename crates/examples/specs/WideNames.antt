@@ -3,9 +3,7 @@
 use Rattle.std.specs.Prelude.{ℕ, ◌≡◌, List, [], ◌∷◌}
 use Rattle.service.specs.believed.Opened.{files_in}
 use Rattle.grammar_file.specs.believed.GrammarFile.{GrammarFile, grammar_of}
-use Rattle.grammar_file.specs.believed.GrammarFile
 use Rattle.history_file.specs.believed.HistoryFile.{HistoryFile, history_of}
-use Rattle.history_file.specs.believed.HistoryFile
 use Rattle.vpg.specs.declared.Rule.{Rule}
 use Rattle.vpg.specs.declared.Token.{Token}
 use Rattle.examples.specs.Examples.{readings_of}

@@ -21,13 +21,14 @@ use Rattle.level_theory.proofs.Walk.{level_test}
 use Rattle.contexts.specs.declared.Context.{Context}
 use Rattle.contexts.specs.Context.{applies_to}
 use Rattle.tables.specs.declared.Head.{Head}
+use Rattle.tables.specs.declared.Table.{Table}
 use Rattle.tables.specs.Table.{rule_in}
 use Rattle.tables.specs.Ready.{Ready, rules_of}
 use Rattle.tables.proofs.Tables.{rules_at, rules_below}
 use Rattle.levels.specs.Levels.{Leveled, Stands}
 use Rattle.moves.specs.Moves.{rule_fits, Smallest}
 
-module _ (t : List ℕ) (head : Head) (ready : Ready t head) (w : List Token) (mask : List ℕ) (p L : ℕ) (context : Context) (stands : Stands head.well w mask p context) (leveled : Leveled head.well (rules_of t head) w mask (suc p)) where
+module _ (t : Table) (head : Head) (ready : Ready t head) (w : List Token) (mask : List ℕ) (p L : ℕ) (context : Context) (stands : Stands head.well w mask p context) (leveled : Leveled head.well (rules_of t head) w mask (suc p)) where
   abbrev U : ℕ
   U = head.well
 

@@ -1,5 +1,5 @@
 -- The forward pass, one position at a time: what is written so far, and the end.
-use Prim.Native.Nat.{ℕ, suc, ◌+◌, ◌<◌, ◌≤◌}
+use Prim.Native.Nat.{ℕ, suc, ◌+◌, ◌<◌}
 use native.Mathlib.Numerals.{add-one}
 use native.Mathlib.Omega.{arith}
 use mathlib.Core.Path.{◌≡◌, refl, sym, ◌∙◌, ap}
@@ -20,6 +20,7 @@ use Rattle.level_theory.proofs.Local.{Turn, Then, first-turn}
 use Rattle.level_theory.proofs.Walk.{passes_end, end_passes}
 use Rattle.contexts.specs.declared.Context.{Context}
 use Rattle.tables.specs.declared.Head.{Head}
+use Rattle.tables.specs.declared.Table.{Table}
 use Rattle.tables.specs.Table.{rule_in}
 use Rattle.tables.specs.Ready.{rules_of}
 use Rattle.tables.proofs.Tables.{ready_general}
@@ -80,16 +81,14 @@ module _ (U : ℕ) (g : Rules) (form : General U g) (w : List Token) (from : Con
 
 -- ── the loop ──
 
-pub record Going (t : List ℕ) (head : Head) (ts : List ℕ) (from : Configuration) (old new due : List ℕ) (L p : ℕ) : Type 0 where
-  pub passed : from.position ≤ p
-  pub most : p ≤ length ts
+pub record Going (t : Table) (head : Head) (ts : List ℕ) (from : Configuration) (old new due : List ℕ) (L p : ℕ) : Type 0 where
   pub room : length due ≡ 1025
   pub as_long : length new ≡ length old
   pub fits : Fits head.well L (due_at head.well due (pending_at (tokens_of ts) p) L) (masks head.well (rules_of t head) (drop p (tokens_of ts)))
   pub sofar : Sofar head.well (rules_of t head) (tokens_of ts) from (L, due_at head.well due (pending_at (tokens_of ts) p) L) p old new
   pub kept : drop (suc (length (tokens_of ts))) new ≡ drop (suc (length (tokens_of ts))) old
 
-module _ {t : List ℕ} {head : Head} {ts m mask : List ℕ} (set-up : Setting t head ts m mask) (from : Configuration) (old : List ℕ) (long : length ts < length old) where
+module _ {t : Table} {head : Head} {ts m mask : List ℕ} (set-up : Setting t head ts m mask) (from : Configuration) (old : List ℕ) (long : length ts < length old) where
   abbrev W : List Token
   W = tokens_of ts
 
@@ -105,10 +104,8 @@ module _ {t : List ℕ} {head : Head} {ts m mask : List ℕ} (set-up : Setting t
   abbrev Goes : List ℕ → List ℕ → ℕ → ℕ → Type 0
   Goes new due L p = Going t head ts from old new due L p
 
-  pub going_start : from.position ≤ length ts → length from.behind ≡ 1025 → Derives U G W from → Goes old from.behind from.nonterminal from.position
-  going_start h b f = record {
-    passed = omega arith;
-    most = h;
+  pub going_start : length from.behind ≡ 1025 → Derives U G W from → Goes old from.behind from.nonterminal from.position
+  going_start b f = record {
     room = b;
     as_long = refl;
     fits = f;
@@ -144,8 +141,6 @@ module _ {t : List ℕ} {head : Head} {ts m mask : List ℕ} (set-up : Setting t
       going_next =
           rw (closing set-up p (omega arith), add-one p)
           (record {
-            passed = omega (arith, k.passed);
-            most = more;
             room = length-set due _ _ ∙ k.room;
             as_long = length-set new p r ∙ k.as_long;
             fits = here_turn.fits;
@@ -153,26 +148,17 @@ module _ {t : List ℕ} {head : Head} {ts m mask : List ℕ} (set-up : Setting t
             kept = drop-set-lt (suc (length W)) new p r (omega (arith, tokens_length ts)) ∙ k.kept;
           })
 
-    going_end : p ≡ length ts → Filled U G W from old (set new p r)
-    going_end e =
-        let q : p ≡ length W = e ∙ sym (tokens_length ts) in
-        at_end p q k passing none_before
+    going_end : p ≡ length ts → Filled U G W from old (set new (length ts) r)
+    going_end e = rw (sym (tokens_length ts)) (at_end p (e ∙ sym (tokens_length ts)) k passing none_before)
       where
-        at_end : (p : ℕ) → p ≡ length W → Goes new due L p → Passes (test_at U G (drop p W)) G L r → None (test_at U G (drop p W)) G L (λ q. q < r) → Filled U G W from old (set new p r)
+        at_end : (p : ℕ) → p ≡ length W → Goes new due L p → Passes (test_at U G (drop p W)) G L r → None (test_at U G (drop p W)) G L (λ q. q < r) → Filled U G W from old (set new (length W) r)
         at_end p q k x y =
-            rw q
-            (filled_end U G form W from old due L r new (omega (arith, k.as_long, tokens_length ts)) (pending_end W (length W) (omega arith)) (rw q at x) (rw q at y) (rw q at k.sofar) k.kept)
+            filled_end U G form W from old due L r new (omega (arith, k.as_long, tokens_length ts)) (pending_end W (length W) (omega arith)) (rw q at x) (rw q at y) (rw q at k.sofar) k.kept
 
   -- at the end stands the empty rule of the nonterminal
   module _ {new due : List ℕ} {L p : ℕ} (k : Goes new due L p) (e : p ≡ length ts) (r : ℕ) (first : FirstEmpty t head.rules L r) where
     smallest_end : Smallest t head L (end_context p) r
     smallest_end = empty_smallest t head L (end_context p) r (end_ends U (end_context p) (omega arith) L) first
 
-    at_end : Stands U W mask p (end_context p)
-    at_end = stands_end U W mask p (e ∙ sym (tokens_length ts))
-
-    pub end_found : r < head.rules
-    end_found = found_rule k (end_context p) at_end r smallest_end
-
-    pub ended : Filled U G W from old (set new p r)
-    ended = going_end k (end_context p) at_end r smallest_end e
+    pub ended : Filled U G W from old (set new (length ts) r)
+    ended = going_end k (end_context p) (stands_end U W mask p (e ∙ sym (tokens_length ts))) r smallest_end e

@@ -18,6 +18,7 @@ use Rattle.level_theory.specs.Walk.{Run}
 use Rattle.level_theory.proofs.Alive.{all-fits, fits_all, run_fits}
 use Rattle.level_theory.proofs.Pending.{masks-outer, due_none}
 use Rattle.tables.specs.declared.Head.{Head}
+use Rattle.tables.specs.declared.Table.{Table}
 use Rattle.tables.specs.Ready.{grammar_in}
 use Rattle.tables.proofs.Tables.{ready_general}
 use Rattle.history_file.specs.believed.HistoryFile.{tokens_of}
@@ -25,7 +26,7 @@ use Rattle.levels.specs.Levels.{Setting, derives_all}
 use Rattle.first_run.specs.declared.Configuration.{Configuration}
 use Rattle.first_run.specs.Fill.{Derives, Filled}
 
-module _ {t : List ℕ} {head : Head} {ts m mask : List ℕ} (set-up : Setting t head ts m mask) where
+module _ {t : Table} {head : Head} {ts m mask : List ℕ} (set-up : Setting t head ts m mask) where
   abbrev W : List Token
   W = tokens_of ts
 

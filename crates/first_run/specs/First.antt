@@ -1,8 +1,10 @@
--- What the first reading answers (document 01, "Services" and "The plain listing").
+-- What first reading and next reading answer (document 01, "Services" and "The plain listing").
 -- Law: first_is, none_is (first_run/proofs/Whole.antt)
-use Rattle.listing_model.specs.believed.Listing.{Answer, written, no_reading}
-use Rattle.first_run.specs.declared.FirstAnswer.{FirstAnswer}
+use Rattle.listing_model.specs.believed.Listing.{written, no_reading, no_further}
+use Rattle.listing_model.specs.believed.Listing as model
+use Rattle.first_run.specs.declared.Answer.{Answer}
 
-abbrev pub first_said : FirstAnswer → Answer
-first_said FirstAnswer.Written = written
-first_said FirstAnswer.NoReading = no_reading
+abbrev pub first_said : Answer → model.Answer
+first_said Answer.Written = written
+first_said Answer.NoReading = no_reading
+first_said Answer.NoFurther = no_further

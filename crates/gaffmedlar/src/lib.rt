@@ -33,38 +33,43 @@ pub extern "C" fn gaffmedlar_version() -> u32
 }
 
 #[unsafe(no_mangle)]
+#[tactic(auto, using(replies::proofs::Told::grammar_told_said))]
 pub extern "C" fn gaffmedlar_grammar_check(grammar: &[u8]) -> GrammarReply
     ensures { result ≡ grammar_wire (grammar_due (grammar_of grammar.now)) }
 {
-    replies::grammar_reply(files::grammar_check(grammar))
+    replies::grammar_reply(files::grammar_check(grammar).map_err(u8::from))
 }
 
 #[unsafe(no_mangle)]
+#[tactic(auto, using(replies::proofs::Told::history_told_said))]
 pub extern "C" fn gaffmedlar_history_check(history: &[u8]) -> HistoryReply
     ensures { result ≡ history_wire (history_due (history_of history.now)) }
 {
-    replies::history_reply(files::history_check(history))
+    replies::history_reply(files::history_check(history).map_err(u8::from))
 }
 
 // Writes the first reading.
 #[unsafe(no_mangle)]
+#[tactic(auto, using(calls::proofs::Told::told_said))]
 pub extern "C" fn gaffmedlar_first_reading(grammar: &[u8], history: &[u8], reading: &mut [u8]) -> u8
     ensures { (result, reading.new) ≡ coded (call_on (subject grammar.now history.now (length reading.old)) first reading.old) }
 {
-    calls::code_of(readings::first_reading(grammar, history, reading))
+    calls::code_of(readings::first_reading(grammar, history, reading).map_err(u8::from))
 }
 
 // Overwrites the reading in the buffer by the next one.
 #[unsafe(no_mangle)]
+#[tactic(auto, using(calls::proofs::Told::told_said))]
 pub extern "C" fn gaffmedlar_next_reading(grammar: &[u8], history: &[u8], reading: &mut [u8]) -> u8
     ensures { (result, reading.new) ≡ coded (call_on (subject grammar.now history.now (length reading.old)) next reading.old) }
 {
-    calls::code_of(readings::next_reading(grammar, history, reading))
+    calls::code_of(readings::next_reading(grammar, history, reading).map_err(u8::from))
 }
 
 // Makes a list of the two calls above on one buffer: 0 is first reading, any other number next reading. Where there is no room for the
 // answers, a refused file's number, else 15.
 #[unsafe(no_mangle)]
+#[tactic(auto, using(replies::proofs::Told::told_said))]
 pub extern "C" fn gaffmedlar_run_calls(
     grammar: &[u8],
     history: &[u8],
@@ -74,35 +79,40 @@ pub extern "C" fn gaffmedlar_run_calls(
 ) -> u8
     ensures { (result, answers.new, buffer.new) ≡ calls_wire (calls_due grammar.now history.now calls.now answers.old buffer.old) }
 {
-    replies::outcome_code(calls::run_calls(grammar, history, calls, answers, buffer))
+    let outcome = calls::run_calls(grammar, history, calls, answers, buffer);
+    replies::outcome_code(outcome.map_err(u8::from))
 }
 
 // Writes four words for each position, the set of rules that stand there in some reading, and answers how many positions are choices.
 #[unsafe(no_mangle)]
+#[tactic(auto, using(replies::proofs::Told::told_said))]
 pub extern "C" fn gaffmedlar_sets(grammar: &[u8], history: &[u8], words: &mut [u32]) -> CountReply
     ensures { (result, words.new) ≡ sets_wire (sets_due grammar.now history.now words.old) }
 {
-    replies::count_reply(sets::sets(grammar, history, words))
+    replies::count_reply(sets::sets(grammar, history, words).map_err(u8::from))
 }
 
 // How many positions are choices: two rules of their set are for one nonterminal.
 #[unsafe(no_mangle)]
+#[tactic(auto, using(replies::proofs::Told::told_said))]
 pub extern "C" fn gaffmedlar_choice_count(grammar: &[u8], history: &[u8]) -> CountReply
     ensures { result ≡ count_wire (count_due grammar.now history.now) }
 {
-    replies::count_reply(sets::choice_count(grammar, history))
+    replies::count_reply(sets::choice_count(grammar, history).map_err(u8::from))
 }
 
 // How many readings there are.
 #[unsafe(no_mangle)]
+#[tactic(auto, using(replies::proofs::Told::readings_told_said))]
 pub extern "C" fn gaffmedlar_reading_count(grammar: &[u8], history: &[u8]) -> ReadingsReply
     ensures { result ≡ readings_wire (readings_due grammar.now history.now) }
 {
-    replies::readings_reply(reading_counts::reading_count(grammar, history))
+    replies::readings_reply(reading_counts::reading_count(grammar, history).map_err(u8::from))
 }
 
 // How many readings have the rule at the position.
 #[unsafe(no_mangle)]
+#[tactic(auto, using(replies::proofs::Told::readings_told_said))]
 pub extern "C" fn gaffmedlar_reading_count_at(
     grammar: &[u8],
     history: &[u8],
@@ -111,11 +121,13 @@ pub extern "C" fn gaffmedlar_reading_count_at(
 ) -> ReadingsReply
     ensures { result ≡ readings_wire (readings_at_due grammar.now history.now position rule) }
 {
-    replies::readings_reply(reading_counts::reading_count_at(grammar, history, position, rule))
+    let count = reading_counts::reading_count_at(grammar, history, position, rule);
+    replies::readings_reply(count.map_err(u8::from))
 }
 
 // Writes reading k, counted from 1.
 #[unsafe(no_mangle)]
+#[tactic(auto, using(replies::proofs::Told::told_said))]
 pub extern "C" fn gaffmedlar_reading_at(
     grammar: &[u8],
     history: &[u8],
@@ -124,15 +136,17 @@ pub extern "C" fn gaffmedlar_reading_at(
 ) -> u8
     ensures { (result, reading.new) ≡ outcome_wire (reading_due grammar.now history.now k reading.old) }
 {
-    replies::outcome_code(reading_counts::reading_at(grammar, history, k, reading))
+    let outcome = reading_counts::reading_at(grammar, history, k, reading);
+    replies::outcome_code(outcome.map_err(u8::from))
 }
 
 // Writes n + 1 bytes: byte i is 1 where the first i tokens alone have a reading, else 0.
 #[unsafe(no_mangle)]
+#[tactic(auto, using(replies::proofs::Told::told_said))]
 pub extern "C" fn gaffmedlar_stop_marks(grammar: &[u8], history: &[u8], marks: &mut [u8]) -> u8
     ensures { (result, marks.new) ≡ outcome_wire (marks_due grammar.now history.now marks.old) }
 {
-    replies::outcome_code(stop_marks::stop_marks(grammar, history, marks))
+    replies::outcome_code(stop_marks::stop_marks(grammar, history, marks).map_err(u8::from))
 }
 
 // The bytes of the step whose open stands at the position: where in the history they start, and how many there are.
@@ -140,29 +154,32 @@ pub extern "C" fn gaffmedlar_stop_marks(grammar: &[u8], history: &[u8], marks: &
 pub extern "C" fn gaffmedlar_step_bytes(history: &[u8], position: usize) -> PartReply
     ensures { result ≡ part_wire (step_of history.now position) }
 {
-    replies::part_reply(step_bytes::locate(history, position))
+    replies::part_reply(step_bytes::locate(history, position).map_err(u8::from))
 }
 
 // Why there is no step at the position; 0 where there is one.
 #[unsafe(no_mangle)]
+#[tactic(auto, using(replies::proofs::Told::number_told_said))]
 pub extern "C" fn gaffmedlar_step_refusal(history: &[u8], position: usize) -> u8
     ensures { result ≡ step_code (number_in (step_of history.now position)) }
 {
-    replies::step_code(step_bytes::step_check(history, position))
+    replies::step_code(step_bytes::step_check(history, position).map_err(u8::from))
 }
 
 // Writes the grammar file of these numbers, one element each.
 #[unsafe(no_mangle)]
+#[tactic(auto, using(replies::proofs::Told::told_said))]
 pub extern "C" fn gaffmedlar_write_grammar(numbers: &[u32], file: &mut [u8]) -> WriteReply
     ensures { (result, file.new) ≡ write_wire (grammar_written numbers.now file.old) }
 {
-    replies::write_reply(writers::write_grammar(numbers, file))
+    replies::write_reply(writers::write_grammar(numbers, file).map_err(u8::from))
 }
 
 // Writes the history file of these numbers, one element each.
 #[unsafe(no_mangle)]
+#[tactic(auto, using(replies::proofs::Told::told_said))]
 pub extern "C" fn gaffmedlar_write_history(numbers: &[u32], file: &mut [u8]) -> WriteReply
     ensures { (result, file.new) ≡ write_wire (history_written numbers.now file.old) }
 {
-    replies::write_reply(writers::write_history(numbers, file))
+    replies::write_reply(writers::write_history(numbers, file).map_err(u8::from))
 }

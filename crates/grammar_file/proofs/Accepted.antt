@@ -12,18 +12,14 @@ use borrow.Author.Tests.{eqb-true, ne_eqb}
 use lib.Dec.{eqb}
 use lib.ListN.{length, get_elem?}
 use Rattle.laws.specs.Distinct.{Distinct}
-use Rattle.numbers.specs.declared.NumberRead.{NumberRead}
-use Rattle.numbers.specs.declared.NumberRead.TheVariants.{Number, Refused as NumberRefused}
-use Rattle.numbers.specs.declared.FieldRead.{FieldRead}
-use Rattle.numbers.specs.declared.FieldRead.TheVariants.{Field, Refused as FieldRefused}
-use Rattle.numbers.specs.believed.Number.{Source}
+use Rattle.std.specs.Prelude.{Ok, Err}
+use Rattle.refusal.specs.declared.Refusal.{Refusal}
+use Rattle.numbers.specs.believed.Number.{Read, Source}
 use Rattle.numbers.specs.believed.Field.{field_at, count_at}
 use Rattle.numbers.specs.Written.{NumbersAt, none, one, Holds}
 use Rattle.numbers.proofs.Fields.{field_read, field_reads, Counted, count_read, count_reads}
 use Rattle.laws.proofs.Bools.{chose_second}
 use Rattle.numbers.proofs.Standing.{none_left, one_left, join, part}
-use Rattle.rules.specs.declared.RuleRead.{RuleRead}
-use Rattle.rules.specs.declared.RuleRead.TheVariants.{Read, Refused as RuleRefused}
 use Rattle.rules.specs.believed.Rule.{rule_at}
 use Rattle.rules.specs.RuleNumbers.{rule_numbers, Fits}
 use Rattle.rules.proofs.Rules.{rule_is}
@@ -31,7 +27,7 @@ use Rattle.tables.specs.Table.{earlier}
 use Rattle.tables.proofs.Earlier.{earlier_is}
 use Rattle.vpg.specs.declared.Rule.{Rule}
 use Rattle.vpg.specs.believed.Grammar.{Grammar}
-use Rattle.grammar_file.specs.believed.GrammarFile.{GrammarFile, accepted, refused, after_rule, after_count, rules_from, counted_from, without_start, with_start, either, grammar_from}
+use Rattle.grammar_file.specs.believed.GrammarFile.{GrammarFile, accepted, refused, after, rules_from, counted_from, without_start, with_start, either, grammar_from}
 use Rattle.grammar_file.specs.Wellformed.{Wellformed, rules_numbers, numbers_of, numbers_without_start}
 
 -- ── lists of rules ──
@@ -71,13 +67,9 @@ rule_fits {g} w i {r} h = w.fits r (member g.rules i h)
 pub apart : {e : ℕ} {g : Grammar} → refused e ≢ accepted g
 apart h = let z : ◌≡◌ {A = ℕ} 0 1 = cc in omega arith
 
-after_rule_lem : (f : RuleRead) (rest : Rule → ℕ → GrammarFile) {g : Grammar} → after_rule f rest ≡ accepted g → (r : Rule) × (p : ℕ) × (f ≡ Read r p) × (rest r p ≡ accepted g)
-after_rule_lem (Read r p) rest h = (r, p, refl, h)
-after_rule_lem (RuleRefused e) rest h = absurd (apart h)
-
-after_count_lem : (f : FieldRead) (rest : ℕ → ℕ → GrammarFile) {g : Grammar} → after_count f rest ≡ accepted g → (n p : ℕ) × (f ≡ Field n p) × (rest n p ≡ accepted g)
-after_count_lem (Field n p) rest h = (n, p, refl, h)
-after_count_lem (FieldRefused e) rest h = absurd (apart h)
+after_is : {A : Type 0} (f : Read A) (rest : A → ℕ → GrammarFile) {g : Grammar} → after f rest ≡ accepted g → (x : A) × (p : ℕ) × (f ≡ Ok (x, p)) × (rest x p ≡ accepted g)
+after_is (Ok (x, p)) rest h = (x, p, refl, h)
+after_is (Err e) rest h = absurd (apart h)
 
 same_grammar : {g k : Grammar} → accepted k ≡ accepted g → g ≡ k
 same_grammar h = cc
@@ -129,7 +121,7 @@ module _ (x : Source) (nonterminals start : ℕ) where
         distinct = λ d. rw append-nil d;
       }
   rules_read g (suc due) at rules h =
-      let f = after_rule_lem (rule_at x.number at nonterminals) _ h in
+      let f = after_is (rule_at x.number at nonterminals) _ h in
       let i = (rule_is x.number nonterminals at f.0 f.1).0 f.2 in
       let p = chose_second (earlier f.0 rules) _ _ apart f.3 in
       one_rule f.0 i.0 i.1 p.0 (rules_read g due f.1 (rules ++ (f.0 ∷ [])) p.1)
@@ -153,15 +145,15 @@ module _ (x : Source) (g : Grammar) where
   Said = Holds x (numbers_of g) ⊎ (Holds x (numbers_without_start g) × (g.start ≡ 0))
 
   -- a number that is read, known as another
-  number_as : {at p end n m : ℕ} {ns : List ℕ} → m ≡ n → x.number at ≡ Number n p → NumbersAt x.number p ns end → NumbersAt x.number at (m ∷ ns) end
+  number_as : {at p end n m : ℕ} {ns : List ℕ} → m ≡ n → x.number at ≡ Ok (n, p) → NumbersAt x.number p ns end → NumbersAt x.number at (m ∷ ns) end
   number_as e h i = rw e (one h i)
 
   counted : (n start at : ℕ) → counted_from x at n start ≡ accepted g → (due p : ℕ) × Counted (x.number at) 128 due p × RulesAre x n start g due p []
   counted n start at h =
-      let s = after_count_lem (count_at x.number at 128 4) _ h in
-      (s.0, s.1, count_read x.number at 128 4 _ _ s.2, rules_read x n start g s.0 s.1 [] s.3)
+      let s = after_is (count_at x.number at 128 Refusal.RuleCount) _ h in
+      (s.0, s.1, count_read x.number at 128 Refusal.RuleCount _ _ s.2, rules_read x n start g s.0 s.1 [] s.3)
 
-  module _ {n p start at due q : ℕ} {r : NumberRead} (c : Counted r 32 n p) (below : start < n) (k : Counted (x.number at) 128 due q) (b : RulesAre x n start g due q []) where
+  module _ {n p start at due q : ℕ} {r : Read ℕ} (c : Counted r 32 n p) (below : start < n) (k : Counted (x.number at) 128 due q) (b : RulesAre x n start g due q []) where
     stages_are : g.nonterminals ≡ n
     stages_are = ap (λ f. f.nonterminals) b.is
 
@@ -191,17 +183,17 @@ module _ (x : Source) (g : Grammar) where
 
   short_read : without_start x ≡ accepted g → Said × Wellformed g
   short_read h =
-      let f = after_count_lem (count_at x.number 0 32 3) _ h in
-      let c = count_read x.number 0 32 3 _ _ f.2 in
+      let f = after_is (count_at x.number 0 32 Refusal.StageCount) _ h in
+      let c = count_read x.number 0 32 Refusal.StageCount _ _ f.2 in
       let (due, p, k, b) = counted f.0 0 f.1 f.3 in
       (inr ((b.end, number_as (stages_are c c.least k b) c.read (rules_stand c c.least k b), b.last), start_is c c.least k b), good c c.least k b)
 
-  long_read : (at : ℕ) → x.number 0 ≡ Number 0 at → with_start x at ≡ accepted g → Said × Wellformed g
+  long_read : (at : ℕ) → x.number 0 ≡ Ok (0, at) → with_start x at ≡ accepted g → Said × Wellformed g
   long_read at z h =
-      let f = after_count_lem (count_at x.number at 32 3) _ h in
-      let c = count_read x.number at 32 3 _ _ f.2 in
-      let s = after_count_lem (field_at x.number f.1 f.0 6) _ f.3 in
-      let l = field_read x.number f.1 f.0 6 _ _ s.2 in
+      let f = after_is (count_at x.number at 32 Refusal.StageCount) _ h in
+      let c = count_read x.number at 32 Refusal.StageCount _ _ f.2 in
+      let s = after_is (field_at x.number f.1 f.0 Refusal.Stage) _ f.3 in
+      let l = field_read x.number f.1 f.0 Refusal.Stage _ _ s.2 in
       let (due, p, k, b) = counted f.0 s.0 s.1 s.3 in
       let rest = number_as (start_is c l.below k b) l.read (rules_stand c l.below k b) in
       (inl (b.end, one z (number_as (stages_are c l.below k b) c.read rest), b.last), good c l.below k b)
@@ -210,20 +202,20 @@ module _ (x : Source) (g : Grammar) where
   unfolding grammar_from
   said_read h = go (x.number 0) refl h
     where
-      go : (r : NumberRead) → x.number 0 ≡ r → either r (with_start x) (without_start x) ≡ accepted g → Said × Wellformed g
-      go (Number n at) e q = zero_or (eqb n 0) refl q
+      go : (r : Read ℕ) → x.number 0 ≡ r → either r (with_start x) (without_start x) ≡ accepted g → Said × Wellformed g
+      go (Ok (n, at)) e q = zero_or (eqb n 0) refl q
         where
           zero_or : (b : Bool) → eqb n 0 ≡ b → cond b (with_start x at) (without_start x) ≡ accepted g → Said × Wellformed g
-          zero_or true t k = long_read at (e ∙ ap (λ m. Number m at) (eqb-true n 0 t)) k
+          zero_or true t k = long_read at (e ∙ ap (λ m. Ok (m, at)) (eqb-true n 0 t)) k
           zero_or false t k = short_read k
-      go (NumberRefused d) e q = short_read q
+      go (Err d) e q = short_read q
 
   module _ (w : Wellformed g) where
     counted_reads : (start at end : ℕ) → start ≡ g.start → NumbersAt x.number at (length g.rules ∷ rules_numbers g.rules) end → x.more end ≡ false
         → counted_from x at g.nonterminals start ≡ accepted g
     counted_reads start at end e i last =
         let s = one_left i in
-        rw (e, count_reads x.number at 128 4 (length g.rules) s.0 s.1 w.rules_least w.rules_most)
+        rw (e, count_reads x.number at 128 Refusal.RuleCount (length g.rules) s.0 s.1 w.rules_least w.rules_most)
         (rules_reads x g.nonterminals g.start g.rules s.0 end [] s.2 last w.fits w.distinct
         ∙ ap (λ (k : ℕ). accepted (record { nonterminals = g.nonterminals; well = k; start = g.start; rules = g.rules })) (sym w.well_all))
 
@@ -235,8 +227,8 @@ module _ (x : Source) (g : Grammar) where
         let s = one_left f.2 in
         rw (
           z.1,
-          count_reads x.number z.0 32 3 g.nonterminals f.0 f.1 w.nonterminals_least w.nonterminals_most,
-          field_reads x.number f.0 g.nonterminals 6 g.start s.0 s.1 w.start_below,
+          count_reads x.number z.0 32 Refusal.StageCount g.nonterminals f.0 f.1 w.nonterminals_least w.nonterminals_most,
+          field_reads x.number f.0 g.nonterminals Refusal.Stage g.start s.0 s.1 w.start_below,
         )
         (counted_reads g.start s.0 end refl s.2 last)
     said_reads (inr ((end, i, last), zero-start)) =
@@ -244,7 +236,7 @@ module _ (x : Source) (g : Grammar) where
         rw (
           f.1,
           ne_eqb g.nonterminals 0 (omega (arith, w.nonterminals_least)),
-          count_reads x.number 0 32 3 g.nonterminals f.0 f.1 w.nonterminals_least w.nonterminals_most,
+          count_reads x.number 0 32 Refusal.StageCount g.nonterminals f.0 f.1 w.nonterminals_least w.nonterminals_most,
         )
         (counted_reads 0 f.0 end (sym zero-start) f.2 last)
 

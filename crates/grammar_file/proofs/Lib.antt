@@ -2,4 +2,3 @@ pub mod Accepted
 pub mod Answers
 pub mod BothWays
 pub mod Ready
-pub mod Turns

@@ -1,144 +1,112 @@
 // Reads a grammar file: its head and the rules as a table, or the number of the first fault in file order.
 #![tactic(auto)]
 
-ghost use Rattle.std.specs.Prelude.{◌≡◌, [], ◌≤◌, replicate};
+ghost use Rattle.std.specs.Prelude.{◌≡◌, [], ◌≤◌, OnOk, IfOk};
+ghost use Rattle.refusal.specs.Numbered.{numbered};
+ghost use Rattle.refusal.specs.declared.Refusal.{Refusal};
 ghost use Rattle.numbers.specs.believed.Number.{number_at, bytes};
-ghost use Rattle.numbers.specs.believed.Field.{field_at, count_at};
-ghost use Rattle.grammar_file.specs.believed.GrammarFile;
-ghost use Rattle.grammar_file.specs.believed.GrammarFile.{rules_from, counted_from, without_start, with_start, grammar_of};
-ghost use Rattle.grammar_file.specs.GrammarTable.{grammar_read};
+ghost use Rattle.numbers.specs.believed.Field.{count_at};
+ghost use Rattle.tables.specs.Table.{no_table};
+ghost use Rattle.grammar_file.specs.believed.GrammarFile.{after, rules_from, counted_from, without_start, with_start, grammar_of};
+ghost use Rattle.grammar_file.specs.GrammarTable.{grammar_read, IsHead, rules_of};
 
-use numbers::{FieldRead, NumberRead};
-use rules::RuleRead;
+use numbers::Read;
+use refusal::Refusal;
 use tables::{Head, Table};
 
-// At most this many nonterminals (refusal 3) and rules (refusal 4).
+// At most this many nonterminals, and this many rules.
 const NONTERMINALS: u32 = 32;
 
 const RULES: u32 = 128;
 
-// The head of the grammar, or document 01's number of the refusal.
-#[derive(Clone, Copy)]
-pub enum GrammarAnswer {
-    Accepted(Head),
-    Refused(u8),
+// The stage count at a place.
+fn stages_at(s: &[u8], at: usize) -> Read<u16>
+    ensures { result ≡ count_at (number_at s.now) at 32 Refusal.StageCount }
+{
+    numbers::count_at(s, at, NONTERMINALS, Refusal::StageCount)
 }
 
-// A refused file: the table is cleared again.
-fn refused(table: &mut Table, e: u8) -> GrammarAnswer
-    ensures { (result, table.new) ≡ grammar_read (GrammarFile.refused e) }
+// The rule count at a place, which ends the head.
+fn counted_at(s: &[u8], at: usize, nonterminals: u16, start: u16) -> Read<Head>
+    ensures told { after result (rules_of (bytes s.now)) ≡ counted_from (bytes s.now) at nonterminals start }
+    ensures head { IfOk result (λ read. IsHead read.0) }
 {
-    *table = [0u16; 1412];
-    GrammarAnswer::Refused(e)
+    let (due, next) = numbers::count_at(s, at, RULES, Refusal::RuleCount)?;
+    let head = Head {
+        nonterminals,
+        well: nonterminals,
+        start,
+        rules: due as usize,
+    };
+    Ok((head, next))
+}
+
+// The head of a file that doesn't say its start, which is nonterminal 0.
+fn without_start(s: &[u8]) -> Read<Head>
+    ensures told { after result (rules_of (bytes s.now)) ≡ without_start (bytes s.now) }
+    ensures head { IfOk result (λ read. IsHead read.0) }
+{
+    let (nonterminals, next) = stages_at(s, 0)?;
+    counted_at(s, next, nonterminals, 0)
+}
+
+// The head of a file that says its start, from the place behind its leading 0.
+fn with_start(s: &[u8], at: usize) -> Read<Head>
+    ensures told { after result (rules_of (bytes s.now)) ≡ with_start (bytes s.now) at }
+    ensures head { IfOk result (λ read. IsHead read.0) }
+{
+    let (nonterminals, next) = stages_at(s, at)?;
+    let (start, behind) = numbers::field_at(s, next, nonterminals as u32, Refusal::Stage)?;
+    counted_at(s, behind, nonterminals, start)
+}
+
+// What stands before the rules, and their place.
+#[tactic(auto, unfolding(crate::specs::believed::GrammarFile::grammar_from))]
+fn head_at(s: &[u8]) -> Read<Head>
+    ensures told { after result (rules_of (bytes s.now)) ≡ grammar_of s.now }
+    ensures head { IfOk result (λ read. IsHead read.0) }
+{
+    match numbers::number_at(s, 0) {
+        Ok((0, next)) => with_start(s, next),
+        _ => without_start(s),
+    }
 }
 
 // The rules that the head announces, from a place to the end, into a table of zeros.
-fn rules_at(s: &[u8], from: usize, head: Head, table: &mut Table) -> GrammarAnswer
-    requires { (head.rules ≤ 128) × (head.well ≡ head.nonterminals) × (table.old ≡ replicate 1412 0) }
-    ensures { (result, table.new) ≡ grammar_read (rules_from (bytes s.now) head.nonterminals head.start head.rules from []) }
+#[tactic(auto, unfolding(crate::specs::believed::GrammarFile::rules_from))]
+fn rules_at(s: &[u8], from: usize, head: Head, table: &mut Table) -> Result<Head, Refusal>
+    requires { IsHead head × (table.old ≡ no_table) }
+    ensures told { numbered result ≡ (grammar_read (rules_of (bytes s.now) head from)).0 }
+    ensures filled { OnOk result (table.new ≡ (grammar_read (rules_of (bytes s.now) head from)).1) }
 {
     let count = head.rules;
     let mut keys = [0u32; 64];
     let mut at = from;
-    let mut k: usize = 0;
-    while k < count {
-        let read = rules::rule_at(s, at, head.nonterminals);
-        let RuleRead::Read(rule, next) = read else {
-            return refused(table, rules::rule_refusal(read));
-        };
+    for k in 0..count {
+        let (rule, next) = rules::rule_at(s, at, head.nonterminals)?;
         if tables::seen(table, k, rule, &keys) {
-            return refused(table, 8);
+            return Err(Refusal::RepeatedRule);
         }
         let six = tables::six_of(rule);
         tables::put(table, k, six);
         tables::mark_key(&mut keys, six);
         at = next;
-        k += 1;
     }
     if at < s.len() {
-        return refused(table, 9);
+        return Err(Refusal::BytesFollow);
     }
-    GrammarAnswer::Accepted(head)
-}
-
-// The stage count at a place.
-fn stages_at(s: &[u8], at: usize) -> FieldRead
-    ensures { result ≡ count_at (number_at s.now) at 32 3 }
-{
-    numbers::count_at(s, at, NONTERMINALS, 3)
-}
-
-// The start at a place: below the stage count.
-fn start_at(s: &[u8], at: usize, nonterminals: u16) -> FieldRead
-    ensures { result ≡ field_at (number_at s.now) at nonterminals 6 }
-{
-    numbers::field_at(s, at, nonterminals as u32, 6)
-}
-
-// The rule count at a place and the rules behind it.
-fn counted_at(
-    s: &[u8],
-    at: usize,
-    nonterminals: u16,
-    start: u16,
-    table: &mut Table,
-) -> GrammarAnswer
-    requires { table.old ≡ replicate 1412 0 }
-    ensures { (result, table.new) ≡ grammar_read (counted_from (bytes s.now) at nonterminals start) }
-{
-    let count = numbers::count_at(s, at, RULES, 4);
-    let FieldRead::Field(due, next) = count else {
-        return refused(table, numbers::field_refusal(count));
-    };
-    let rules = due as usize;
-    let head = Head {
-        nonterminals,
-        well: nonterminals,
-        start,
-        rules,
-    };
-    rules_at(s, next, head, table)
-}
-
-// A file that doesn't say its start, which is nonterminal 0.
-fn without_start(s: &[u8], table: &mut Table) -> GrammarAnswer
-    requires { table.old ≡ replicate 1412 0 }
-    ensures { (result, table.new) ≡ grammar_read (without_start (bytes s.now)) }
-{
-    let count = stages_at(s, 0);
-    let FieldRead::Field(nonterminals, next) = count else {
-        return refused(table, numbers::field_refusal(count));
-    };
-    counted_at(s, next, nonterminals, 0, table)
-}
-
-// A file that says its start, from the place behind its leading 0.
-fn with_start(s: &[u8], at: usize, table: &mut Table) -> GrammarAnswer
-    requires { table.old ≡ replicate 1412 0 }
-    ensures { (result, table.new) ≡ grammar_read (with_start (bytes s.now) at) }
-{
-    let count = stages_at(s, at);
-    let FieldRead::Field(nonterminals, next) = count else {
-        return refused(table, numbers::field_refusal(count));
-    };
-    let field = start_at(s, next, nonterminals);
-    let FieldRead::Field(start, behind) = field else {
-        return refused(table, numbers::field_refusal(field));
-    };
-    counted_at(s, behind, nonterminals, start, table)
+    Ok(head)
 }
 
 // Reads the file into a table of zeros that the caller lends; a refused file leaves zeros.
-pub fn read_grammar(s: &[u8], table: &mut Table) -> GrammarAnswer
-    requires { table.old ≡ replicate 1412 0 }
-    ensures { (result, table.new) ≡ grammar_read (grammar_of s.now) }
+pub fn read_grammar(s: &[u8], table: &mut Table) -> Result<Head, Refusal>
+    requires { table.old ≡ no_table }
+    ensures { (numbered result, table.new) ≡ grammar_read (grammar_of s.now) }
 {
-    let first = numbers::number_at(s, 0);
-    let NumberRead::Number(n, next) = first else {
-        return without_start(s, table);
-    };
-    if n == 0 {
-        return with_start(s, next, table);
+    let (head, at) = head_at(s)?;
+    let answer = rules_at(s, at, head, table);
+    if answer.is_err() {
+        *table = Table::new();
     }
-    without_start(s, table)
+    answer
 }

@@ -9,30 +9,24 @@ use native.Mathlib.Omega.{arith}
 use lib.ListN.{length}
 use lib.Dec.{ltb}
 use borrow.Author.Tests.{ltb-false}
-use Rattle.numbers.specs.declared.FieldRead.{FieldRead}
-use Rattle.numbers.specs.declared.FieldRead.TheVariants.{Field, Refused as FieldRefused}
-use Rattle.numbers.specs.believed.Number.{Source}
+use Rattle.std.specs.Prelude.{Ok, Err}
+use Rattle.refusal.specs.declared.Refusal.{Refusal}
+use Rattle.numbers.specs.believed.Number.{Read, Source}
 use Rattle.numbers.specs.believed.Field.{field_at}
 use Rattle.numbers.specs.Written.{NumbersAt, none, one, Holds}
 use Rattle.numbers.proofs.Fields.{Limited, field_read, field_reads}
 use Rattle.laws.proofs.Bools.{chose_second}
 use Rattle.numbers.proofs.Standing.{none_left, one_left}
-use Rattle.history_file.specs.declared.TokenRead.{TokenRead}
-use Rattle.history_file.specs.declared.TokenRead.TheVariants.{Token as TokenIs, Refused as TokenRefused}
-use Rattle.history_file.specs.believed.HistoryFile.{HistoryFile, accepted, refused, token_at, depth_after, after_token, after_count, tokens_from, history_from}
+use Rattle.history_file.specs.believed.HistoryFile.{HistoryFile, accepted, refused, token_at, depth_after, after, tokens_from, history_from}
 use Rattle.history_file.specs.Wellformed.{TokenNumber, Nested, Wellformed}
 use Rattle.history_file.proofs.Tokens.{Judged, token_read, token_reads}
 
 pub apart : {e : ℕ} {ts : List ℕ} → refused e ≢ accepted ts
 apart h = let z : ◌≡◌ {A = ℕ} 0 1 = cc in omega arith
 
-after_token_lem : (f : TokenRead) (rest : ℕ → ℕ → HistoryFile) {ts : List ℕ} → after_token f rest ≡ accepted ts → (t p : ℕ) × (f ≡ TokenIs t p) × (rest t p ≡ accepted ts)
-after_token_lem (TokenIs t p) rest h = (t, p, refl, h)
-after_token_lem (TokenRefused e) rest h = absurd (apart h)
-
-after_count_lem : (f : FieldRead) (rest : ℕ → ℕ → HistoryFile) {ts : List ℕ} → after_count f rest ≡ accepted ts → (n p : ℕ) × (f ≡ Field n p) × (rest n p ≡ accepted ts)
-after_count_lem (Field n p) rest h = (n, p, refl, h)
-after_count_lem (FieldRefused e) rest h = absurd (apart h)
+after_is : (f : Read ℕ) (rest : ℕ → ℕ → HistoryFile) {ts : List ℕ} → after f rest ≡ accepted ts → (n p : ℕ) × (f ≡ Ok (n, p)) × (rest n p ≡ accepted ts)
+after_is (Ok (n, p)) rest h = (n, p, refl, h)
+after_is (Err e) rest h = absurd (apart h)
 
 same_tokens : {ts us : List ℕ} → accepted us ≡ accepted ts → ts ≡ us
 same_tokens h = cc
@@ -84,7 +78,7 @@ module _ (x : Source) where
         nested = omega arith;
       }
   tokens_read ts (suc due) at depth before h =
-      let f = after_token_lem (token_at x.number at depth) _ h in
+      let f = after_is (token_at x.number at depth) _ h in
       one_token f.0 (token_read x.number at depth f.0 f.1 f.2)
       (tokens_read ts due f.1 (depth_after f.0 depth) (before ++ (f.0 ∷ [])) f.3)
 
@@ -115,14 +109,14 @@ module _ (x : Source) (ts : List ℕ) where
   said_read : history_from x ≡ accepted ts → Said
   unfolding history_from
   said_read h =
-      let f = after_count_lem (field_at x.number 0 1025 10) _ h in
-      count_read f.0 f.1 (field_read x.number 0 1025 10 f.0 f.1 f.2) (tokens_read x ts f.0 f.1 0 [] f.3)
+      let f = after_is (field_at x.number 0 1025 Refusal.TokenCount) _ h in
+      count_read f.0 f.1 (field_read x.number 0 1025 Refusal.TokenCount f.0 f.1 f.2) (tokens_read x ts f.0 f.1 0 [] f.3)
 
   said_reads : Said → history_from x ≡ accepted ts
   unfolding history_from
   said_reads (h, w) =
       let f = one_left h.1 in
-      rw (field_reads x.number 0 1025 10 (length ts) f.0 f.1 (omega (arith, w.few)))
+      rw (field_reads x.number 0 1025 Refusal.TokenCount (length ts) f.0 f.1 (omega (arith, w.few)))
       (tokens_reads x ts f.0 h.0 0 [] f.2 h.2 w.tokens w.nested)
 
   pub history_is : (history_from x ≡ accepted ts) ↔ (Holds x (length ts ∷ ts) × Wellformed ts)

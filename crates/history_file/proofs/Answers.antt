@@ -7,8 +7,10 @@ use lib.ListN.{length, take, get_or, replicate, length-append, length-replicate}
 use lib.Seq.{take-append_seam}
 use Rattle.laws.proofs.Lists.{at_member}
 use Rattle.numbers.specs.believed.Number.{bytes}
-use Rattle.history_file.specs.declared.HistoryAnswer.{HistoryAnswer}
-use Rattle.history_file.specs.declared.HistoryAnswer.TheVariants.{Accepted, Refused}
+use Rattle.std.specs.Prelude.{Result, Ok, Err}
+use Rattle.refusal.specs.declared.Refusal.{Refusal}
+use Rattle.refusal.specs.believed.Refusal.{number}
+use Rattle.refusal.specs.Numbered.{numbered}
 use Rattle.history_file.specs.believed.HistoryFile.{HistoryFile, accepted, refused, history_of}
 use Rattle.history_file.specs.HistoryTokens.{history_read, Tokens}
 use Rattle.history_file.specs.Wellformed.{Wellformed}
@@ -25,17 +27,15 @@ pub record HistoryIs (s numbers : List ℕ) (n : ℕ) : Type 0 where
   pub tokens : Tokens (take n numbers)
   pub wellformed : Wellformed (take n numbers)
 
-module _ (s : List ℕ) {r : HistoryAnswer} {numbers : List ℕ} (says : ◌≡◌ {A = HistoryAnswer × List ℕ} (r, numbers) (history_read (history_of s))) where
-  answer_is : r ≡ (history_read (history_of s)).0
-  answer_is = ap (λ (x : HistoryAnswer × List ℕ). x.0) says
-
-  pub history_accepted : (n : ℕ) → r ≡ Accepted n → HistoryIs s numbers n
-  history_accepted n h = go (history_of s) refl answer_is (ap (λ (x : HistoryAnswer × List ℕ). x.1) says)
+module _ (s : List ℕ) {r : Result ℕ Refusal} {numbers : List ℕ} (says : ◌≡◌ {A = Result ℕ ℕ × List ℕ} (numbered r, numbers) (history_read (history_of s))) where
+  pub history_accepted : (n : ℕ) → r ≡ Ok n → HistoryIs s numbers n
+  history_accepted n h = go (history_of s) refl (ap (λ (x : Result ℕ ℕ × List ℕ). x.0) says) (ap (λ (x : Result ℕ ℕ × List ℕ). x.1) says)
     where
-      go : (f : HistoryFile) → history_of s ≡ f → r ≡ (history_read f).0 → numbers ≡ (history_read f).1 → HistoryIs s numbers n
+      go : (f : HistoryFile) → history_of s ≡ f → numbered r ≡ (history_read f).0 → numbers ≡ (history_read f).1 → HistoryIs s numbers n
       go (refused e) p q t = absurd (let z : ◌≡◌ {A = ℕ} 0 1 = cc in omega arith)
       go (accepted ts) p q t =
           let w = history_wellformed (bytes s) ts p in
+          let told : numbered r ≡ Ok n = ap numbered h in
           let e : n ≡ length ts = cc in
           let front : take n numbers ≡ ts = rw (e, t) (take-append_seam ts (replicate (1024 - length ts) 0)) in
           record {
@@ -46,9 +46,12 @@ module _ (s : List ℕ) {r : HistoryAnswer} {numbers : List ℕ} (says : ◌≡�
             wellformed = rw front w;
           }
 
-  pub history_refused : (e : ℕ) → r ≡ Refused e → history_of s ≡ refused e
-  history_refused e h = go (history_of s) answer_is
+  pub history_refused : (e : Refusal) → r ≡ Err e → history_of s ≡ refused (number e)
+  history_refused e h = go (history_of s) (ap (λ (x : Result ℕ ℕ × List ℕ). x.0) says)
     where
-      go : (f : HistoryFile) → r ≡ (history_read f).0 → f ≡ refused e
+      told : numbered r ≡ Err (number e)
+      told = ap numbered h
+
+      go : (f : HistoryFile) → numbered r ≡ (history_read f).0 → f ≡ refused (number e)
       go (accepted ts) q = absurd (let z : ◌≡◌ {A = ℕ} 0 1 = cc in omega arith)
-      go (refused k) q = let z : k ≡ e = cc in ap refused z
+      go (refused k) q = let z : k ≡ number e = cc in ap refused z

@@ -1,4 +1,3 @@
 pub mod believed
 pub mod HistoryTokens
-pub mod Refusals
 pub mod Wellformed

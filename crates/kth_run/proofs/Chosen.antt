@@ -15,6 +15,7 @@ use Rattle.capped.proofs.Capped.{cap-mul, cap-lt}
 use Rattle.level_theory.specs.Pending.{pending_at, close_of}
 use Rattle.level_theory.specs.Walk.{test_at}
 use Rattle.tables.specs.declared.Head.{Head}
+use Rattle.tables.specs.declared.Table.{Table}
 use Rattle.tables.specs.Table.{rule_in}
 use Rattle.tables.specs.Ready.{rules_of}
 use Rattle.tables.proofs.Tables.{rules_at, ready_general}
@@ -27,6 +28,7 @@ use Rattle.count_theory.specs.Allowed.{Allowed}
 use Rattle.count_theory.specs.Counts.{given, counts, weight, counts_at}
 use Rattle.count_theory.specs.Kth.{size}
 use Rattle.count_theory.proofs.Kth.{runs-size}
+use Rattle.count_rows.specs.declared.rows.Rows.{Rows}
 use Rattle.count_rows.specs.Rows.{value_at, Complete}
 use Rattle.count_rows.proofs.Pass.{sum_before, sum_rules, parts_capped}
 use Rattle.kth_run.specs.declared.Found.{Found}
@@ -49,10 +51,10 @@ size_capped false b n m due w h d = rw (zero-mul w) refl
 -- ── one position ──
 
 -- it is among those of the arrays, and so is its close
-pub has_room : {t : List ℕ} {head : Head} {ts closes mask : List ℕ} → Setting t head ts closes mask → (p : ℕ) (context : Context) → Stands head.well (tokens_of ts) mask p context → p ≤ length ts → (context.position < 1025) × (context.closing < 1025)
+pub has_room : {t : Table} {head : Head} {ts closes mask : List ℕ} → Setting t head ts closes mask → (p : ℕ) (context : Context) → Stands head.well (tokens_of ts) mask p context → p ≤ length ts → (context.position < 1025) × (context.closing < 1025)
 has_room x p context stands h = (omega (arith, stands.position, x.tokens.few), rw stands.closing (closing_room x p h))
 
-module _ {t : List ℕ} {head : Head} {ts closes mask : List ℕ} (x : Setting t head ts closes mask) (rows : List ℕ) (p : ℕ) (context : Context) (stands : Stands head.well (tokens_of ts) mask p context) where
+module _ {t : Table} {head : Head} {ts closes mask : List ℕ} (x : Setting t head ts closes mask) (rows : Rows) (p : ℕ) (context : Context) (stands : Stands head.well (tokens_of ts) mask p context) where
   abbrev W : List Token
   W = tokens_of ts
 

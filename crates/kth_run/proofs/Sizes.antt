@@ -5,11 +5,11 @@ use native.Mathlib.Omega.{arith}
 use mathlib.Core.Path.{◌≡◌, refl, sym, ◌∙◌}
 use mathlib.Core.Logic.{◌⊎◌, inl, inr, ◌≢◌}
 use mathlib.Core.Bool.{Bool, true, false}
-use mathlib.Core.List.{List}
 use borrow.Author.Tests.{ltb-true}
 use lib.Dec.{ltb}
 use Rattle.laws.proofs.Lists.{trichotomy}
 use Rattle.tables.specs.declared.Head.{Head}
+use Rattle.tables.specs.declared.Table.{Table}
 use Rattle.tables.specs.Table.{rule_in}
 use Rattle.rule_index.specs.Classes.{class_at, class_of}
 use Rattle.rule_index.specs.Index.{FirstFrom, Indexed}
@@ -23,6 +23,7 @@ use Rattle.capped.specs.Capped.{cap, value}
 use Rattle.count_theory.specs.believed.CountAt.{sum_below}
 use Rattle.count_theory.specs.Counts.{given}
 use Rattle.count_theory.proofs.Places.{below_none, only_one}
+use Rattle.count_rows.specs.declared.rows.Rows.{Rows}
 use Rattle.count_rows.specs.Rows.{parts_at}
 use Rattle.kth_run.specs.declared.Sought.{Sought}
 use Rattle.kth_run.specs.Search.{size_in, LocatedIn, Finds}
@@ -31,7 +32,7 @@ use Rattle.kth_run.specs.Search.{size_in, LocatedIn, Finds}
 pub record Passed (f : ℕ → ℕ) (k r i : ℕ) : Type 0 where
   pub skipped : sum_below r f + i ≡ k
 
-module _ (t : List ℕ) (head : Head) (sought : Sought) (context : Context) (rows : List ℕ) where
+module _ (t : Table) (head : Head) (sought : Sought) (context : Context) (rows : Rows) where
   abbrev pub Size : ℕ → ℕ
   Size = size_in t head.well sought context rows
 
@@ -39,11 +40,8 @@ module _ (t : List ℕ) (head : Head) (sought : Sought) (context : Context) (row
   none_apart : may_end head.well context sought.nonterminal ≡ false → (q : ℕ) → class_of (rule_in t q) ≢ class_at (token_here context) → sum_below (suc q) Size ≡ sum_below q Size
   none_apart h q d = rw (fits_apart t head sought.nonterminal context h q d) (add-zero (sum_below q Size))
 
-  pub pass_class : {rules k n a i : ℕ} → may_end head.well context sought.nonterminal ≡ false → FirstFrom t rules (class_at (token_here context)) k n → Passed Size a k i → Passed Size a n i
-  pass_class h f z = record { skipped = rw (passed (λ r. sum_below r Size) t (class_at (token_here context)) (none_apart h) f) z.skipped }
-
-  pub pass_first : {rules n a : ℕ} → may_end head.well context sought.nonterminal ≡ false → FirstFrom t rules (class_at (token_here context)) 0 n → Passed Size a n a
-  pass_first {a = a} h f = pass_class h f (record { skipped = omega arith })
+  pub pass_over : {rules a i : ℕ} → may_end head.well context sought.nonterminal ≡ false → (k n : ℕ) → FirstFrom t rules (class_at (token_here context)) k n → Passed Size a k i → Passed Size a n i
+  pass_over h k n f z = record { skipped = rw (passed (λ r. sum_below r Size) t (class_at (token_here context)) (none_apart h) f) z.skipped }
 
   -- a rule that doesn't fit
   pub pass_none : {a i : ℕ} (q : ℕ) → rule_fits head.well (rule_in t q) sought.nonterminal context ≡ false → Passed Size a q i → Passed Size a (suc q) i
@@ -58,13 +56,13 @@ module _ (t : List ℕ) (head : Head) (sought : Sought) (context : Context) (row
   located q n b e s l z = record { below = b; skipped = z.skipped; inside = rw (e, ← s) l }
 
   -- past all rules
-  pub not_located : {a i : ℕ} (rules r : ℕ) → rules ≤ r → r ≤ rules → Passed Size a r i → a < sum_below rules Size → ⊥
-  not_located rules r l m z h = let e : r ≡ rules = omega arith in let s = rw e at z.skipped in omega (arith, s)
+  pub not_located : {a i : ℕ} (rules : ℕ) → Passed Size a rules i → a < sum_below rules Size → ⊥
+  not_located rules z h = omega (arith, z.skipped)
 
 -- ── empty rules ──
 
 -- where the nonterminal can only end, the smallest rule that fits is the only one
-pub end_finds : {t : List ℕ} {head : Head} (x : Indexed t head) (sought : Sought) (context : Context) (rows : List ℕ) (r : ℕ) → may_end head.well context sought.nonterminal ≡ true → Smallest t head sought.nonterminal context r →
+pub end_finds : {t : Table} {head : Head} (x : Indexed t head) (sought : Sought) (context : Context) (rows : Rows) (r : ℕ) → may_end head.well context sought.nonterminal ≡ true → Smallest t head sought.nonterminal context r →
     Finds t head sought context rows (record { rule = r; number = sought.number })
 end_finds {t} {head} x sought context rows r h s l = go (ltb r head.rules) refl (rw (only_one f r head.rules others) at l)
   where

@@ -1,5 +1,5 @@
 -- The walk, one position at a time: what is written so far, what is due, and which of the runs from here it goes on with.
-use Prim.Native.Nat.{ℕ, suc, ◌+◌, ◌*◌, ◌<◌, ◌≤◌}
+use Prim.Native.Nat.{ℕ, zero, suc, ◌+◌, ◌*◌, ◌<◌, ◌≤◌}
 use native.Mathlib.Nat.{zero-mul}
 use native.Mathlib.Numerals.{add-one}
 use native.Mathlib.Omega.{arith}
@@ -17,7 +17,7 @@ use Rattle.vpg.specs.declared.Token.{Token}
 use Rattle.vpg.specs.believed.Grammar.{Rules, General, left}
 use Rattle.vpg.specs.Runs.{Stack, runs, entries}
 use Rattle.capped.specs.Capped.{limit, cap, value}
-use Rattle.capped.specs.declared.Count.{Count}
+use Rattle.std.specs.Prelude.{Option, Some, None}
 use Rattle.level_theory.specs.Masks.{Nonterminals, masks, Calm, Match, Fits}
 use Rattle.level_theory.specs.Pending.{pending_at, close_of, due_at}
 use Rattle.level_theory.specs.Walk.{test_at, inner, later}
@@ -25,11 +25,13 @@ use Rattle.level_theory.proofs.Alive.{run_fits}
 use Rattle.level_theory.proofs.Local.{Turn, turn}
 use Rattle.level_theory.proofs.Pending.{calm_due, due_none, masks-outer}
 use Rattle.tables.specs.declared.Head.{Head}
+use Rattle.tables.specs.declared.Table.{Table}
 use Rattle.tables.specs.Table.{rule_in}
-use Rattle.tables.specs.Ready.{rules_of, grammar_in}
+use Rattle.tables.specs.Ready.{Below, rules_of, grammar_in}
 use Rattle.tables.proofs.Tables.{rules_at, rules_below, ready_general}
 use Rattle.history_file.specs.believed.HistoryFile.{token_of, tokens_of}
-use Rattle.levels.specs.Levels.{Setting}
+use Rattle.contexts.specs.declared.Context.{Context}
+use Rattle.levels.specs.Levels.{Stands, Setting}
 use Rattle.levels.proofs.Levels.{tokens_length, tokens_at, close_most}
 use Rattle.levels.proofs.Setting.{closing_room}
 use Rattle.count_theory.specs.Allowed.{anywhere}
@@ -37,10 +39,13 @@ use Rattle.count_theory.specs.Counts.{given, weight, counts, counts_at}
 use Rattle.count_theory.specs.Kth.{size, Onward}
 use Rattle.count_theory.specs.Kth as kth
 use Rattle.count_theory.proofs.Kth.{kth-next, inside_next, kth-last, all-free}
+use Rattle.count_rows.specs.declared.rows.Rows.{Rows}
 use Rattle.count_rows.specs.Rows.{value_at, Complete}
 use Rattle.kth_run.specs.declared.Found.{Found}
 use Rattle.kth_run.specs.declared.Sought.{Sought}
+use Rattle.kth_run.specs.Search.{Finds}
 use Rattle.kth_run.specs.Walk.{due_with, Chosen, due_product, Dues, count_in, number_in}
+use Rattle.kth_run.proofs.Chosen.{chosen}
 use Rattle.kth_run.proofs.Dues.{due_weight, first_due, dues_none, Apart, dues_next}
 
 -- ── sizes ──
@@ -58,7 +63,7 @@ element_is (x ∷ l) (suc k) e d h = element_is l k e d h
 
 -- ── the walk ──
 
-pub record Walking (t : List ℕ) (head : Head) (ts : List ℕ) (k : ℕ) (old new behind : List ℕ) (dues : List Count) (sought : Sought) (p : ℕ) : Type 0 where
+pub record Walking (t : Table) (head : Head) (ts : List ℕ) (k : ℕ) (old new behind : List ℕ) (dues : List (Option ℕ)) (sought : Sought) (p : ℕ) : Type 0 where
   pub most : p ≤ length ts
   pub room : length behind ≡ 1025
   pub due_room : length dues ≡ 1025
@@ -70,7 +75,7 @@ pub record Walking (t : List ℕ) (head : Head) (ts : List ℕ) (k : ℕ) (old n
   pub onward : Onward (rules_of t head) (head.start, []) (tokens_of ts) k (take p new) p (sought.nonterminal, due_at head.well behind (pending_at (tokens_of ts) p) sought.nonterminal) sought.number
   pub kept : drop (suc (length (tokens_of ts))) new ≡ drop (suc (length (tokens_of ts))) old
 
-module _ {t : List ℕ} {head : Head} {ts closes mask rows : List ℕ} (x : Setting t head ts closes mask) (c : Complete anywhere head.well (rules_of t head) (tokens_of ts) rows) (k : ℕ) (old : List ℕ) (long : length ts < length old) where
+module _ {t : Table} {head : Head} {ts closes mask : List ℕ} {rows : Rows} (x : Setting t head ts closes mask) (c : Complete anywhere head.well (rules_of t head) (tokens_of ts) rows) (k : ℕ) (old : List ℕ) (long : length ts < length old) where
   abbrev W : List Token
   W = tokens_of ts
 
@@ -83,11 +88,11 @@ module _ {t : List ℕ} {head : Head} {ts closes mask rows : List ℕ} (x : Sett
   form : General U G
   form = ready_general t head x.indexed.ready
 
-  abbrev Walks : List ℕ → List ℕ → List Count → Sought → ℕ → Type 0
+  abbrev Walks : List ℕ → List ℕ → List (Option ℕ) → Sought → ℕ → Type 0
   Walks new behind dues sought p = Walking t head ts k old new behind dues sought p
 
-  pub walking_start : (behind : List ℕ) (dues : List Count) → length behind ≡ 1025 → length dues ≡ 1025 → ((j : ℕ) → j < 1025 → count_in dues j ≡ 1) → k < limit → k < length (entries (grammar_in t head) W) →
-      Walks old behind dues (record { nonterminal = head.start; due = Count.Exact 1; number = k }) 0
+  pub walking_start : (behind : List ℕ) (dues : List (Option ℕ)) → length behind ≡ 1025 → length dues ≡ 1025 → ((j : ℕ) → j < 1025 → count_in dues j ≡ 1) → k < limit → k < length (entries (grammar_in t head) W) →
+      Walks old behind dues (record { nonterminal = head.start; due = Some 1; number = k }) 0
   walking_start behind dues b d one small h = record {
     most = omega arith;
     room = b;
@@ -114,7 +119,7 @@ module _ {t : List ℕ} {head : Head} {ts closes mask rows : List ℕ} (x : Sett
       first : count_in dues (close_of (pending_at W 0) (length W)) ≡ 1
       first = one _ (omega (arith, close_most W 0, tokens_length ts, x.tokens.few))
 
-  module _ {new behind : List ℕ} {dues : List Count} {sought : Sought} {p : ℕ} (s : Walks new behind dues sought p) (found : Found) (chosen : Chosen U G W rows p sought found) where
+  module _ {new behind : List ℕ} {dues : List (Option ℕ)} {sought : Sought} {p : ℕ} (s : Walks new behind dues sought p) (found : Found) (chosen : Chosen U G W rows p sought found) where
     abbrev L : ℕ
     L = sought.nonterminal
 
@@ -169,7 +174,7 @@ module _ {t : List ℕ} {head : Head} {ts closes mask rows : List ℕ} (x : Sett
       close_counts : close_of (pending_at W (suc p)) (length W) < length W → (M : ℕ) → M < 32 → value_at rows (suc (close_of (pending_at W (suc p)) (length W))) M ≡ cap (counts_at anywhere U G W (suc (close_of (pending_at W (suc p)) (length W))) M)
       close_counts i M m = c.counted (suc (close_of (pending_at W (suc p)) (length W))) M (omega arith) i m
 
-      pub walking_next : (j : ℕ) → j ≡ close_of (pending_at W (suc p)) (length W) → (later-due : Count) → value later-due ≡ due_with (rule_in t found.rule) (value_at rows (suc j)) (value sought.due) (count_in dues j) →
+      pub walking_next : (j : ℕ) → j ≡ close_of (pending_at W (suc p)) (length W) → (later-due : Option ℕ) → value later-due ≡ due_with (rule_in t found.rule) (value_at rows (suc j)) (value sought.due) (count_in dues j) →
           Walks (set new p found.rule) (set behind j (later (rule_in t found.rule) (get_or behind j 0))) (set dues j later-due) (record { nonterminal = inner (rule_in t found.rule) (get_or behind p 0); due = later-due; number = found.number }) (p + 1)
       unfolding here_found
       walking_next j is later-due e =
@@ -179,8 +184,8 @@ module _ {t : List ℕ} {head : Head} {ts closes mask rows : List ℕ} (x : Sett
             room = length-set behind _ _ ∙ s.room;
             due_room = length-set dues _ _ ∙ s.due_room;
             as_long = length-set new p found.rule ∙ s.as_long;
-            due_is = sym (ap value (get_or-set_same dues Close later-due (Count.Exact 0) due_room));
-            due = dues_next U G W p (counts_at anywhere U G W) (number_in behind) (number_in behind') (count_in dues) (count_in dues') here_turn.goes (form _ _ here_found.is) calm here here_turn.fits apart (value_at rows (suc Close)) (value sought.due) (x.indexed.ready.small found.rule found_below) close_counts due_first (get_or-set_same behind Close _ 0 room) (ap value (get_or-set_same dues Close later-due (Count.Exact 0) due_room) ∙ rw is at e) refl s.due;
+            due_is = sym (ap value (get_or-set_same dues Close later-due (Some 0) due_room));
+            due = dues_next U G W p (counts_at anywhere U G W) (number_in behind) (number_in behind') (count_in dues) (count_in dues') here_turn.goes (form _ _ here_found.is) calm here here_turn.fits apart (value_at rows (suc Close)) (value sought.due) (x.indexed.ready.small found.rule found_below) close_counts due_first (get_or-set_same behind Close _ 0 room) (ap value (get_or-set_same dues Close later-due (Some 0) due_room) ∙ rw is at e) refl s.due;
             small = omega (arith, here_found.skipped, s.small);
             inside = inside_next anywhere U G form W p free (L, Rest) calm (token_of (get_or ts p 0)) (drop (suc p) W) here number found.rule found.number here_found _ _ here_turn.goes;
             onward = rw (take-suc-set new p found.rule (omega (arith, s.as_long))) (kth-next anywhere U G form W p free (L, Rest) calm (head.start, []) k (take p new) (token_of (get_or ts p 0)) (drop (suc p) W) here number found.rule found.number here_found _ _ here_turn.goes s.onward);
@@ -193,7 +198,7 @@ module _ {t : List ℕ} {head : Head} {ts closes mask rows : List ℕ} (x : Sett
           behind' : List ℕ
           behind' = set behind Close (later (rule_in t found.rule) (get_or behind Close 0))
 
-          dues' : List Count
+          dues' : List (Option ℕ)
           dues' = set dues Close later-due
 
           room : Close < length behind
@@ -203,7 +208,7 @@ module _ {t : List ℕ} {head : Head} {ts closes mask rows : List ℕ} (x : Sett
           due_room = rw s.due_room (closing_room x p (omega arith))
 
           apart : Apart U G W p (counts_at anywhere U G W) (number_in behind) (number_in behind') (count_in dues) (count_in dues')
-          apart = record { numbers = λ j d. sym (get_or-set_other behind Close j _ 0 d); values = λ j d. sym (ap value (get_or-set_other dues Close j later-due (Count.Exact 0) d)) }
+          apart = record { numbers = λ j d. sym (get_or-set_other behind Close j _ 0 d); values = λ j d. sym (ap value (get_or-set_other dues Close j later-due (Some 0) d)) }
 
     -- at the end
     pub walked : p ≡ length ts → set new p found.rule ≡ get_or (entries (grammar_in t head) W) k [] ++ drop (length ts + 1) old
@@ -214,3 +219,32 @@ module _ {t : List ℕ} {head : Head} {ts closes mask rows : List ℕ} (x : Sett
         let q : length ts + 1 ≡ suc p = omega (arith, e) in
         let z : suc p ≡ suc (length W) = omega (arith, e, tokens_length ts) in
         sym (take-append-drop (suc p) (set new p found.rule)) ∙ rw q (ap₂ ◌++◌ front (drop-set-lt (suc p) new p found.rule (omega arith) ∙ rw z s.kept))
+
+-- ── what a turn may take for granted ──
+
+module _ {t : Table} {head : Head} {ts closes mask : List ℕ} {rows : Rows} (x : Setting t head ts closes mask) (c : Complete anywhere head.well (rules_of t head) (tokens_of ts) rows) (k : ℕ) (old : List ℕ) (long : length ts < length old) {new behind : List ℕ} {dues : List (Option ℕ)} {sought : Sought} {p : ℕ} (s : Walking t head ts k old new behind dues sought p) (context : Context) (stands : (W : ℕ) → Stands W (tokens_of ts) mask p context) where
+  module _ (found : Found) (finds : Finds t head sought context rows found) where
+    goes : Chosen head.well (rules_of t head) (tokens_of ts) rows p sought found
+    goes = chosen x rows p context (stands head.well) sought found finds
+
+    -- what was found is a rule
+    pub rule_room : found.rule < 128
+    rule_room = omega (arith, x.indexed.ready.few, found_below x c k old long s found goes)
+
+    pub rule_small : Below 32 (rule_in t found.rule)
+    rule_small = x.indexed.ready.small found.rule (found_below x c k old long s found goes)
+
+    -- the walk goes on
+    pub turned : p < length ts → (later-due : Option ℕ) → value later-due ≡ due_with (rule_in t found.rule) (value_at rows (suc context.closing)) (value sought.due) (count_in dues context.closing) →
+        Walking t head ts k old (set new p found.rule) (set behind context.closing (later (rule_in t found.rule) (get_or behind context.closing 0))) (set dues context.closing later-due) (record { nonterminal = inner (rule_in t found.rule) (get_or behind p 0); due = later-due; number = found.number }) (p + 1)
+    turned more later-due e = walking_next x c k old long s found goes more context.closing (stands head.well).closing later-due e
+
+    -- and at the end the reading is written
+    pub done : p ≡ length ts → set new p found.rule ≡ get_or (entries (grammar_in t head) (tokens_of ts)) k [] ++ drop (length ts + 1) old
+    done e = walked x c k old long s found goes e
+
+-- inside a list it is all the same what is said to stand outside
+pub same_inside : (l : List (Option ℕ)) (j : ℕ) → j < length l → get_or l j None ≡ get_or l j (Some 0)
+same_inside [] j h = absurd (omega arith)
+same_inside (x ∷ l) zero h = refl
+same_inside (x ∷ l) (suc j) h = same_inside l j (omega arith)

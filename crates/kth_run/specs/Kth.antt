@@ -1,12 +1,12 @@
 -- Reading number k, as the core of its service gives it.
 -- Law: kth_is, kth_above (kth_run/proofs/Whole.antt)
-use Rattle.std.specs.Prelude.{ℕ, zero, suc, Bool, true, false, cond, List, ◌++◌, ltb, length, drop}
+use Rattle.std.specs.Prelude.{ℕ, zero, suc, Bool, true, false, cond, Result, Ok, Err, List, ◌++◌, ltb, length, drop}
 use Rattle.listing_model.specs.believed.Listing.{entry}
-use Rattle.kth_run.specs.declared.KthAnswer.{KthAnswer}
+use Rattle.kth_run.specs.declared.NoSuchReading.{NoSuchReading}
 
-abbrev pub was_written : KthAnswer → Bool
-was_written KthAnswer.Written = true
-was_written KthAnswer.NoSuch = false
+abbrev pub was_written : Result Unit NoSuchReading → Bool
+was_written (Ok u) = true
+was_written (Err e) = false
 
 -- is there an entry of number k, from 1
 abbrev pub has_entry : List (List ℕ) → ℕ → Bool

@@ -1,18 +1,18 @@
 -- The walk over the tokens: what is due behind each pending close.
 -- Law: walking_next (kth_run/proofs/Walking.antt)
-use Rattle.std.specs.Prelude.{ℕ, suc, ◌*◌, ◌<◌, ◌≡◌, Bool, true, false, cond, List, [], ◌∷◌, ltb, length, drop, get_or}
+use Rattle.std.specs.Prelude.{ℕ, suc, ◌*◌, ◌<◌, ◌≡◌, Bool, true, false, cond, Option, Some, List, [], ◌∷◌, ltb, length, drop, get_or}
 use Rattle.vpg.specs.declared.Rule.{Rule}
 use Rattle.vpg.specs.declared.Token.{Token}
 use Rattle.vpg.specs.believed.Grammar.{Rules}
 use Rattle.vpg.specs.Runs.{Stack, runs}
 use Rattle.capped.specs.Capped.{limit, cap, value}
-use Rattle.capped.specs.declared.Count.{Count}
 use Rattle.level_theory.specs.Masks.{Calm}
 use Rattle.level_theory.specs.Pending.{Closes}
 use Rattle.count_theory.specs.Allowed.{Allowed}
 use Rattle.count_theory.specs.Counts.{Counts, counts, weight}
 use Rattle.count_theory.specs.Kth.{Free, size}
 use Rattle.count_theory.specs.Kth as kth
+use Rattle.count_rows.specs.declared.rows.Rows.{Rows}
 use Rattle.count_rows.specs.Rows.{Complete}
 use Rattle.kth_run.specs.declared.Sought.{Sought}
 use Rattle.kth_run.specs.declared.Found.{Found}
@@ -25,7 +25,7 @@ due_with (Rule.Next M i M₁) x due old = due
 due_with (Rule.Step M a M₁ b M₂) x due old = cap (x M₂ * due)
 
 -- the rule that the run of a number has at position p, by arrays of counts of all runs, whatever stack is due, if its count is known
-abbrev pub Chosen : ℕ → Rules → List Token → List ℕ → ℕ → Sought → Found → Type 0
+abbrev pub Chosen : ℕ → Rules → List Token → Rows → ℕ → Sought → Found → Type 0
 Chosen W g w rows p sought x =
     (ok : Allowed) (s : Stack) → Calm W sought.nonterminal s → Complete ok W g w rows → Free ok W g w (suc p) →
     value sought.due ≡ cap (weight W sought.nonterminal s (counts ok W g p (drop p w)).1) →
@@ -49,8 +49,8 @@ Dues W C f v n [] L = v n ≡ 1
 Dues W C f v n (d ∷ l) L = (v d.1 ≡ cap (due_product W C f (d ∷ l) L)) × IfTrue (ltb L W) (Dues W C f v n l (f d.1))
 
 -- the values of counts in an array, and the numbers of another
-abbrev pub count_in : List Count → ℕ → ℕ
-count_in dues j = value (get_or dues j (Count.Exact 0))
+abbrev pub count_in : List (Option ℕ) → ℕ → ℕ
+count_in dues j = value (get_or dues j (Some 0))
 
 abbrev pub number_in : List ℕ → ℕ → ℕ
 number_in f j = get_or f j 0

@@ -1,17 +1,15 @@
 // Reading number k, forward over the tokens: at each position the rule is found by how many readings each rule has.
 #![tactic(auto)]
 
-ghost use Rattle.std.specs.Prelude.{◌≡◌, false, ◌&&◌, List, ℕ, suc, ◌+◌, ◌*◌, ◌<◌, ltb, length};
-ghost use Rattle.vpg.specs.believed.Grammar.{Rules};
+ghost use Rattle.std.specs.Prelude.{◌≡◌, false, suc, ◌+◌, ◌*◌, ◌++◌, ◌<◌, length, get_or, drop, []};
 ghost use Rattle.vpg.specs.Runs.{entries};
 ghost use Rattle.capped.specs.Capped.{cap, value};
+ghost use Rattle.count_theory.specs.Allowed.{anywhere};
 ghost use Rattle.tables.specs.Table.{rule_from, rule_in};
-ghost use Rattle.tables.specs.Ready.{Below, grammar_in};
-ghost use Rattle.rule_index.specs.Index.{Indexed};
-ghost use Rattle.count_rows.specs.Rows.{value_at, parts_at};
-ghost use Rattle.history_file.specs.believed.HistoryFile.{tokens_of};
+ghost use Rattle.tables.specs.Ready.{Below};
+ghost use Rattle.count_rows.specs.Rows.{Complete, value_at, parts_at};
 ghost use Rattle.contexts.specs.Context.{may_end};
-ghost use Rattle.levels.specs.Levels.{Leveled, derives_all, Setting};
+ghost use Rattle.levels.specs.Prepared.{prepared_grammar, prepared_rules, prepared_tokens};
 ghost use Rattle.kth_run.specs.Search.{Finds};
 ghost use Rattle.kth_run.specs.Walk.{due_with};
 ghost use Rattle.kth_run.specs.Kth.{was_written, kth_written};
@@ -19,18 +17,19 @@ ghost use Rattle.kth_run.specs.Kth.{was_written, kth_written};
 use capped::Count;
 use contexts::Context;
 use count_rows::Rows;
-use levels::{Closes, Masks};
-use tables::{Head, Six, Table};
+use levels::Prepared;
+use rule_index::IndexedGrammar;
+use tables::Six;
 
 // How many readings have rule r at a position where it fits: any derivation of each of its parts, and any of what is due behind its level.
-fn size_of(table: &Table, r: usize, context: Context, due: Count, rows: &Rows) -> Count
-    requires r_bound { (r < 128) × Below 32 (rule_in table.now r) }
+fn size_of(grammar: &IndexedGrammar, r: usize, context: Context, due: Count, rows: &Rows) -> Count
+    requires r_bound { (r < 128) × Below 32 (rule_in grammar.now.table.now r) }
     requires position_bound { (context.position < 1025) × (context.closing < 1025) }
-    ensures { value result ≡ cap (parts_at rows.now context (rule_in table.now r) * value due) }
+    ensures { value result ≡ cap (parts_at rows.now context (rule_in grammar.now.table.now r) * value due) }
 {
-    let overs = count_rows::overs_behind(rows, context.position, context.closing);
+    let overs = rows.overs_behind(context);
     let parts = count_rows::parts_of(
-        tables::rule_of(table, r),
+        tables::rule_of(grammar.table, r),
         rows,
         context.position,
         context.closing,
@@ -55,21 +54,17 @@ pub struct Found {
     pub number: u64,
 }
 
-// Where the nonterminal can't only end: rule by rule of the token's class, past the readings of each.
-fn class_search(table: &Table, head: Head, sought: Sought, context: Context, rows: &Rows) -> Found
-    requires indexed { Indexed table.now head × (may_end head.well context sought.nonterminal ≡ false) }
+// Where the nonterminal can't only end: rule by rule of the token's class, past the readings of each. Behind the last rule nothing was found, which an
+// Option would say no plainer: whoever asks knows that there are as many readings.
+fn class_search(grammar: &IndexedGrammar, sought: Sought, context: Context, rows: &Rows) -> Found
+    requires may_end { may_end grammar.now.head.well context sought.nonterminal ≡ false }
     requires position_bound { (context.position < 1025) × (context.closing < 1025) }
-    ensures { Finds table.now head sought context rows.now result }
+    ensures { Finds grammar.now.table.now grammar.now.head sought context rows.now result }
 {
-    let count = head.rules;
-    let due = sought.due;
     let mut number = sought.number;
-    let mut r = contexts::first_here(table, context);
-    while r < count {
-        let rule = r;
-        r = rule_index::next_of(table, rule);
-        if moves::takes(table, head, rule, sought.nonterminal, context) {
-            let size = size_of(table, rule, context, due, rows);
+    for rule in contexts::rules_here(grammar, context) {
+        if moves::takes(grammar, rule, sought.nonterminal, context) {
+            let size = size_of(grammar, rule, context, sought.due, rows);
             if capped::is_below(number, size) {
                 return Found { rule, number };
             }
@@ -77,117 +72,95 @@ fn class_search(table: &Table, head: Head, sought: Sought, context: Context, row
         }
     }
     Found {
-        rule: count,
+        rule: grammar.head.rules,
         number,
     }
 }
 
 // At any position. Where the nonterminal can only end, it has one empty rule at most, and every reading has it.
-fn search(table: &Table, head: Head, sought: Sought, context: Context, rows: &Rows) -> Found
-    requires indexed { Indexed table.now head }
-    requires position_bound { (context.position < 1025) × (context.closing < 1025) }
-    ensures { Finds table.now head sought context rows.now result }
+fn search(grammar: &IndexedGrammar, sought: Sought, context: Context, rows: &Rows) -> Found
+    requires { (context.position < 1025) × (context.closing < 1025) }
+    ensures { Finds grammar.now.table.now grammar.now.head sought context rows.now result }
 {
-    if contexts::may_end(head, context, sought.nonterminal) {
-        let rule = moves::empty_rule(table, head, sought.nonterminal);
-        let number = sought.number;
-        return Found { rule, number };
+    if !contexts::may_end(grammar.head, context, sought.nonterminal) {
+        return class_search(grammar, sought, context, rows);
     }
-    class_search(table, head, sought, context, rows)
+    Found {
+        rule: moves::empty_rule(grammar, sought.nonterminal),
+        number: sought.number,
+    }
 }
 
 // What is due at the next position: behind a token that is taken alone what was due at it, inside a step the derivations of its level's rest, each
 // with all that is due behind the step's level, and behind the end of a level what is due behind the next close.
-fn due_behind(rule: Six, close: usize, rows: &Rows, sought: Sought, old: Count) -> Count
+fn due_behind(rule: Six, close: usize, rows: &Rows, due: Count, old: Count) -> Count
     requires { Below 32 (rule_from rule) × (close < 1025) }
-    ensures { value result ≡ due_with (rule_from rule) (value_at rows.now (suc close)) (value sought.due) (value old) }
+    ensures { value result ≡ due_with (rule_from rule) (value_at rows.now (suc close)) (value due) (value old) }
 {
-    if rule.0 == 0 {
-        return old;
+    match rule.0 {
+        0 => old,
+        2 => capped::product(rows.count_at(close + 1, rule.5 as usize), due),
+        _ => due,
     }
-    let outer = sought.due;
-    if rule.0 == 2 {
-        return capped::product(
-            count_rows::count_at(rows, close + 1, rule.5 as usize),
-            outer,
-        );
-    }
-    outer
 }
 
-fn seek(nonterminal: u16, due: Count, number: u64) -> Sought
-    ensures { result ≡ record { nonterminal = nonterminal; due = due; number = number } }
+// Writes the reading of this number, counted from 0. There are as many.
+fn walk(input: &Prepared, number: u64, rows: &Rows, out: &mut [u8])
+    requires room { length input.now.tokens.now < length out.old }
+    requires complete { Complete anywhere input.now.grammar.head.well (prepared_rules input.now) (prepared_tokens input.now) rows.now }
+    requires more { number < length (entries (prepared_grammar input.now) (prepared_tokens input.now)) }
+    ensures { out.new ≡ get_or (entries (prepared_grammar input.now) (prepared_tokens input.now)) number [] ++ drop (length input.now.tokens.now + 1) out.old }
 {
-    Sought {
-        nonterminal,
-        due,
+    let grammar = &input.grammar;
+    let n = input.tokens.len();
+    let mut behind = [0u16; 1025];
+    let mut dues = [Some(1); 1025];
+    let mut sought = Sought {
+        nonterminal: grammar.head.start,
+        due: Some(1),
         number,
+    };
+    for p in 0..n {
+        let context = levels::context_at(input, p);
+        let close = context.closing;
+        let found = search(grammar, sought, context, rows);
+        let rule = tables::six_in(grammar.table, found.rule);
+        out[p] = found.rule as u8;
+        let due = due_behind(rule, close, rows, sought.due, dues[close]);
+        dues[close] = due;
+        sought = Sought {
+            nonterminal: moves::inner_of(rule, behind[p]),
+            due,
+            number: found.number,
+        };
+        moves::store_later(&mut behind, close, rule);
     }
+    let end = levels::context_at(input, n);
+    out[n] = search(grammar, sought, end, rows).rule as u8;
 }
 
-// The reading was written, or there is none of this number.
-#[derive(Clone, Copy)]
-pub enum KthAnswer {
-    Written,
-    NoSuch,
-}
-
-// Whether there may be a reading of number k: readings are counted from 1, and the start derives all tokens.
-fn may_have(masks: &Masks, head: Head, k: u64) -> bool
-    requires { head.start < 32 }
-    ensures { (g : Rules) (ts : List ℕ) → Leveled head.well g (tokens_of ts) masks.now 0 → result ≡ (ltb 0 k && derives_all head.well g (tokens_of ts) head.start) }
-{
-    if 0 < k {
-        return levels::derives_all(masks, head);
-    }
-    false
-}
-
-// Whether there are more than i readings, by the counts of all.
-fn has_more(rows: &Rows, head: Head, i: u64) -> bool
-    requires { head.start < 32 }
-    ensures { result ≡ ltb i (value_at rows.now 0 head.start) }
-{
-    capped::is_below(i, count_rows::count_at(rows, 0, head.start as usize))
-}
+// No reading has the number.
+#[derive(Clone, Copy, Debug, PartialEq, Eq)]
+pub struct NoSuchReading;
 
 // Writes the reading of number k, counted from 1, if there are as many.
-pub fn kth(
-    table: &Table,
-    head: Head,
-    tokens: &[u32],
-    closes: &Closes,
-    masks: &Masks,
-    k: u64,
-    out: &mut [u8],
-) -> KthAnswer
-    requires { Setting table.now head tokens.now closes.now masks.now × (length tokens.now < length out.old) }
-    ensures { (was_written result, out.new) ≡ kth_written (entries (grammar_in table.now head) (tokens_of tokens.now)) k (length tokens.now + 1) out.old }
+pub fn kth(input: &Prepared, k: u64, out: &mut [u8]) -> Result<(), NoSuchReading>
+    requires { length input.now.tokens.now < length out.old }
+    ensures { (was_written result, out.new) ≡ kth_written (entries (prepared_grammar input.now) (prepared_tokens input.now)) k (length input.now.tokens.now + 1) out.old }
 {
-    if may_have(masks, head, k) {
-        let mut rows = [0u64; 33858];
-        count_rows::all_rows(table, head, tokens, closes, masks, &mut rows);
-        if has_more(&rows, head, k - 1) {
-            let mut behind = [0u16; 1025];
-            let mut dues = [Count::Exact(1); 1025];
-            let mut sought = seek(head.start, Count::Exact(1), k - 1);
-            let mut p: usize = 0;
-            while p < tokens.len() {
-                let context = levels::context_at(tokens, closes, masks, p);
-                let found = search(table, head, sought, context, &rows);
-                let rule = tables::six_in(table, found.rule);
-                out[p] = found.rule as u8;
-                let close = context.closing;
-                let due = due_behind(rule, close, &rows, sought, dues[close]);
-                dues[close] = due;
-                sought = seek(moves::inner_of(rule, behind[p]), due, found.number);
-                moves::store_later(&mut behind, close, rule);
-                p += 1;
-            }
-            let end = levels::context_at(tokens, closes, masks, p);
-            out[p] = search(table, head, sought, end, &rows).rule as u8;
-            return KthAnswer::Written;
-        }
+    let number = k.checked_sub(1).ok_or(NoSuchReading)?;
+    if !levels::derives_all(input) {
+        return Err(NoSuchReading);
     }
-    KthAnswer::NoSuch
+    let mut rows = Rows {
+        counts: [[0; 32]; 1026],
+        overs: [0; 1026],
+    };
+    count_rows::rows_of(input, None, &mut rows);
+    let total = rows.count_at(0, input.grammar.head.start as usize);
+    if !capped::is_below(number, total) {
+        return Err(NoSuchReading);
+    }
+    walk(input, number, &rows, out);
+    Ok(())
 }

@@ -1,12 +1,12 @@
 -- One step of the passes over the positions: the matching closes, and what stands at a position.
-use Prim.Native.Nat.{ℕ, zero, suc, ◌+◌, ◌*◌, ◌-◌, ◌/◌, ◌%◌, ◌<◌, ◌≤◌}
-use native.Mathlib.Nat.{le_of_suc-le-suc, not-suc-le-zero, eq-or-lt_of_le, mod-lt}
+use Prim.Native.Nat.{ℕ, zero, suc, ◌+◌, ◌*◌, ◌-◌, ◌/◌, ◌<◌, ◌≤◌}
+use native.Mathlib.Nat.{le_of_suc-le-suc, not-suc-le-zero, eq-or-lt_of_le}
 use native.Mathlib.Omega.{arith}
 use mathlib.Core.Path.{◌≡◌, refl, sym, ◌∙◌, ap}
 use mathlib.Core.Logic.{⊎_elim}
 use mathlib.Core.Bool.{Bool, true, false, cond, ◌&&◌, and-false, and_comm}
 use mathlib.Core.List.{List, [], ◌∷◌, map, Memᴰ}
-use borrow.Author.Tests.{lt-leb, lt-ltb, le-ltb}
+use borrow.Author.Tests.{leb-false, lt-leb, lt-ltb, le-ltb}
 use lib.Dec.{eqb, leb}
 use lib.ListN.{length, drop, get_or, set, drop_of_length-le, length-map}
 use lib.Seq.{get_or-set_same, get_or-set_other}
@@ -26,16 +26,18 @@ use Rattle.level_theory.specs.Walk.{test_at}
 use Rattle.level_theory.proofs.Walk.{level_test}
 use Rattle.level_theory.proofs.Pending.{pending-from, pending_next, pending_close, pending-rest, masks-outer}
 use Rattle.contexts.specs.declared.Context.{Context}
-use Rattle.contexts.specs.Context.{applies_to, end_context, level_in}
+use Rattle.contexts.proofs.NumberedKinds.{numbered_token, numbered_end}
+use Rattle.contexts.specs.Context.{code, applies_to, end_context, level_in}
 use Rattle.contexts.proofs.Contexts.{level-bit}
 use Rattle.contexts.proofs.Ends.{level-ends}
 use Rattle.tables.specs.declared.Head.{Head}
+use Rattle.tables.specs.declared.Table.{Table}
 use Rattle.tables.specs.Table.{rule_in, rules_in}
 use Rattle.tables.specs.Ready.{Below, rules_of}
 use Rattle.rule_index.specs.Goals.{goal}
 use Rattle.rule_index.specs.Index.{Indexed, ends_in}
 use Rattle.history_file.specs.believed.HistoryFile.{kind, token_with, token_of, tokens_of}
-use Rattle.levels.specs.Levels.{next_top, Matched, Leveled, Stands, floor_of}
+use Rattle.levels.specs.Levels.{kind_of, next_top, Matched, Leveled, Stands, floor_of}
 
 -- ── tokens and their numbers ──
 
@@ -58,6 +60,14 @@ close_of_lem t b h = go (eqb (kind t) 0) (eqb (kind t) 1) h
       where
         named : {x y : CloseName} → Token.Close x ≡ Token.Close y → x ≡ y
         named q = cc
+
+-- the kind of a token: its number makes the same token, and none is that of the end
+pub kind_token : (t : ℕ) → token_with (code (kind_of t)) (t / 4) ≡ token_of t
+unfolding token_of
+kind_token t = numbered_token (kind t) (t / 4)
+
+pub kind_near : (t : ℕ) → code (kind_of t) < 4
+kind_near t = leb-false 4 (code (kind_of t)) (numbered_end (kind t) ∙ lt-leb 4 (kind t) (omega arith))
 
 -- ── matching closes ──
 
@@ -146,10 +156,7 @@ module _ (W : ℕ) (ts mask : List ℕ) (p : ℕ) (here : p < length ts) where
 
   -- the context with the close b, and y as the word behind it
   abbrev Here : CloseName → ℕ → Context
-  Here b y = record { position = p; closing = Closing; kind = kind (get_or ts p 0); name = get_or ts p 0 / 4; inside = get_or mask (suc p) 0; close = b; after = y }
-
-  kind_below : (t : ℕ) → leb 4 (kind t) ≡ false
-  kind_below t = lt-leb 4 (t % 4) (mod-lt t {m = 4} (omega arith))
+  Here b y = record { position = p; closing = Closing; kind = kind_of (get_or ts p 0); name = get_or ts p 0 / 4; inside = get_or mask (suc p) 0; close = b; after = y }
 
   -- where what follows the close is right
   stands-with : (b : CloseName) (y : ℕ) →
@@ -160,8 +167,8 @@ module _ (W : ℕ) (ts mask : List ℕ) (p : ℕ) (here : p < length ts) where
     where
       right : (g : Rules) → Leveled W g T mask (suc p) → (R : Rule) → Below 32 R → applies_to W R (Here b y) ≡ test_at W g (drop p T) R
       right g l R small =
-          rw (tokens_at ts p here)
-          (same-stands (token_of (get_or ts p 0)) (rw (kind_below (get_or ts p 0))) (λ low L m. l (suc p) (omega arith) (rw tokens_length here) L m low) (k g l) R small)
+          rw (tokens_at ts p here, kind_token (get_or ts p 0))
+          (same-stands (token_of (get_or ts p 0)) (rw (lt-leb 4 (code (kind_of (get_or ts p 0))) (kind_near (get_or ts p 0)))) (λ low L m. l (suc p) (omega arith) (rw tokens_length here) L m low) (k g l) R small)
 
   pub stands-closed : (b : CloseName) → Closing < length ts → b.0 ≡ get_or ts Closing 0 / 4 → Stands W T mask p (Here b (get_or mask (suc Closing) 0))
   stands-closed b h e = stands-with b (get_or mask (suc Closing) 0) (λ g l k c L m. rw (masks-outer W g T (suc p)) (go g l (pending_at T (suc p)) refl k c L m))
@@ -235,12 +242,12 @@ word-joined set high n h e L l true = joined_low 32 set high L l
 word-joined set high n h e L l false = joined_high 32 set high L h ∙ e L ∙ and_comm (leb n L) (bit set L)
 
 -- tests that agree on the first n rules of a table
-pub any_like : (t : List ℕ) (f h : Rule → Bool) (n : ℕ) → ((r : ℕ) → r < n → f (rule_in t r) ≡ h (rule_in t r)) → any f (rules_in t n) ≡ any h (rules_in t n)
+pub any_like : (t : Table) (f h : Rule → Bool) (n : ℕ) → ((r : ℕ) → r < n → f (rule_in t r) ≡ h (rule_in t r)) → any f (rules_in t n) ≡ any h (rules_in t n)
 unfolding rules_in
 any_like t f h zero e = refl
 any_like t f h (suc n) e = any_snoc f (rules_in t n) (rule_in t n) ∙ rw (any_like t f h n (λ r l. e r (omega arith)), e n (omega arith)) (sym (any_snoc h (rules_in t n) (rule_in t n)))
 
-module _ (t : List ℕ) (head : Head) (x : Indexed t head) (ts : List ℕ) where
+module _ (t : Table) (head : Head) (x : Indexed t head) (ts : List ℕ) where
   abbrev G : Rules
   G = rules_of t head
 

@@ -9,13 +9,19 @@ use Rattle.level_theory.specs.Masks.{floor, onto, masks}
 use Rattle.level_theory.specs.Pending.{pending_at, close_of}
 use Rattle.level_theory.specs.Walk.{test_at}
 use Rattle.contexts.specs.declared.Context.{Context}
-use Rattle.contexts.specs.Context.{applies_to}
+use Rattle.contexts.specs.declared.Kind.{Kind}
+use Rattle.contexts.specs.Context.{kind_with, applies_to}
 use Rattle.tables.specs.declared.Head.{Head}
+use Rattle.tables.specs.declared.Table.{Table}
 use Rattle.tables.specs.Ready.{Below, rules_of}
 use Rattle.rule_index.specs.Goals.{goal}
 use Rattle.rule_index.specs.Index.{Indexed}
-use Rattle.history_file.specs.believed.HistoryFile.{tokens_of}
+use Rattle.history_file.specs.believed.HistoryFile.{kind, tokens_of}
 use Rattle.history_file.specs.HistoryTokens.{Tokens}
+
+-- the kind of the token of a number
+abbrev pub kind_of : ℕ → Kind
+kind_of t = kind_with (kind t)
 
 -- the first pending close from a token on; top: the first one behind the token, beyond: the one behind that
 abbrev pub next_top : Token → ℕ → ℕ → ℕ → ℕ
@@ -49,7 +55,7 @@ abbrev pub derives_all : ℕ → Rules → List Token → ℕ → Bool
 derives_all W g w L = onto false (floor W (masks W g w).1) (masks W g w).0 L
 
 -- what a pass over the tokens may take for granted: the rules and their index, tokens, the matching closes and the levels
-pub record Setting (table : List ℕ) (head : Head) (ts closes masks : List ℕ) : Type 0 where
+pub record Setting (table : Table) (head : Head) (ts closes masks : List ℕ) : Type 0 where
   pub indexed : Indexed table head
   pub tokens : Tokens ts
   pub matched : Matched (tokens_of ts) closes 0

@@ -5,47 +5,40 @@ ghost use Rattle.std.specs.Prelude.{◌≡◌, Bool, ℕ, ◌/◌, ◌<◌, ◌�
 ghost use Rattle.bits.specs.Bit.{bit};
 ghost use Rattle.vpg.specs.believed.Grammar.{Rules};
 ghost use Rattle.level_theory.specs.Masks.{onto};
-ghost use Rattle.contexts.specs.Context.{end_context};
+ghost use Rattle.contexts.specs.Context.{code, end_context};
 ghost use Rattle.rule_index.specs.Goals.{goal};
-ghost use Rattle.rule_index.specs.Index.{Indexed};
 ghost use Rattle.history_file.specs.believed.HistoryFile.{token_with, tokens_of};
 ghost use Rattle.history_file.specs.HistoryTokens.{Tokens};
 ghost use Rattle.levels.specs.Levels.{next_top, Matched, Leveled, Stands, floor_of, derives_all, Setting};
 
-use contexts::Context;
-use tables::{Head, Table};
+mod prepared;
+
+use contexts::{Context, Kind};
+pub use prepared::{Closes, Masks, Prepared};
+use rule_index::IndexedGrammar;
 use vpg::CloseName;
-
-// For each position the first pending close behind it: for an open, its own close. The number of tokens where there is none.
-pub type Closes = [u16; 1025];
-
-// For each position a word: digit L says that nonterminal L derives what is ahead in its level, digit 32 + L that it derives all that is left.
-pub type Masks = [u64; 1025];
 
 // A nonterminal for each position.
 pub type Nonterminals = [u16; 1025];
-
-fn wide(x: u16) -> usize
-    ensures { result ≡ x }
-{
-    x as usize
-}
 
 pub fn close_at(closes: &Closes, p: usize) -> usize
     requires { p < 1025 }
     ensures { result ≡ get_or closes.now p 0 }
 {
-    wide(closes[p])
+    closes[p] as usize
 }
 
 // The first pending close from position i on, where a token of this kind and of any name stands; top is the first one behind
 // the token, beyond the one behind that.
-fn next_top(kind: u32, i: usize, top: usize, beyond: usize) -> usize
-    ensures { (name : ℕ) → result ≡ next_top (token_with kind name) i top beyond }
+#[tactic(auto, unfolding(history_file::specs::believed::HistoryFile::token_with))]
+fn next_top(kind: Kind, i: usize, top: usize, beyond: usize) -> usize
+    ensures { (name : ℕ) → result ≡ next_top (token_with (code kind) name) i top beyond }
 {
-    // Two choices of a value, for fewer branches: those by kind cost more where histories vary (docs/SPEED.md).
-    let inner = if kind == 1 { beyond } else { top };
-    if kind < 2 { inner } else { i }
+    match kind {
+        Kind::Mark => top,
+        Kind::Open => beyond,
+        Kind::Close | Kind::End => i,
+    }
 }
 
 fn end_context(n: usize) -> Context
@@ -55,7 +48,7 @@ fn end_context(n: usize) -> Context
     Context {
         position: n,
         closing: n,
-        kind: 4,
+        kind: Kind::End,
         name: 0,
         inside: 0,
         close,
@@ -86,10 +79,10 @@ fn close_name(t: u32) -> CloseName
 fn context_in(tokens: &[u32], closes: &Closes, masks: &Masks, p: usize) -> Context
     requires tokens { Tokens tokens.now × (p < length tokens.now) }
     requires matched { Matched (tokens_of tokens.now) closes.now p }
-    ensures { ((W : ℕ) → Stands W (tokens_of tokens.now) masks.now p result) × (result.kind < 4) }
+    ensures { ((W : ℕ) → Stands W (tokens_of tokens.now) masks.now p result) × (code result.kind < 4) }
 {
     let t = tokens[p];
-    let kind = t % 4;
+    let kind = Kind::from(t % 4);
     let name = history_file::name_of(t);
     let inside = masks[p + 1];
     let closing = close_at(closes, p);
@@ -119,42 +112,39 @@ fn context_in(tokens: &[u32], closes: &Closes, masks: &Masks, p: usize) -> Conte
 }
 
 // What stands at any position.
-pub fn context_at(tokens: &[u32], closes: &Closes, masks: &Masks, p: usize) -> Context
-    requires tokens { Tokens tokens.now × (p ≤ length tokens.now) }
-    requires matched { Matched (tokens_of tokens.now) closes.now p }
-    ensures { (W : ℕ) → Stands W (tokens_of tokens.now) masks.now p result }
+pub fn context_at(input: &Prepared, p: usize) -> Context
+    requires { p ≤ length input.now.tokens.now }
+    ensures { (W : ℕ) → Stands W (tokens_of input.now.tokens.now) input.now.masks.now p result }
 {
-    if p == tokens.len() {
+    if p == input.tokens.len() {
         return end_context(p);
     }
-    context_in(tokens, closes, masks, p)
+    context_in(input.tokens, input.closes, input.masks, p)
 }
 
 // Fills both arrays.
-pub fn prepare(table: &Table, head: Head, tokens: &[u32], closes: &mut Closes, masks: &mut Masks)
-    requires indexed { Indexed table.now head × Tokens tokens.now }
+pub fn prepare(grammar: &IndexedGrammar, tokens: &[u32], closes: &mut Closes, masks: &mut Masks)
+    requires tokens { Tokens tokens.now }
     requires closes_len { (length closes.old ≡ 1025) × (length masks.old ≡ 1025) }
-    ensures { Setting table.now head tokens.now closes.new masks.new }
+    ensures { Setting grammar.now.table.now grammar.now.head tokens.now closes.new masks.new }
 {
     let n = tokens.len();
+    let well = grammar.head.well;
     closes[n] = n as u16;
-    masks[n] = word_of(rule_index::ends(table), n, n, head.well);
+    masks[n] = word_of(grammar.ends(), n, n, well);
     let mut top = n;
-    let mut i = n;
-    while 0 < i {
-        i -= 1;
+    for i in (0..n).rev() {
         let beyond = close_at(closes, top);
         closes[i] = top as u16;
         let context = context_in(tokens, closes, masks, i);
-        top = next_top(tokens[i] % 4, i, top, beyond);
-        masks[i] = word_of(contexts::level(table, head, context), top, n, head.well);
+        top = next_top(Kind::from(tokens[i] % 4), i, top, beyond);
+        masks[i] = word_of(contexts::level(grammar, context), top, n, well);
     }
 }
 
 // Whether the start derives all tokens.
-pub fn derives_all(masks: &Masks, head: Head) -> bool
-    requires { head.start < 32 }
-    ensures { (g : Rules) (ts : List ℕ) → Leveled head.well g (tokens_of ts) masks.now 0 → result ≡ derives_all head.well g (tokens_of ts) head.start }
+pub fn derives_all(input: &Prepared) -> bool
+    ensures { (g : Rules) (ts : List ℕ) → Leveled input.now.grammar.head.well g (tokens_of ts) input.now.masks.now 0 → result ≡ derives_all input.now.grammar.head.well g (tokens_of ts) input.now.grammar.head.start }
 {
-    bits::has_wide(masks[0], 32 + head.start as usize)
+    bits::has(input.masks[0], 32 + input.grammar.head.start as usize)
 }

@@ -7,6 +7,10 @@ use Rattle.lines.specs.declared.Cursor.{Cursor}
 abbrev pub Laid : Type 0
 Laid = Cursor × List ℕ
 
+-- before the first byte of the text
+abbrev pub at_start : Cursor
+at_start = record { before = 0; at = 0 }
+
 -- behind a full buffer of so many bytes
 abbrev pub behind_full : ℕ → ℕ → Cursor
 behind_full before size = record { before = (before + size) % 2 ^ 64; at = 0 }

@@ -1,12 +1,8 @@
-// The lines of a listing, written to a buffer; a full buffer goes out as a piece of the text. Each answers the place behind its line.
+// The lines of a listing, written to a buffer; a full buffer goes out as a piece of the text.
 #![tactic(auto)]
 
-ghost use Rattle.std.specs.Prelude.{◌≡◌, ◌+◌, [], ◌∷◌, ◌++◌, length};
-ghost use Rattle.streams.specs.believed.Sent.{Sent};
-ghost use Rattle.lines.specs.Laid.{put, laid, behind_full, piece, gone};
-ghost use Rattle.lines.specs.believed.Text.{decimal, reading_text, tokens_line, choices_line, none_line, reading_line, end_line, more_line, refused_grammar_line, refused_history_line};
-
 use std::io::Write;
+use std::mem;
 use streams::Sink;
 
 // How many bytes of the text went out before those in the buffer, and where in the buffer the next one goes.
@@ -16,179 +12,156 @@ pub struct Cursor {
     pub at: usize,
 }
 
-// Hands a full buffer to the sink; the next byte goes to its start.
-fn piece_out<W: Write>(out: &[u8], before: usize, sink: &mut Sink<W>) -> Cursor
-    ensures place { result ≡ behind_full before (length out.now) }
-    ensures sent { Sent W.contents sink.old sink.new out.now }
-{
-    sink.put(out);
-    Cursor {
-        before: before.wrapping_add(out.len()),
-        at: 0,
-    }
+// A text on its way out: the buffer, the place in it, and the sink that a full buffer is handed to.
+pub struct Text<'a, W> {
+    pub out: &'a mut [u8],
+    pub cursor: Cursor,
+    pub sink: &'a mut Sink<W>,
 }
 
-// One byte, where there is room for any.
-pub fn put_byte<W: Write>(out: &mut [u8], p: Cursor, b: u8, sink: &mut Sink<W>) -> Cursor
-    ensures place { (result, out.new) ≡ put (p, out.old) b }
-    ensures sent { Sent W.contents sink.old sink.new (piece (p, out.old) b) }
-{
-    let before = p.before;
-    let at = p.at;
-    let size = out.len();
-    if at < size {
-        out[at] = b;
-        if at + 1 == size {
-            return piece_out(out, before, sink);
+impl<'a, W: Write> Text<'a, W> {
+    ghost use Rattle.std.specs.Prelude.{◌≡◌, [], ◌∷◌, ◌++◌, length};
+    ghost use Rattle.streams.specs.believed.Sent.{Sent};
+    ghost use Rattle.lines.specs.Laid.{at_start, behind_full};
+    ghost use Rattle.lines.specs.Lays.{Lays};
+    ghost use Rattle.lines.specs.believed.Text.{decimal, reading_text, number_line, tokens_line, choices_line, none_line, reading_line, end_line, more_line, refused_grammar_line, refused_history_line};
+
+    // Before the first byte of the text.
+    pub fn new(out: &'a mut [u8], sink: &'a mut Sink<W>) -> Text<'a, W>
+        ensures { result ≡ record { out = out.entry; cursor = at_start; sink = sink.entry } }
+    {
+        Text {
+            out,
+            cursor: Cursor { before: 0, at: 0 },
+            sink,
         }
-        return Cursor { before, at: at + 1 };
     }
-    p
-}
 
-pub fn put_bytes<W: Write>(out: &mut [u8], p: Cursor, bytes: &[u8], sink: &mut Sink<W>) -> Cursor
-    ensures place { (result, out.new) ≡ laid (p, out.old) bytes.now }
-    ensures sent { Sent W.contents sink.old sink.new (gone (p, out.old) bytes.now) }
-{
-    let mut cursor = p;
-    let mut i: usize = 0;
-    while i < bytes.len() {
-        cursor = put_byte(out, cursor, bytes[i], sink);
-        i += 1;
+    // Hands a full buffer to the sink; the next byte goes to its start.
+    fn piece_out(&mut self)
+        ensures place { self.new.cursor ≡ behind_full self.old.cursor.before (length self.old.out.now) }
+        ensures sent { Sent W.contents self.old.sink.now self.new.sink.now self.old.out.now }
+        ensures same_out { self.new.out ≡ self.old.out }
+        ensures same_sink { self.new.sink.ghost_name ≡ self.old.sink.ghost_name }
+    {
+        // taken out for the call: no proof is made of a body that lends two `&mut` fields at once
+        let out = mem::take(&mut self.out);
+        self.sink.put(out);
+        self.out = out;
+        self.cursor = Cursor {
+            before: self.cursor.before.wrapping_add(self.out.len()),
+            at: 0,
+        };
     }
-    cursor
-}
 
-// A number in decimal.
-pub fn put_number<W: Write>(out: &mut [u8], p: Cursor, n: u64, sink: &mut Sink<W>) -> Cursor
-    ensures place { (result, out.new) ≡ laid (p, out.old) (decimal n) }
-    ensures sent { Sent W.contents sink.old sink.new (gone (p, out.old) (decimal n)) }
-{
-    if n < 10 {
-        return put_byte(out, p, 48 + n as u8, sink);
+    // One byte, where there is room for any.
+    #[tactic(auto, unfolding(crate::specs::Laid::laid, crate::specs::Laid::gone))]
+    pub fn put_byte(&mut self, b: u8)
+        ensures { Lays W.contents self.old self.new (b ∷ []) }
+    {
+        let at = self.cursor.at;
+        if at < self.out.len() {
+            self.out[at] = b;
+            self.cursor.at = at + 1;
+            if at + 1 == self.out.len() {
+                self.piece_out();
+            }
+        }
     }
-    let front = put_number(out, p, n / 10, sink);
-    put_byte(out, front, 48 + (n % 10) as u8, sink)
-}
 
-// A word, a number and the line's end.
-fn number_line<W: Write>(
-    out: &mut [u8],
-    p: Cursor,
-    word: &[u8],
-    n: u64,
-    sink: &mut Sink<W>,
-) -> Cursor
-    ensures place { (result, out.new) ≡ laid (p, out.old) (word.now ++ decimal n ++ (10 ∷ [])) }
-    ensures sent { Sent W.contents sink.old sink.new (gone (p, out.old) (word.now ++ decimal n ++ (10 ∷ []))) }
-{
-    let behind = put_bytes(out, p, word, sink);
-    let end = put_number(out, behind, n, sink);
-    put_byte(out, end, 10, sink)
-}
-
-// How many tokens the history has.
-pub fn tokens_line<W: Write>(out: &mut [u8], p: Cursor, n: u64, sink: &mut Sink<W>) -> Cursor
-    ensures place { (result, out.new) ≡ laid (p, out.old) (tokens_line n) }
-    ensures sent { Sent W.contents sink.old sink.new (gone (p, out.old) (tokens_line n)) }
-{
-    number_line(out, p, b"tokens ", n, sink)
-}
-
-// How many positions are choices.
-pub fn choices_line<W: Write>(out: &mut [u8], p: Cursor, count: u64, sink: &mut Sink<W>) -> Cursor
-    ensures place { (result, out.new) ≡ laid (p, out.old) (choices_line count) }
-    ensures sent { Sent W.contents sink.old sink.new (gone (p, out.old) (choices_line count)) }
-{
-    number_line(out, p, b"choices ", count, sink)
-}
-
-// There is no reading.
-pub fn none_line<W: Write>(out: &mut [u8], p: Cursor, sink: &mut Sink<W>) -> Cursor
-    ensures place { (result, out.new) ≡ laid (p, out.old) none_line }
-    ensures sent { Sent W.contents sink.old sink.new (gone (p, out.old) none_line) }
-{
-    put_bytes(out, p, b"none\n", sink)
-}
-
-// All k readings were listed.
-pub fn end_line<W: Write>(out: &mut [u8], p: Cursor, k: u64, sink: &mut Sink<W>) -> Cursor
-    ensures place { (result, out.new) ≡ laid (p, out.old) (end_line k) }
-    ensures sent { Sent W.contents sink.old sink.new (gone (p, out.old) (end_line k)) }
-{
-    number_line(out, p, b"end ", k, sink)
-}
-
-// k readings were listed, and another follows.
-pub fn more_line<W: Write>(out: &mut [u8], p: Cursor, k: u64, sink: &mut Sink<W>) -> Cursor
-    ensures place { (result, out.new) ≡ laid (p, out.old) (more_line k) }
-    ensures sent { Sent W.contents sink.old sink.new (gone (p, out.old) (more_line k)) }
-{
-    number_line(out, p, b"more ", k, sink)
-}
-
-// The grammar file is refused by the number k.
-pub fn refused_grammar_line<W: Write>(
-    out: &mut [u8],
-    p: Cursor,
-    k: u64,
-    sink: &mut Sink<W>,
-) -> Cursor
-    ensures place { (result, out.new) ≡ laid (p, out.old) (refused_grammar_line k) }
-    ensures sent { Sent W.contents sink.old sink.new (gone (p, out.old) (refused_grammar_line k)) }
-{
-    number_line(out, p, b"refused grammar ", k, sink)
-}
-
-// The history file is refused by the number k.
-pub fn refused_history_line<W: Write>(
-    out: &mut [u8],
-    p: Cursor,
-    k: u64,
-    sink: &mut Sink<W>,
-) -> Cursor
-    ensures place { (result, out.new) ≡ laid (p, out.old) (refused_history_line k) }
-    ensures sent { Sent W.contents sink.old sink.new (gone (p, out.old) (refused_history_line k)) }
-{
-    number_line(out, p, b"refused history ", k, sink)
-}
-
-// One rule number of a reading, with the blank before it.
-fn put_rule<W: Write>(out: &mut [u8], p: Cursor, x: u8, sink: &mut Sink<W>) -> Cursor
-    ensures place { (result, out.new) ≡ laid (p, out.old) (32 ∷ decimal x) }
-    ensures sent { Sent W.contents sink.old sink.new (gone (p, out.old) (32 ∷ decimal x)) }
-{
-    let behind = put_byte(out, p, 32, sink);
-    put_number(out, behind, x as u64, sink)
-}
-
-// The rule numbers of a reading, each with a blank before it.
-fn put_rules<W: Write>(out: &mut [u8], p: Cursor, reading: &[u8], sink: &mut Sink<W>) -> Cursor
-    ensures place { (result, out.new) ≡ laid (p, out.old) (reading_text reading.now) }
-    ensures sent { Sent W.contents sink.old sink.new (gone (p, out.old) (reading_text reading.now)) }
-{
-    let mut cursor = p;
-    let mut i: usize = 0;
-    while i < reading.len() {
-        cursor = put_rule(out, cursor, reading[i], sink);
-        i += 1;
+    pub fn put_bytes(&mut self, bytes: &[u8])
+        ensures { Lays W.contents self.old self.new bytes.now }
+    {
+        for &b in bytes {
+            self.put_byte(b);
+        }
     }
-    cursor
-}
 
-// The reading number k.
-pub fn reading_line<W: Write>(
-    out: &mut [u8],
-    p: Cursor,
-    k: u64,
-    reading: &[u8],
-    sink: &mut Sink<W>,
-) -> Cursor
-    ensures place { (result, out.new) ≡ laid (p, out.old) (reading_line k reading.now) }
-    ensures sent { Sent W.contents sink.old sink.new (gone (p, out.old) (reading_line k reading.now)) }
-{
-    let behind = put_number(out, p, k, sink);
-    let colon = put_byte(out, behind, 58, sink);
-    let end = put_rules(out, colon, reading, sink);
-    put_byte(out, end, 10, sink)
+    // A number in decimal, by recursion: `write!` promises nothing of the text where it fails.
+    pub fn put_number(&mut self, n: usize)
+        ensures { Lays W.contents self.old self.new (decimal n) }
+    {
+        if 10 <= n {
+            self.put_number(n / 10);
+        }
+        self.put_byte(b'0' + (n % 10) as u8);
+    }
+
+    // A word, a number and the line's end.
+    fn number_line(&mut self, word: &[u8], n: usize)
+        ensures { Lays W.contents self.old self.new (number_line word.now n) }
+    {
+        self.put_bytes(word);
+        self.put_number(n);
+        self.put_byte(b'\n');
+    }
+
+    // How many tokens the history has.
+    pub fn tokens_line(&mut self, n: usize)
+        ensures { Lays W.contents self.old self.new (tokens_line n) }
+    {
+        self.number_line(b"tokens ", n);
+    }
+
+    // How many positions are choices.
+    pub fn choices_line(&mut self, count: usize)
+        ensures { Lays W.contents self.old self.new (choices_line count) }
+    {
+        self.number_line(b"choices ", count);
+    }
+
+    // There is no reading.
+    pub fn none_line(&mut self)
+        ensures { Lays W.contents self.old self.new none_line }
+    {
+        self.put_bytes(b"none\n");
+    }
+
+    // All k readings were listed.
+    pub fn end_line(&mut self, k: usize)
+        ensures { Lays W.contents self.old self.new (end_line k) }
+    {
+        self.number_line(b"end ", k);
+    }
+
+    // k readings were listed, and another follows.
+    pub fn more_line(&mut self, k: usize)
+        ensures { Lays W.contents self.old self.new (more_line k) }
+    {
+        self.number_line(b"more ", k);
+    }
+
+    // The grammar file is refused by the number k.
+    pub fn refused_grammar_line(&mut self, k: usize)
+        ensures { Lays W.contents self.old self.new (refused_grammar_line k) }
+    {
+        self.number_line(b"refused grammar ", k);
+    }
+
+    // The history file is refused by the number k.
+    pub fn refused_history_line(&mut self, k: usize)
+        ensures { Lays W.contents self.old self.new (refused_history_line k) }
+    {
+        self.number_line(b"refused history ", k);
+    }
+
+    // The rule numbers of a reading, each with a blank before it.
+    fn put_rules(&mut self, reading: &[u8])
+        ensures { Lays W.contents self.old self.new (reading_text reading.now) }
+    {
+        for &rule in reading {
+            self.put_byte(b' ');
+            self.put_number(usize::from(rule));
+        }
+    }
+
+    // The reading number k.
+    pub fn reading_line(&mut self, k: usize, reading: &[u8])
+        ensures { Lays W.contents self.old self.new (reading_line k reading.now) }
+    {
+        self.put_number(k);
+        self.put_byte(b':');
+        self.put_rules(reading);
+        self.put_byte(b'\n');
+    }
 }

@@ -11,14 +11,14 @@ use streams::Sink;
 fn load(rt: &impl Files, path: &str, buf: &mut [u8]) -> usize
     ensures { result ≤ length buf.new }
 {
-    let opened = fs::open(rt, path);
-    let Ok(mut file) = opened else {
+    let Ok(mut file) = fs::open(rt, path) else {
         return 0;
     };
     streams::read_full(&mut file, buf)
 }
 
 // Room for a piece of the listing: all but the very longest listings are one piece.
+// A function of its own, so that no proof of `main` writes the array out element by element.
 fn space() -> [u8; 1048576]
     ensures { 1048576 ≡ length result }
 {

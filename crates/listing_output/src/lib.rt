@@ -6,6 +6,7 @@ ghost use Rattle.streams.specs.believed.Sent.{Sent};
 ghost use Rattle.listing_text.specs.believed.Listing.{listing};
 ghost use Rattle.listing_text.specs.believed.Written.{Written};
 
+use lines::Text;
 use listing_text::Piece;
 use std::io::Write;
 use streams::Sink;
@@ -21,13 +22,13 @@ pub fn write_listing<W: Write>(
     ensures pieces { Written (listing grammar.now history.now) text.old result text.new }
     ensures sent { 0 < length text.old → Sent W.contents sink.old sink.new (listing grammar.now history.now) }
 {
-    let end = listing_text::list(grammar, history, text, sink);
-    let length = end.at;
-    let before = end.before;
-    sink.put(&text[..length]);
+    let mut listed = Text::new(text, sink);
+    listing_text::list(grammar, history, &mut listed);
+    let Text { out, cursor, sink } = listed;
+    sink.put(&out[..cursor.at]);
     Piece {
-        end: before + length,
-        length,
+        end: cursor.before + cursor.at,
+        length: cursor.at,
         more: false,
     }
 }

@@ -10,12 +10,11 @@ use lib.Dec.{eqb, ltb}
 use lib.ListN.{length, take, drop, set, get_or, length-append, length-drop}
 use lib.Seq.{drop-drop, drop-cons, take_at, take_all, drop-append_seam, set-append_seam}
 use Rattle.lines.specs.declared.Cursor.{Cursor}
-use Rattle.lines.specs.Laid.{Laid, put, put_if, laid}
+use Rattle.lines.specs.Laid.{Laid, at_start, put, put_if, laid}
 use Rattle.lines.specs.believed.Window.{shown, window}
 use Rattle.listing_text.specs.declared.Piece.{Piece}
 use Rattle.listing_text.specs.believed.Pieces.{goes_on, before_all}
 use Rattle.listing_text.specs.believed.Written.{Pieces, none, one_more, Written}
-use Rattle.listing_text.specs.Passing.{at_start}
 use Rattle.listing_text.proofs.Pieces.{piece_is, piece_added}
 
 -- ── one byte in the buffer ──

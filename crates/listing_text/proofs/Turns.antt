@@ -18,13 +18,10 @@ use Rattle.listing_model.proofs.Find.{find_at}
 use Rattle.listing_model.proofs.Listing.{Proper, entries_proper}
 use Rattle.history_file.specs.believed.HistoryFile.{token_of, tokens_of}
 use Rattle.std.specs.declared.option.Option.{Option}
-use Rattle.streams.specs.declared.Sink.{Sink}
-use Rattle.streams.specs.believed.Sent.{Sent}
-use Rattle.streams.proofs.Handed.{sent-none}
-use Rattle.lines.specs.Laid.{Laid, laid, gone}
-use Rattle.lines.specs.declared.Cursor.{Cursor}
+use Rattle.lines.specs.declared.Text.{Text}
+use Rattle.lines.specs.Lays.{Lays}
 use Rattle.lines.specs.believed.Text.{reading_line, end_line, more_line}
-use Rattle.lines.proofs.Laying.{laid_none, laid_both, gone_none, gone_both}
+use Rattle.lines.proofs.Laying.{lays_none, lays_both}
 use Rattle.listing_text.specs.believed.Listing.{listed_from, most_listed}
 use Rattle.listing_text.specs.Passing.{Begun, is_written}
 
@@ -96,84 +93,64 @@ listed_end (suc left) k l h = rw h
 
 -- ── the loop ──
 
--- k readings are listed: their text, the buffer that holds reading k + 1, and what is left to list
-pub record Turns {W : Type 0} (contents : W → Option (List ℕ)) (l : List (List ℕ)) (n : ℕ) (text₀ : List ℕ) (at : Cursor) (s₀ : Sink W) (reading text : List ℕ) (cursor : Cursor) (s : Sink W) (k : ℕ) : Type 0 where
+-- the reading in the buffer is to be listed as number `next`: the text of those before it, and what is left to list
+pub record Turns {W : Type 0} (contents : W → Option (List ℕ)) (l : List (List ℕ)) (n : ℕ) (t₀ : Text W) (reading : List ℕ) (t : Text W) (next : ℕ) : Type 0 where
+  pub k : ℕ
+  pub number : next ≡ k + 1
   pub most : k ≤ 1000
   pub below : k < length l
   pub room : n < length reading
   pub holds : take (n + 1) reading ≡ get_or l k []
   pub so_far : List ℕ
   pub rest : so_far ++ listed_from (1000 - k) k (drop k l) ≡ listed_from most_listed 0 l
-  pub place : (cursor, text) ≡ laid (at, text₀) so_far
-  pub sent : Sent contents s₀ s (gone (at, text₀) so_far)
+  pub lays : Lays contents t₀ t so_far
 
--- the whole text is laid, and what goes out with it has gone
-abbrev pub Done : {W : Type 0} → (W → Option (List ℕ)) → List ℕ → Laid → Sink W → Laid → Sink W → Type 0
-Done contents text p s₀ r s = (r ≡ laid p text) × Sent contents s₀ s (gone p text)
+module _ (g : Grammar) (ts : List ℕ) where
+  abbrev L : List (List ℕ)
+  L = entries g (tokens_of ts)
 
-module _ {W : Type 0} {contents : W → Option (List ℕ)} where
-  done_then : (a b : List ℕ) (p q r : Laid) (s t u : Sink W) → Done contents a p s q t → Done contents b q t r u → Done contents (a ++ b) p s r u
-  done_then a b p q r s t u d e = (laid_both p q r a b d.0 e.0, gone_both p q a b s t u d.0 d.1 e.1)
+  abbrev n : ℕ
+  n = length ts
 
-  done_is : (a b : List ℕ) (p r : Laid) (s u : Sink W) → a ≡ b → Done contents a p s r u → Done contents b p s r u
-  done_is a b p r s u e d = subst (λ (l : List ℕ). Done contents l p s r u) e d
+  module _ {W : Type 0} {contents : W → Option (List ℕ)} {t₀ : Text W} where
+    pub turns_start : {reading : List ℕ} → Begun L n reading → Turns contents L n t₀ reading t₀ 1
+    turns_start b = record { k = 0; number = refl; most = omega arith; below = b.some_one; room = b.room; holds = b.holds; so_far = []; rest = refl; lays = lays_none }
 
-module _ {W : Type 0} {contents : W → Option (List ℕ)} (g : Grammar) (ts text₀ : List ℕ) (at : Cursor) (s₀ : Sink W) where
-  pub turns_start : (reading : List ℕ) → Begun (entries g (tokens_of ts)) (length ts) reading → Turns contents (entries g (tokens_of ts)) (length ts) text₀ at s₀ reading text₀ at s₀ 0
-  turns_start reading b = record {
-    most = omega arith;
-    below = b.some_one;
-    room = b.room;
-    holds = b.holds;
-    so_far = [];
-    rest = refl;
-    place = sym (laid_none (at, text₀));
-    sent = subst (λ (l : List ℕ). Sent contents s₀ s₀ l) (sym (gone_none (at, text₀))) (sent-none s₀);
-  }
+    module _ {t u : Text W} {reading : List ℕ} {m : ℕ} (d : Turns contents L n t₀ reading t m) (h : m ≤ 1000) (e : Lays contents t u (reading_line m (take (n + 1) reading))) where
+      turn-onward : (a : Answer) (new : List ℕ) → (a, new) ≡ call_on (over_entries g (tokens_of ts)) next reading → Onward L n d.k (is_written a) new
+      turn-onward a new q =
+          onward L n (entries_in_order g ts) d.k d.below reading (rw (add-one n) at d.holds) (is_written a) new (ap told (q ∙ ap (λ (x : Subject). call_on x next reading) (entries_are g ts)))
 
-  module _ {reading text : List ℕ} {cursor : Cursor} {s : Sink W} {k : ℕ} (t : Turns contents (entries g (tokens_of ts)) (length ts) text₀ at s₀ reading text cursor s k) where
-    turn-onward : (a : Answer) (b : Bool) (new : List ℕ) → b ≡ is_written a → (a, new) ≡ call_on (over_entries g (tokens_of ts)) next reading → Onward (entries g (tokens_of ts)) (length ts) k b new
-    turn-onward a b new i q =
-        onward (entries g (tokens_of ts)) (length ts) (entries_in_order g ts) k t.below reading (rw (add-one (length ts)) at t.holds) b new
-        (ap (λ (x : Bool). (x, new)) i ∙ ap told (q ∙ ap (λ (x : Subject). call_on x next reading) (entries_are g ts)))
+      -- what is listed with this reading, and what is left
+      rest_behind : (d.so_far ++ reading_line m (take (n + 1) reading)) ++ listed_from (1000 - m) m (drop m L) ≡ listed_from most_listed 0 L
+      rest_behind = rw (d.number)
+          (append_assoc d.so_far (reading_line (d.k + 1) (take (n + 1) reading)) (listed_from (1000 - (d.k + 1)) (d.k + 1) (drop (d.k + 1) L))
+          ∙ ap (λ (x : List ℕ). d.so_far ++ (reading_line (d.k + 1) x ++ listed_from (1000 - (d.k + 1)) (d.k + 1) (drop (d.k + 1) L))) d.holds
+          ∙ ap (λ (x : List ℕ). d.so_far ++ x) (sym (listed-turn L d.k (omega (arith, d.number)) d.below)) ∙ d.rest)
 
-    -- what is listed with this reading, and what is left
-    abbrev line : List ℕ
-    line = reading_line (k + 1) (take ((length ts) + 1) reading)
+      pub turns_next : (a : Answer) (new : List ℕ) → is_written a ≡ true → length new ≡ length reading → (a, new) ≡ call_on (over_entries g (tokens_of ts)) next reading → Turns contents L n t₀ new u (m + 1)
+      turns_next a new is size q =
+          let o : (suc d.k < length L) × (take (suc n) new ≡ get_or L (suc d.k) []) = subst (λ (x : Bool). Onward L n d.k x new) is (turn-onward a new q) in
+          record {
+            k = m;
+            number = refl;
+            most = h;
+            below = omega (arith, d.number, o.0);
+            room = omega (arith, size, d.room);
+            holds = rw (d.number, add-one n, add-one d.k) o.1;
+            so_far = d.so_far ++ reading_line m (take (n + 1) reading);
+            rest = rest_behind;
+            lays = lays_both d.lays e;
+          }
 
-    rest_behind : k < 1000 → (t.so_far ++ line) ++ listed_from (1000 - (k + 1)) (k + 1) (drop (k + 1) (entries g (tokens_of ts))) ≡ listed_from most_listed 0 (entries g (tokens_of ts))
-    rest_behind h =
-        append_assoc t.so_far line (listed_from (1000 - (k + 1)) (k + 1) (drop (k + 1) (entries g (tokens_of ts))))
-        ∙ ap (λ (x : List ℕ). t.so_far ++ (reading_line (k + 1) x ++ listed_from (1000 - (k + 1)) (k + 1) (drop (k + 1) (entries g (tokens_of ts))))) t.holds
-        ∙ ap (λ (x : List ℕ). t.so_far ++ x) (sym (listed-turn (entries g (tokens_of ts)) k h t.below)) ∙ t.rest
+      pub turns_end : (a : Answer) (new : List ℕ) → is_written a ≡ false → (a, new) ≡ call_on (over_entries g (tokens_of ts)) next reading → {v : Text W} → Lays contents u v (end_line m) →
+          Lays contents t₀ v (listed_from most_listed 0 L)
+      turns_end a new is q {v} f =
+          let o : length L ≡ suc d.k = subst (λ (x : Bool). Onward L n d.k x new) is (turn-onward a new q) in
+          let last = listed_end (1000 - m) m (drop m L) (drop_of_length-le L {i = m} (omega (arith, d.number, o))) in
+          subst (λ (l : List ℕ). Lays contents t₀ v l) (ap (λ (l : List ℕ). (d.so_far ++ reading_line m (take (n + 1) reading)) ++ l) (sym last) ∙ rest_behind) (lays_both (lays_both d.lays e) f)
 
-    pub turns_next : k < 1000 → (p : Laid) (u : Sink W) → p ≡ laid (cursor, text) line → Sent contents s u (gone (cursor, text) line) →
-        (a : Answer) (b : Bool) (new : List ℕ) → b ≡ is_written a → b ≡ true → length new ≡ length reading → (a, new) ≡ call_on (over_entries g (tokens_of ts)) next reading →
-        Turns contents (entries g (tokens_of ts)) (length ts) text₀ at s₀ new p.1 p.0 u (k + 1)
-    turns_next h p u e f a b new i is size q =
-        let o : (suc k < length (entries g (tokens_of ts))) × (take (suc (length ts)) new ≡ get_or (entries g (tokens_of ts)) (suc k) []) = subst (λ (x : Bool). Onward (entries g (tokens_of ts)) (length ts) k x new) is (turn-onward a b new i q) in
-        record {
-          most = omega arith;
-          below = omega (arith, o.0);
-          room = omega (arith, size, t.room);
-          holds = rw (add-one (length ts), add-one k) o.1;
-          so_far = t.so_far ++ line;
-          rest = rest_behind h;
-          place = laid_both (at, text₀) (cursor, text) p t.so_far line t.place e;
-          sent = gone_both (at, text₀) (cursor, text) t.so_far line s₀ s u t.place t.sent f;
-        }
-
-    pub turns_end : k < 1000 → (p : Laid) (u : Sink W) → p ≡ laid (cursor, text) line → Sent contents s u (gone (cursor, text) line) →
-        (a : Answer) (b : Bool) (new : List ℕ) → b ≡ is_written a → b ≡ false → (a, new) ≡ call_on (over_entries g (tokens_of ts)) next reading →
-        (r : Laid) (v : Sink W) → r ≡ laid p (end_line (k + 1)) → Sent contents u v (gone p (end_line (k + 1))) → Done contents (listed_from most_listed 0 (entries g (tokens_of ts))) (at, text₀) s₀ r v
-    turns_end h p u e f a b new i is q r v x y =
-        let o : length (entries g (tokens_of ts)) ≡ suc k = subst (λ (x : Bool). Onward (entries g (tokens_of ts)) (length ts) k x new) is (turn-onward a b new i q) in
-        let last = listed_end (1000 - (k + 1)) (k + 1) (drop (k + 1) (entries g (tokens_of ts))) (drop_of_length-le (entries g (tokens_of ts)) {i = k + 1} (omega (arith, o))) in
-        done_is ((t.so_far ++ line) ++ end_line (k + 1)) (listed_from most_listed 0 (entries g (tokens_of ts))) (at, text₀) r s₀ v (ap (λ (l : List ℕ). (t.so_far ++ line) ++ l) (sym last) ∙ rest_behind h)
-        (done_then (t.so_far ++ line) (end_line (k + 1)) (at, text₀) p r s₀ u v (done_then t.so_far line (at, text₀) (cursor, text) p s₀ s u (t.place, t.sent) (e, f)) (x, y))
-
-    pub turns_more : 1000 ≤ k → (r : Laid) (v : Sink W) → r ≡ laid (cursor, text) (more_line k) → Sent contents s v (gone (cursor, text) (more_line k)) →
-        Done contents (listed_from most_listed 0 (entries g (tokens_of ts))) (at, text₀) s₀ r v
-    turns_more h r v x y =
-        done_is (t.so_far ++ more_line k) (listed_from most_listed 0 (entries g (tokens_of ts))) (at, text₀) r s₀ v (ap (λ (l : List ℕ). t.so_far ++ l) (sym (listed_more (entries g (tokens_of ts)) k (omega (arith, t.most)) t.below)) ∙ t.rest)
-        (done_then t.so_far (more_line k) (at, text₀) (cursor, text) r s₀ s v (t.place, t.sent) (x, y))
+    pub turns_more : {t v : Text W} {reading : List ℕ} {m : ℕ} → Turns contents L n t₀ reading t m → 1000 < m → Lays contents t v (more_line 1000) → Lays contents t₀ v (listed_from most_listed 0 L)
+    turns_more {t} {v} {reading} {m} d h f =
+        let all : d.k ≡ 1000 = omega (arith, d.number, d.most) in
+        subst (λ (l : List ℕ). Lays contents t₀ v l) (ap (λ (x : ℕ). d.so_far ++ more_line x) (sym all) ∙ ap (λ (l : List ℕ). d.so_far ++ l) (sym (listed_more L d.k all d.below)) ∙ d.rest) (lays_both d.lays f)

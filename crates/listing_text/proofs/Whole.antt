@@ -1,12 +1,12 @@
 -- The listing by what was found: a file refused, no reading, or the first one.
-use Prim.Native.Nat.{ℕ, suc, ◌<◌, ◌≤◌}
+use Prim.Native.Nat.{ℕ, suc, ◌<◌}
 use native.Mathlib.Numerals.{add-one}
 use native.Mathlib.Omega.{arith}
 use mathlib.Core.Path.{◌≡◌, refl, sym, ◌∙◌, ap, subst}
 use mathlib.Core.Bool.{Bool, true, false, false≢true}
 use mathlib.Core.List.Memᴰ
-use mathlib.Core.List.{List, [], ◌∷◌, ◌++◌, append_assoc}
-use lib.ListN.{length, take, drop, get_or, replicate, length-replicate}
+use mathlib.Core.List.{List, [], ◌∷◌, ◌++◌}
+use lib.ListN.{length, take, drop, get_or}
 use lib.Seq.{take_at}
 use Rattle.vpg.specs.believed.Grammar.{Grammar}
 use Rattle.vpg.specs.Runs.{entries}
@@ -14,20 +14,21 @@ use Rattle.sets_theory.specs.believed.Sets.{choice_count}
 use Rattle.listing_model.specs.believed.Listing.{Answer, Subject, over, first, over_entries}
 use Rattle.listing_model.specs.Calls.{call_on}
 use Rattle.listing_model.proofs.Listing.{Proper}
-use Rattle.grammar_file.specs.believed.GrammarFile.{GrammarFile}
-use Rattle.history_file.specs.believed.HistoryFile.{HistoryFile, tokens_of}
-use Rattle.files.specs.believed.Files.{accepted, refused, files_of}
-use Rattle.files.specs.believed.Checks.{grammar_said, grammar_due}
-use Rattle.files.specs.declared.GrammarCheck.{GrammarCheck}
-use Rattle.std.specs.declared.option.Option.{Option}
-use Rattle.streams.specs.declared.Sink.{Sink}
-use Rattle.streams.specs.believed.Sent.{Sent}
-use Rattle.lines.specs.Laid.{Laid, laid, gone}
-use Rattle.lines.proofs.Laying.{laid_both, gone_both}
-use Rattle.lines.specs.believed.Text.{tokens_line, choices_line, none_line, refused_grammar_line, refused_history_line}
-use Rattle.listing_text.specs.believed.Listing.{listed_from, most_listed, readings_listed, files_listed}
+use Rattle.history_file.specs.believed.HistoryFile.{tokens_of}
+use Rattle.lines.specs.believed.Text.{tokens_line, choices_line, none_line}
+use Rattle.listing_text.specs.believed.Listing.{listed_from, most_listed, readings_listed}
 use Rattle.listing_text.specs.Passing.{Begun, is_written}
-use Rattle.listing_text.proofs.Turns.{told, entries_are, entries_in_order, Done}
+use Rattle.listing_text.proofs.Turns.{told, entries_are, entries_in_order}
+use Rattle.refusal.specs.declared.Refusal.{Refusal}
+use Rattle.refusal.specs.believed.Refusal.{number}
+use Rattle.grammar_file.specs.believed.GrammarFile.{GrammarFile}
+use Rattle.history_file.specs.believed.HistoryFile.{HistoryFile}
+use Rattle.files.specs.declared.GrammarCounts.{GrammarCounts}
+use Rattle.files.specs.believed.Checks.{accepted, refused, grammar_due}
+use Rattle.files.specs.believed.Files as files
+use Rattle.files.specs.believed.Files.{files_of}
+use Rattle.lines.specs.believed.Text.{refused_grammar_line, refused_history_line}
+use Rattle.listing_text.specs.believed.Listing.{files_listed}
 
 -- ── the first reading ──
 
@@ -63,6 +64,9 @@ module _ (g : Grammar) (ts : List ℕ) where
       let s : (0 < length L) × (take (suc n) new ≡ get_or L 0 []) = subst (λ (x : Bool). Started L n x new) is (first_started buf a new q) in
       record { some_one = s.0; room = omega (arith, size); holds = rw (add-one n) s.1 }
 
+  pub first-some : (buf : List ℕ) (a : Answer) (new : List ℕ) → is_written a ≡ true → (a, new) ≡ call_on (over_entries g (tokens_of ts)) first buf → 0 < length L
+  first-some buf a new is q = (subst (λ (x : Bool). Started L n x new) is (first_started buf a new q)).0
+
   pub first-none : (buf : List ℕ) (a : Answer) (new : List ℕ) → is_written a ≡ false → (a, new) ≡ call_on (over_entries g (tokens_of ts)) first buf → L ≡ []
   first-none buf a new is q = subst (λ (x : Bool). Started L n x new) is (first_started buf a new q)
 
@@ -71,37 +75,36 @@ module _ (g : Grammar) (ts : List ℕ) where
 pub none-listed : (t : List ℕ) (d : ℕ) (l : List (List ℕ)) → l ≡ [] → t ++ none_line ≡ t ++ readings_listed d l
 none-listed t d l h = ap (λ (m : List (List ℕ)). t ++ readings_listed d m) (sym h)
 
-pub some-listed : (t : List ℕ) (d : ℕ) (l : List (List ℕ)) → 0 < length l → (t ++ choices_line d) ++ listed_from most_listed 0 l ≡ t ++ readings_listed d l
+pub some-listed : (t : List ℕ) (d : ℕ) (l : List (List ℕ)) → 0 < length l → t ++ (choices_line d ++ listed_from most_listed 0 l) ≡ t ++ readings_listed d l
 some-listed t d [] h = absurd (omega arith)
-some-listed t d (e ∷ l) h = append_assoc t (choices_line d) (listed_from most_listed 0 (e ∷ l))
+some-listed t d (e ∷ l) h = refl
 
--- the readings behind the two counts
-pub behind-counts : {W : Type 0} {contents : W → Option (List ℕ)} (p q r : Laid) (s u v : Sink W) (t : List ℕ) (d due : ℕ) (y : List ℕ) → d ≡ due → q ≡ laid p (t ++ choices_line d) →
-    Sent contents s u (gone p (t ++ choices_line d)) → Done contents y q u r v → Done contents ((t ++ choices_line due) ++ y) p s r v
-behind-counts {contents} p q r s u v t d due y i e f k =
-    subst (λ (x : ℕ). Done contents ((t ++ choices_line x) ++ y) p s r v) i
-    (laid_both p q r (t ++ choices_line d) y e k.0, gone_both p q (t ++ choices_line d) y s u v e f k.1)
+-- ── a refused file ──
 
--- zeros for the longest reading
-abbrev pub zeros : List ℕ
-zeros = replicate 1025 0
+-- the grammar is refused, so the number is its own
+pub grammar_told : (f : GrammarFile) (h : HistoryFile) (k : ℕ) (e : Refusal) → refused (number e) ≡ grammar_due f → (n : ℕ) → files_of f h ≡ files.refused n → k ≡ n → refused_grammar_line k ≡ files_listed f h
+grammar_told (GrammarFile.refused d) h k e is n due same = ap refused_grammar_line (same ∙ sym (number_of due))
+  where
+    number_of : files.refused d ≡ files.refused n → d ≡ n
+    number_of q = cc
+grammar_told (GrammarFile.accepted g) h k e is n due same = absurd (let z : ◌≡◌ {A = ℕ} 0 1 = cc in omega arith)
 
-pub enough : (n : ℕ) → n ≤ 1024 → n < length zeros
-enough n h = subst (λ (x : ℕ). n < x) (sym (length-replicate {A = ℕ} 1025 0)) (omega arith)
+-- the grammar is accepted, so the number is the history's
+pub history_told : (f : GrammarFile) (h : HistoryFile) (k : ℕ) (c : GrammarCounts) → accepted (c.stages ∷ c.rules ∷ []) ≡ grammar_due f → (n : ℕ) → files_of f h ≡ files.refused n → k ≡ n → refused_history_line k ≡ files_listed f h
+history_told (GrammarFile.refused d) h k c is n due same = absurd (let z : ◌≡◌ {A = ℕ} 0 1 = cc in omega arith)
+history_told (GrammarFile.accepted g) (HistoryFile.refused d) k c is n due same = ap refused_history_line (same ∙ sym (number_of due))
+  where
+    number_of : files.refused d ≡ files.refused n → d ≡ n
+    number_of q = cc
+history_told (GrammarFile.accepted g) (HistoryFile.accepted ts) k c is n due same = absurd (let z : ◌≡◌ {A = ℕ} 0 1 = cc in omega arith)
 
--- ── both files ──
+-- ── both files pass ──
 
-pub grammar_refused : (f : GrammarFile) (k e : ℕ) → grammar_said (GrammarCheck.Refused k) ≡ grammar_due f → (h : HistoryFile) → files_of f h ≡ refused e → refused_grammar_line e ≡ files_listed f h
-grammar_refused (GrammarFile.accepted g) k e q h i = absurd (let z : ◌≡◌ {A = ℕ} 0 1 = cc in omega arith)
-grammar_refused (GrammarFile.refused d) k e q h i = let z : e ≡ d = cc in ap refused_grammar_line z
-
-pub history_refused : (f : GrammarFile) (s r e : ℕ) → grammar_said (GrammarCheck.Accepted s r) ≡ grammar_due f → (h : HistoryFile) → files_of f h ≡ refused e → refused_history_line e ≡ files_listed f h
-history_refused (GrammarFile.refused d) s r e q h i = absurd (let z : ◌≡◌ {A = ℕ} 0 1 = cc in omega arith)
-history_refused (GrammarFile.accepted g) s r e q (HistoryFile.refused d) i = let z : e ≡ d = cc in ap refused_history_line z
-history_refused (GrammarFile.accepted g) s r e q (HistoryFile.accepted ts) i = absurd (let z : ◌≡◌ {A = ℕ} 0 1 = cc in omega arith)
-
-pub both_accepted : (f : GrammarFile) (h : HistoryFile) (g : Grammar) (ts : List ℕ) → files_of f h ≡ accepted g ts →
-    files_listed f h ≡ tokens_line (length ts) ++ readings_listed (choice_count g (tokens_of ts)) (entries g (tokens_of ts))
-both_accepted (GrammarFile.refused d) h g ts i = absurd (let z : ◌≡◌ {A = ℕ} 0 1 = cc in omega arith)
-both_accepted (GrammarFile.accepted x) (HistoryFile.refused d) g ts i = absurd (let z : ◌≡◌ {A = ℕ} 0 1 = cc in omega arith)
-both_accepted (GrammarFile.accepted x) (HistoryFile.accepted y) g ts i = let a : x ≡ g = cc in let b : y ≡ ts = cc in rw (a, b)
+pub accepted_listed : (f : GrammarFile) (h : HistoryFile) (g : Grammar) (ts : List ℕ) → files_of f h ≡ files.accepted g ts →
+    tokens_line (length ts) ++ readings_listed (choice_count g (tokens_of ts)) (entries g (tokens_of ts)) ≡ files_listed f h
+accepted_listed (GrammarFile.refused k) h g ts e = absurd (let z : ◌≡◌ {A = ℕ} 0 1 = cc in omega arith)
+accepted_listed (GrammarFile.accepted g') (HistoryFile.refused k) g ts e = absurd (let z : ◌≡◌ {A = ℕ} 0 1 = cc in omega arith)
+accepted_listed (GrammarFile.accepted g') (HistoryFile.accepted ts') g ts e =
+    let p : g ≡ g' = cc in
+    let q : ts ≡ ts' = cc in
+    rw (p, q) refl

@@ -2,11 +2,6 @@
 -- Law: first_begun, none-listed (listing_text/proofs/Whole.antt)
 use Rattle.std.specs.Prelude.{ℕ, ◌+◌, ◌<◌, ◌≡◌, Bool, true, false, List, [], length, take, get_or}
 use Rattle.listing_model.specs.believed.Listing.{Answer, written, no_reading, no_further, refused}
-use Rattle.lines.specs.declared.Cursor.{Cursor}
-
--- before the first byte of the text
-abbrev pub at_start : Cursor
-at_start = record { before = 0; at = 0 }
 
 -- the buffer holds the first reading, of n + 1 rule numbers
 pub record Begun (l : List (List ℕ)) (n : ℕ) (reading : List ℕ) : Type 0 where

@@ -4,31 +4,27 @@
 ghost use Rattle.std.specs.Prelude.{◌≡◌, ◌++◌, length};
 ghost use Rattle.vpg.specs.Runs.{entries};
 ghost use Rattle.sets_theory.specs.believed.Sets.{choice_count};
-ghost use Rattle.tables.specs.Ready.{grammar_in};
-ghost use Rattle.rule_index.specs.Index.{Indexed};
 ghost use Rattle.grammar_file.specs.believed.GrammarFile.{grammar_of};
-ghost use Rattle.history_file.specs.believed.HistoryFile.{HistoryFile, tokens_of};
-ghost use Rattle.history_file.specs.HistoryTokens.{Tokens};
+ghost use Rattle.history_file.specs.believed.HistoryFile.{HistoryFile};
 ghost use Rattle.files.specs.believed.Files.{refused, files_of};
-ghost use Rattle.levels.specs.Levels.{Setting};
+ghost use Rattle.levels.specs.Prepared.{prepared_grammar, prepared_tokens};
+ghost use Rattle.refusal.specs.believed.Refusal.{number};
 ghost use Rattle.next_run.specs.Next.{next_said};
-ghost use Rattle.streams.specs.believed.Sent.{Sent};
-ghost use Rattle.lines.specs.Laid.{laid, gone};
+ghost use Rattle.lines.specs.Lays.{Lays};
 ghost use Rattle.lines.specs.believed.Text.{tokens_line, none_line, choices_line};
 ghost use Rattle.listing_text.specs.believed.Listing.{listed_from, most_listed, readings_listed, files_listed, listing};
-ghost use Rattle.listing_text.specs.Passing.{Begun, is_written, at_start};
+ghost use Rattle.listing_text.specs.Passing.{Begun, is_written};
 
-use files::GrammarCheck;
-use first_run::FirstAnswer;
-use levels::{Closes, Masks};
-use lines::Cursor;
-use next_run::NextAnswer;
-use service::Opened;
+use first_run::Answer;
+use levels::Prepared;
+use lines::Text;
+use next_run::NotAReading;
+use refusal::Refusal;
+use service::Contents;
 use std::io::Write;
-use streams::Sink;
-use tables::{Head, Table};
 
 // A piece of the listing: how many bytes of the listing stand before its end, how many of them are its own, and whether another is to follow.
+// Of the piece that is answered `more` is false; the definition of all pieces (`Written`) asks for it of each.
 #[derive(Clone, Copy)]
 pub struct Piece {
     pub end: usize,
@@ -36,134 +32,66 @@ pub struct Piece {
     pub more: bool,
 }
 
-// Before the first byte of the text.
-fn at_start() -> Cursor
-    ensures { result ≡ at_start }
-{
-    Cursor { before: 0, at: 0 }
-}
+// At most so many readings are listed.
+const MOST: usize = 1000;
 
-fn is_written(answer: NextAnswer) -> bool
+// Whether a reading stands in the buffer.
+fn is_written(answer: Result<Answer, NotAReading>) -> bool
     ensures { result ≡ is_written (next_said answer) }
 {
-    match answer {
-        NextAnswer::Written => true,
-        NextAnswer::NoFurther => false,
-        NextAnswer::NoEntry => false,
-    }
+    matches!(answer, Ok(Answer::Written))
 }
 
-// The text where there is no reading.
-fn list_none<W: Write>(text: &mut [u8], n: u64, sink: &mut Sink<W>) -> Cursor
-    ensures place { (result, text.new) ≡ laid (at_start, text.old) (tokens_line n ++ none_line) }
-    ensures sent { Sent W.contents sink.old sink.new (gone (at_start, text.old) (tokens_line n ++ none_line)) }
+// The text behind the first line where the buffer holds the first reading: how many choices there are, a thousand readings at most, and the last line.
+fn list_readings<W: Write>(input: &Prepared, reading: &mut [u8], text: &mut Text<'_, W>)
+    requires { Begun (entries (prepared_grammar input.now) (prepared_tokens input.now)) (length input.now.tokens.now) reading.old }
+    ensures { Lays W.contents text.old text.new (choices_line (choice_count (prepared_grammar input.now) (prepared_tokens input.now)) ++ listed_from most_listed 0 (entries (prepared_grammar input.now) (prepared_tokens input.now))) }
 {
-    let at = lines::tokens_line(text, at_start(), n, sink);
-    lines::none_line(text, at, sink)
-}
-
-// The lines before the first reading.
-fn list_counts<W: Write>(text: &mut [u8], n: u64, choices: u64, sink: &mut Sink<W>) -> Cursor
-    ensures place { (result, text.new) ≡ laid (at_start, text.old) (tokens_line n ++ choices_line choices) }
-    ensures sent { Sent W.contents sink.old sink.new (gone (at_start, text.old) (tokens_line n ++ choices_line choices)) }
-{
-    let at = lines::tokens_line(text, at_start(), n, sink);
-    lines::choices_line(text, at, choices, sink)
-}
-
-// The text where the buffer holds the first reading: a thousand readings at most, and the last line.
-fn list_readings<W: Write>(
-    table: &Table,
-    head: Head,
-    tokens: &[u32],
-    closes: &Closes,
-    masks: &Masks,
-    reading: &mut [u8],
-    text: &mut [u8],
-    sink: &mut Sink<W>,
-) -> Cursor
-    requires setting { Setting table.now head tokens.now closes.now masks.now }
-    requires begun { Begun (entries (grammar_in table.now head) (tokens_of tokens.now)) (length tokens.now) reading.old }
-    ensures place { (result, text.new) ≡ laid (at_start, text.old) ((tokens_line (length tokens.now) ++ choices_line (choice_count (grammar_in table.now head) (tokens_of tokens.now))) ++ listed_from most_listed 0 (entries (grammar_in table.now head) (tokens_of tokens.now))) }
-    ensures sent { Sent W.contents sink.old sink.new (gone (at_start, text.old) ((tokens_line (length tokens.now) ++ choices_line (choice_count (grammar_in table.now head) (tokens_of tokens.now))) ++ listed_from most_listed 0 (entries (grammar_in table.now head) (tokens_of tokens.now)))) }
-{
-    let n = tokens.len();
-    let choices = sets_core::choices(table, head, tokens, closes, masks);
-    let mut cursor = list_counts(text, n as u64, choices as u64, sink);
-    let mut k: u64 = 0;
-    while k < 1000 {
-        k += 1;
-        cursor = lines::reading_line(text, cursor, k, &reading[..n + 1], sink);
-        let answer = next_run::next(table, head, tokens, closes, masks, reading);
+    let n = input.tokens.len();
+    let choices = sets_core::choices(input);
+    text.choices_line(choices as usize);
+    for k in 1..=MOST {
+        text.reading_line(k, &reading[..n + 1]);
+        let answer = next_run::next(input, reading);
         if !is_written(answer) {
-            return lines::end_line(text, cursor, k, sink);
+            text.end_line(k);
+            return;
         }
     }
-    lines::more_line(text, cursor, k, sink)
+    text.more_line(MOST);
 }
 
 // The text where both files pass.
-fn list_accepted<W: Write>(
-    table: &Table,
-    head: Head,
-    tokens: &[u32],
-    text: &mut [u8],
-    sink: &mut Sink<W>,
-) -> Cursor
-    requires indexed { Indexed table.now head }
-    requires tokens { Tokens tokens.now }
-    ensures place { (result, text.new) ≡ laid (at_start, text.old) (tokens_line (length tokens.now) ++ readings_listed (choice_count (grammar_in table.now head) (tokens_of tokens.now)) (entries (grammar_in table.now head) (tokens_of tokens.now))) }
-    ensures sent { Sent W.contents sink.old sink.new (gone (at_start, text.old) (tokens_line (length tokens.now) ++ readings_listed (choice_count (grammar_in table.now head) (tokens_of tokens.now)) (entries (grammar_in table.now head) (tokens_of tokens.now)))) }
+fn list_accepted<W: Write>(input: &Prepared, text: &mut Text<'_, W>)
+    ensures { Lays W.contents text.old text.new (tokens_line (length input.now.tokens.now) ++ readings_listed (choice_count (prepared_grammar input.now) (prepared_tokens input.now)) (entries (prepared_grammar input.now) (prepared_tokens input.now))) }
 {
-    let mut closes = [0u16; 1025];
-    let mut masks = [0u64; 1025];
-    levels::prepare(table, head, tokens, &mut closes, &mut masks);
-    let mut reading = [0u8; 1025];
-    let found = first_run::first(table, head, tokens, &closes, &masks, &mut reading);
-    match found {
-        FirstAnswer::NoReading => list_none(text, tokens.len() as u64, sink),
-        FirstAnswer::Written => {
-            list_readings(
-                table,
-                head,
-                tokens,
-                &closes,
-                &masks,
-                &mut reading,
-                text,
-                sink,
-            )
-        }
+    text.tokens_line(input.tokens.len());
+    let mut reading = [0; 1025];
+    let found = first_run::first(input, &mut reading);
+    if is_written(Ok(found)) {
+        list_readings(input, &mut reading, text);
+    } else {
+        text.none_line();
     }
 }
 
 // The text where a file is refused: by the same number, whichever it is.
-fn list_refused<W: Write>(grammar: &[u8], e: u8, text: &mut [u8], sink: &mut Sink<W>) -> Cursor
-    ensures place { (h : HistoryFile) → files_of (grammar_of grammar.now) h ≡ refused e → (result, text.new) ≡ laid (at_start, text.old) (files_listed (grammar_of grammar.now) h) }
-    ensures sent { (h : HistoryFile) → files_of (grammar_of grammar.now) h ≡ refused e → Sent W.contents sink.old sink.new (gone (at_start, text.old) (files_listed (grammar_of grammar.now) h)) }
+fn list_refused<W: Write>(grammar: &[u8], refusal: Refusal, text: &mut Text<'_, W>)
+    ensures { (h : HistoryFile) → files_of (grammar_of grammar.now) h ≡ refused (number refusal) → Lays W.contents text.old text.new (files_listed (grammar_of grammar.now) h) }
 {
-    let check = files::grammar_check(grammar);
-    match check {
-        GrammarCheck::Refused(_) => lines::refused_grammar_line(text, at_start(), e as u64, sink),
-        GrammarCheck::Accepted(_, _) => lines::refused_history_line(
-            text,
-            at_start(),
-            e as u64,
-            sink,
-        ),
+    let number: u8 = refusal.into();
+    match files::grammar_check(grammar) {
+        Err(_) => text.refused_grammar_line(number as usize),
+        Ok(_) => text.refused_history_line(number as usize),
     }
 }
 
 // Hands the listing to the sink in pieces as long as the buffer, but for the last piece, which it leaves there.
-pub fn list<W: Write>(grammar: &[u8], history: &[u8], text: &mut [u8], sink: &mut Sink<W>) -> Cursor
-    ensures place { (result, text.new) ≡ laid (at_start, text.old) (listing grammar.now history.now) }
-    ensures sent { Sent W.contents sink.old sink.new (gone (at_start, text.old) (listing grammar.now history.now)) }
+pub fn list<W: Write>(grammar: &[u8], history: &[u8], text: &mut Text<'_, W>)
+    ensures { Lays W.contents text.old text.new (listing grammar.now history.now) }
 {
-    let mut table = [0u16; 1412];
-    let mut tokens = [0u32; 1024];
-    let opened = service::open_files(grammar, history, 0, 0, &mut table, &mut tokens);
-    let Opened::Files(head, n) = opened else {
-        return list_refused(grammar, service::refusal_of(opened), text, sink);
-    };
-    list_accepted(&table, head, &tokens[..n], text, sink)
+    match service::open_files(grammar, history, 0, 0, &mut Contents::new()) {
+        Ok(opened) => list_accepted(&opened.prepared(&mut [0; 1025], &mut [0; 1025]), text),
+        Err(refusal) => list_refused(grammar, refusal, text),
+    }
 }

@@ -4,67 +4,55 @@
 ghost use Rattle.std.specs.Prelude.{◌≡◌, ◌<◌, length, get_or, set};
 ghost use Rattle.level_theory.specs.Walk.{inner, later};
 ghost use Rattle.tables.specs.Table.{rule_from, rule_in};
-ghost use Rattle.rule_index.specs.Index.{FirstEmpty, Indexed};
-ghost use Rattle.contexts.specs.Context.{AtKind};
+ghost use Rattle.rule_index.specs.Index.{FirstEmpty};
+ghost use Rattle.contexts.specs.Context.{code, AtKind};
 ghost use Rattle.moves.specs.Moves.{rule_fits, Smallest};
 
 use contexts::Context;
 use levels::Nonterminals;
-use tables::{Head, Six, Table};
+use rule_index::IndexedGrammar;
+use tables::Six;
 
 // Whether the rule of number r, any rule, is for the nonterminal and can stand here.
-pub fn fits(table: &Table, head: Head, r: usize, nonterminal: u16, context: Context) -> bool
-    requires { Indexed table.now head × (r < head.rules) }
-    ensures { result ≡ rule_fits head.well (rule_in table.now r) nonterminal context }
+pub fn fits(grammar: &IndexedGrammar, r: usize, nonterminal: u16, context: Context) -> bool
+    requires { r < grammar.now.head.rules }
+    ensures { result ≡ rule_fits grammar.now.head.well (rule_in grammar.now.table.now r) nonterminal context }
 {
-    if tables::left_in(table, r) == nonterminal {
-        contexts::applies(table, head, r, context)
-    } else {
-        false
-    }
+    tables::left_in(grammar.table, r) == nonterminal && contexts::applies(grammar, r, context)
 }
 
 // The same for a rule that stands at tokens of this kind.
-pub fn takes(table: &Table, head: Head, r: usize, l: u16, context: Context) -> bool
-    requires { Indexed table.now head × (r < head.rules) × AtKind (rule_in table.now r) context.kind }
-    ensures { result ≡ rule_fits head.well (rule_in table.now r) l context }
+pub fn takes(grammar: &IndexedGrammar, r: usize, l: u16, context: Context) -> bool
+    requires { (r < grammar.now.head.rules) × AtKind (rule_in grammar.now.table.now r) (code context.kind) }
+    ensures { result ≡ rule_fits grammar.now.head.well (rule_in grammar.now.table.now r) l context }
 {
-    if tables::left_in(table, r) == l {
-        contexts::takes(table, head, r, context)
-    } else {
-        false
-    }
+    tables::left_in(grammar.table, r) == l && contexts::takes(grammar, r, context)
 }
 
 // The empty rule of the nonterminal; the number of rules where there is none. No rule is for a nonterminal from 32 on.
-pub fn empty_rule(table: &Table, head: Head, nonterminal: u16) -> usize
-    requires { Indexed table.now head }
-    ensures { FirstEmpty table.now head.rules nonterminal result }
+pub fn empty_rule(grammar: &IndexedGrammar, nonterminal: u16) -> usize
+    ensures { FirstEmpty grammar.now.table.now grammar.now.head.rules nonterminal result }
 {
     if nonterminal < 32 {
-        rule_index::end_of(table, nonterminal as usize)
+        grammar.end(nonterminal as usize)
     } else {
-        head.rules
+        grammar.head.rules
     }
 }
 
 // The smallest rule for the nonterminal that can stand here; the number of rules where there is none.
-pub fn smallest(table: &Table, head: Head, nonterminal: u16, context: Context) -> usize
-    requires { Indexed table.now head }
-    ensures { Smallest table.now head nonterminal context result }
+pub fn smallest(grammar: &IndexedGrammar, nonterminal: u16, context: Context) -> usize
+    ensures { Smallest grammar.now.table.now grammar.now.head nonterminal context result }
 {
-    if contexts::may_end(head, context, nonterminal) {
-        return empty_rule(table, head, nonterminal);
+    if contexts::may_end(grammar.head, context, nonterminal) {
+        return empty_rule(grammar, nonterminal);
     }
-    let count = head.rules;
-    let mut r = contexts::first_here(table, context);
-    while r < count {
-        if takes(table, head, r, nonterminal, context) {
+    for r in contexts::rules_here(grammar, context) {
+        if takes(grammar, r, nonterminal, context) {
             return r;
         }
-        r = rule_index::next_of(table, r);
     }
-    r
+    grammar.head.rules
 }
 
 // The nonterminal at the next position; d is the one behind the close, where the token is a close.

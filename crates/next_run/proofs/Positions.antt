@@ -1,41 +1,65 @@
 -- The backward search, one position at a time.
-use Prim.Native.Nat.{ℕ, suc, ◌<◌, ◌≤◌}
-use native.Mathlib.Nat.{eq-or-lt_of_le}
+use Prim.Native.Nat.{ℕ, suc, ◌+◌, ◌<◌, ◌≤◌}
 use native.Mathlib.Omega.{arith}
 use mathlib.Core.Path.{◌≡◌, sym, ◌∙◌, ap}
-use mathlib.Core.Logic.{⊎_elim}
-use mathlib.Core.Bool.{true, false, ◌&&◌}
+use mathlib.Core.Bool.{Bool, true, false, ◌&&◌}
 use mathlib.Core.List.{List}
 use lib.Dec.{eqb}
 use lib.ListN.{length, get_or}
-use Rattle.vpg.specs.declared.Token.{Token}
+use Rattle.std.specs.Prelude.{None}
 use Rattle.vpg.specs.believed.Grammar.{left}
 use Rattle.contexts.specs.declared.Context.{Context}
 use Rattle.tables.specs.declared.Head.{Head}
+use Rattle.tables.specs.declared.Table.{Table}
 use Rattle.tables.specs.Table.{rule_in}
-use Rattle.tables.specs.Ready.{Ready, rules_of}
-use Rattle.levels.specs.Levels.{Leveled, Stands}
+use Rattle.tables.specs.Ready.{rules_of}
+use Rattle.rule_index.specs.Classes.{class_of}
+use Rattle.rule_index.specs.Index.{FirstFrom}
+use Rattle.history_file.specs.believed.HistoryFile.{tokens_of}
+use Rattle.levels.specs.Levels.{Stands, Setting}
+use Rattle.levels.proofs.Levels.{tokens_length}
 use Rattle.moves.specs.Moves.{rule_fits}
-use Rattle.next_run.specs.Next.{fits_at, NoneFrom, LastAt}
-use Rattle.next_run.proofs.Behind.{NoneBetween}
+use Rattle.next_run.specs.Next.{fits_at, EachFits, LargerAt, LargerRule}
+use Rattle.next_run.proofs.Behind.{NoneBetween, between_first, between_more}
 
-module _ (t : List ℕ) (head : Head) (ready : Ready t head) (w : List Token) (mask at e : List ℕ) (leveled : Leveled head.well (rules_of t head) w mask 0) where
-  pub none_end : (p : ℕ) → length w < p → NoneFrom t head w at e p
-  none_end p h q l k = absurd (omega arith)
+-- the walk at position p has come to r: the rule in the buffer is smaller, and no rule between the two fits
+pub record Walked (t : Table) (head : Head) (at e : List ℕ) (p : ℕ) (context : Context) (r : ℕ) : Type 0 where
+  pub larger : get_or e p 0 < r
+  pub between : NoneBetween head.well t (get_or e p 0) (get_or at p 0) context r
 
-  module _ (p : ℕ) (context : Context) (stands : Stands head.well w mask p context) where
-    fits-same : (r : ℕ) → r < head.rules → fits_at t head w at p r ≡ rule_fits head.well (rule_in t r) (get_or at p 0) context
-    fits-same r small = ap (λ b. eqb (left (rule_in t r)) (get_or at p 0) && b) (sym (stands.rules (rules_of t head) (λ q h l. leveled q (omega arith) l) (rule_in t r) (ready.small r small)))
+module _ {t : Table} {head : Head} {ts m mask : List ℕ} {p : ℕ} {context : Context} (set-up : Setting t head ts m mask) (at e : List ℕ) (each : EachFits t head (tokens_of ts) at e) (most : p ≤ length ts) (stands : (W : ℕ) → Stands W (tokens_of ts) mask p context) where
+  -- the rule in the buffer
+  abbrev old : ℕ
+  old = get_or e p 0
 
-    pub fits_here : (r : ℕ) → r < head.rules → fits_at t head w at p r ≡ true → rule_fits head.well (rule_in t r) (get_or at p 0) context ≡ true
-    fits_here r small h = sym (fits-same r small) ∙ h
+  abbrev Fits : ℕ → Bool
+  Fits r = rule_fits head.well (rule_in t r) (get_or at p 0) context
 
-    pub none-next : (r : ℕ) → head.rules ≤ r → NoneBetween head.well t (get_or e p 0) (get_or at p 0) context r → NoneFrom t head w at e (suc p) → NoneFrom t head w at e p
-    none-next r h k x q l z s a b = ⊎_elim (λ i. here q i s a b) (λ i. x q i z s a b) (eq-or-lt_of_le l)
-      where
-        here : (q : ℕ) → p ≡ q → (s : ℕ) → get_or e q 0 < s → s < head.rules → fits_at t head w at q s ≡ false
-        here q i s a b = rw (← i) (fits-same s b ∙ k s (rw (← i) at a) (omega arith))
+  abbrev Walks : ℕ → Type 0
+  Walks r = Walked t head at e p context r
 
-    pub found_at : (r : ℕ) → p ≤ length w → get_or e p 0 < r → r < head.rules → rule_fits head.well (rule_in t r) (get_or at p 0) context ≡ true → NoneBetween head.well t (get_or e p 0) (get_or at p 0) context r →
-        NoneFrom t head w at e (suc p) → LastAt t head w at e p r
-    found_at r h l b q k x = record { position = h; larger = l; rule = b; fits = fits-same r b ∙ q; least = λ s a z. fits-same s (omega (arith, z, b)) ∙ k s a z; last = x }
+  fits-same : (r : ℕ) → r < head.rules → fits_at t head (tokens_of ts) at p r ≡ Fits r
+  fits-same r small =
+      ap (λ b. eqb (left (rule_in t r)) (get_or at p 0) && b) (sym ((stands head.well).rules (rules_of t head) (λ q h l. set-up.leveled q (omega arith) l) (rule_in t r) (set-up.indexed.ready.small r small)))
+
+  pub old_rule : old < head.rules
+  old_rule = (each p (omega (arith, tokens_length ts))).0
+
+  old_fits : Fits old ≡ true
+  old_fits = sym (fits-same old old_rule) ∙ (each p (omega (arith, tokens_length ts))).1
+
+  pub walk_start : Walks (old + 1)
+  walk_start = record { larger = omega arith; between = λ s l k. absurd (omega arith) }
+
+  -- a rule of another class doesn't fit
+  pub walk_over : (k n : ℕ) → FirstFrom t head.rules (class_of (rule_in t old)) k n → Walks k → Walks n
+  walk_over k n f h = record { larger = omega (arith, f.from, h.larger); between = between_first head.well t old (get_or at p 0) context old_fits f h.between }
+
+  pub walk_next : {r : ℕ} → Walks r → Fits r ≡ false → Walks (suc r)
+  walk_next {r} k f = record { larger = omega (arith, k.larger); between = between_more head.well t old (get_or at p 0) context r k.between f }
+
+  pub walk_end : Walks head.rules → LargerRule t head (tokens_of ts) at e p None
+  walk_end k s a b = fits-same s b ∙ k.between s a b
+
+  pub walk_found : {r : ℕ} → Walks r → r < head.rules → Fits r ≡ true → LargerAt t head (tokens_of ts) at e p r
+  walk_found {r = r} k l f = record { larger = k.larger; rule = l; fits = fits-same r l ∙ f; least = λ s a z. fits-same s (omega (arith, z, l)) ∙ k.between s a z }

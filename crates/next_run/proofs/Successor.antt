@@ -32,6 +32,7 @@ use Rattle.level_theory.proofs.Walk.{passes_end, end_passes}
 use Rattle.level_theory.proofs.Pending.{calm_due}
 use Rattle.level_theory.proofs.Local.{Turn, turn, RunFrom, LastFrom, NextFrom, leads, run_left, last-left, next_here, next-all}
 use Rattle.tables.specs.declared.Head.{Head}
+use Rattle.tables.specs.declared.Table.{Table}
 use Rattle.tables.specs.Table.{rule_in}
 use Rattle.tables.specs.Ready.{rules_of, grammar_in}
 use Rattle.tables.proofs.Tables.{rules_at, rules_below, ready_general}
@@ -46,7 +47,7 @@ use Rattle.replay.proofs.Replaying.{number, numbers, state_start}
 use Rattle.next_run.specs.declared.Branch.{Branch}
 use Rattle.next_run.specs.Next.{fits_at, EachFits, NoneFrom, LastAt, Follows, onward, Rewritten}
 
-module _ {t : List ℕ} {head : Head} {ts m mask : List ℕ} (set-up : Setting t head ts m mask) (buf : List ℕ) (long : length ts < length buf) where
+module _ {t : Table} {head : Head} {ts m mask : List ℕ} (set-up : Setting t head ts m mask) (buf : List ℕ) (long : length ts < length buf) where
   abbrev W : List Token
   W = tokens_of ts
 
@@ -155,7 +156,7 @@ module _ {t : List ℕ} {head : Head} {ts m mask : List ℕ} (set-up : Setting t
     module _ (p r : ℕ) (h : LastAt t head W at buf p r) where
       -- where the next reading leaves this one
       abbrev B : Branch
-      B = record { position = p; rule = r; behind = f }
+      B = record { from = record { position = p; nonterminal = get_or at p 0; behind = f }; rule = r }
 
       last-behind : p < length W → LastFrom U G W at f E (suc p)
       last-behind l = last-from (length W - suc p) (suc p) (omega arith) h.last

@@ -1,3 +1,4 @@
 pub mod Fields
+pub mod Results
 pub mod Standing
 pub mod Written

@@ -2,15 +2,15 @@
 use Prim.Native.Nat.{ℕ}
 use mathlib.Core.Path.{◌≡◌, refl}
 use mathlib.Core.List.{List, [], ◌∷◌, ◌++◌}
-use Rattle.numbers.specs.declared.NumberRead.{NumberRead}
-use Rattle.numbers.specs.declared.NumberRead.TheVariants.{Number}
+use Rattle.std.specs.Prelude.{Ok}
+use Rattle.numbers.specs.believed.Number.{Read}
 use Rattle.numbers.specs.Written.{NumbersAt, none, one}
 
-module _ {number : ℕ → NumberRead} where
+module _ {number : ℕ → Read ℕ} where
   pub none_left : {at next : ℕ} → NumbersAt number at [] next → at ≡ next
   none_left none = refl
 
-  pub one_left : {at n next : ℕ} {ns : List ℕ} → NumbersAt number at (n ∷ ns) next → (p : ℕ) × (number at ≡ Number n p) × NumbersAt number p ns next
+  pub one_left : {at n next : ℕ} {ns : List ℕ} → NumbersAt number at (n ∷ ns) next → (p : ℕ) × (number at ≡ Ok (n, p)) × NumbersAt number p ns next
   one_left (one {p} e rest) = (p, e, rest)
 
   pub join : {at p next : ℕ} {ns ms : List ℕ} → NumbersAt number at ns p → NumbersAt number p ms next → NumbersAt number at (ns ++ ms) next

@@ -10,9 +10,10 @@ use lib.Dec.{ltb, eqb}
 use lib.ListN.{length, get_or, drop, length-drop, drop_of_length-le}
 use lib.Seq.{drop-cons, drop-drop, drop-append_seam}
 use borrow.Author.Tests.{ltb-true, ltb-false, lt-ltb, le-ltb, eqb-false, ne_eqb}
-use Rattle.numbers.specs.declared.NumberRead.{NumberRead}
-use Rattle.numbers.specs.declared.NumberRead.TheVariants.{Number, Refused}
-use Rattle.numbers.specs.believed.Number.{with_group, number_within, number_at, bytes}
+use Rattle.std.specs.Prelude.{Ok, Err}
+use Rattle.refusal.specs.declared.Refusal.{Refusal}
+use Rattle.numbers.specs.believed.Number.{Read, with_group, number_within, number_at, bytes}
+use Rattle.numbers.proofs.Results.{apart, same_read}
 use Rattle.numbers.specs.Written.{AllBelow, shortest_with, shortest, written, NumbersAt, none, one, Holds}
 use Rattle.laws.proofs.Bools.{chose_first, chose_second}
 
@@ -101,15 +102,13 @@ unfolding written
 written-append [] ms = refl
 written-append (n ∷ ns) ms = rw (written-append ns ms, append_assoc)
 
-pub apart : {e n next : ℕ} → Refused e ≢ Number n next
-apart h = let z : ◌≡◌ {A = ℕ} 0 1 = cc in omega arith
-
 -- a group stands before a number that isn't 0
-pub group_read : (low : ℕ) (r : NumberRead) (n next : ℕ) → with_group low r ≡ Number n next → (high : ℕ) × (r ≡ Number high next) × (high ≢ 0) × (n ≡ low + high * 128)
-group_read low (Number high p) n next h =
+pub group_read : (low : ℕ) (r : Read ℕ) (n next : ℕ) → with_group low r ≡ Ok (n, next) → (high : ℕ) × (r ≡ Ok (high, next)) × (high ≢ 0) × (n ≡ low + high * 128)
+group_read low (Ok (high, p)) n next h =
     let t = chose_second (eqb high 0) _ _ apart h in
-    (high, cc, eqb-false high 0 t.0, cc)
-group_read low (Refused e) n next h = absurd (apart h)
+    let (worth, place) = same_read t.1 in
+    (high, rw place, eqb-false high 0 t.0, sym worth)
+group_read low (Err e) n next h = absurd (apart h)
 
 module _ (s : List ℕ) where
   stands_one : (more at : ℕ) → at < length s → get_or s at 0 < 128 → Stands more s at (get_or s at 0) (at + 1)
@@ -129,33 +128,32 @@ module _ (s : List ℕ) where
       record { small = omega (arith, i.small); next_is = rw w (omega (arith, i.next_is)); here = rw (w, drop_at s at l, i.here) }
 
   -- the byte at a place: the number, or a group in front of what is read behind it
-  byte_read : (more at n next : ℕ) (rest : NumberRead)
-      → ((high : ℕ) → rest ≡ Number high next → at < length s → 128 ≤ get_or s at 0 → high ≢ 0 → Stands more s at (get_or s at 0 - 128 + high * 128) next)
-      → cond (ltb at (length s)) (cond (ltb (get_or s at 0) 128) (Number (get_or s at 0) (at + 1)) (with_group (get_or s at 0 - 128) rest)) (Refused 1) ≡ Number n next
+  byte_read : (more at n next : ℕ) (rest : Read ℕ)
+      → ((high : ℕ) → rest ≡ Ok (high, next) → at < length s → 128 ≤ get_or s at 0 → high ≢ 0 → Stands more s at (get_or s at 0 - 128 + high * 128) next)
+      → cond (ltb at (length s)) (cond (ltb (get_or s at 0) 128) (Ok (get_or s at 0, at + 1)) (with_group (get_or s at 0 - 128) rest)) (Err Refusal.Truncated) ≡ Ok (n, next)
       → Stands more s at n next
   byte_read more at n next rest behind h =
       let p = chose_first (ltb at (length s)) _ _ apart h in
       go (ltb (get_or s at 0) 128) (ltb-true at (length s) p.0) refl p.1
     where
       go : (t : Bool) → at < length s → ltb (get_or s at 0) 128 ≡ t
-          → cond t (Number (get_or s at 0) (at + 1)) (with_group (get_or s at 0 - 128) rest) ≡ Number n next → Stands more s at n next
+          → cond t (Ok (get_or s at 0, at + 1)) (with_group (get_or s at 0 - 128) rest) ≡ Ok (n, next) → Stands more s at n next
       go true l e r =
-          let en : get_or s at 0 ≡ n = cc in
-          let ep : at + 1 ≡ next = cc in
+          let (en, ep) = same_read r in
           rw (← en, ← ep) (stands_one more at l (ltb-true _ _ e))
       go false l e r =
           let (high, is, some, worth) = group_read (get_or s at 0 - 128) rest n next r in
           rw worth (behind high is l (ltb-false _ _ e) some)
 
-  number_read : AllBelow 256 s → (more at n next : ℕ) → number_within (suc more) s at ≡ Number n next → Stands more s at n next
+  number_read : AllBelow 256 s → (more at n next : ℕ) → number_within (suc more) s at ≡ Ok (n, next) → Stands more s at n next
   unfolding number_within
-  number_read b zero at n next h = byte_read zero at n next (Refused 2) (λ high e l low some. absurd (apart e)) h
+  number_read b zero at n next h = byte_read zero at n next (Err Refusal.NotShortest) (λ high e l low some. absurd (apart e)) h
   number_read b (suc more) at n next h =
       byte_read (suc more) at n next (number_within (suc more) s (at + 1))
       (λ high e l low some. stands_more more at high next l low (below_at 256 s at b l) some (number_read b more (at + 1) high next e))
       h
 
-  reads_one : (more at n next : ℕ) → Stands more s at n next → n < 128 → number_within (suc more) s at ≡ Number n next
+  reads_one : (more at n next : ℕ) → Stands more s at n next → n < 128 → number_within (suc more) s at ≡ Ok (n, next)
   unfolding number_within
   reads_one more at n next i h =
       let w = one-byte-with more n h in
@@ -163,8 +161,8 @@ module _ (s : List ℕ) where
       let e : at + 1 ≡ next = sym (i.next_is ∙ rw w) in
       rw (lt-ltb at (length s) b.inside, b.is, lt-ltb n 128 h, e)
 
-  reads_more : (more at n next : ℕ) → Stands (suc more) s at n next → 128 ≤ n → (Stands more s (at + 1) (n / 128) next → number_within (suc more) s (at + 1) ≡ Number (n / 128) next)
-      → number_within (suc (suc more)) s at ≡ Number n next
+  reads_more : (more at n next : ℕ) → Stands (suc more) s at n next → 128 ≤ n → (Stands more s (at + 1) (n / 128) next → number_within (suc more) s (at + 1) ≡ Ok (n / 128, next))
+      → number_within (suc (suc more)) s at ≡ Ok (n, next)
   unfolding number_within
   reads_more more at n next i l behind =
       let w = more_bytes-with more n l in
@@ -173,16 +171,16 @@ module _ (s : List ℕ) where
       let v : n % 128 + 128 - 128 + n / 128 * 128 ≡ n = omega arith in
       rw (lt-ltb at (length s) b.inside, b.is, le-ltb (n % 128 + 128) 128 (omega arith), e, ne_eqb (n / 128) 0 (omega arith), v)
 
-  number_reads : (more at n next : ℕ) → Stands more s at n next → number_within (suc more) s at ≡ Number n next
+  number_reads : (more at n next : ℕ) → Stands more s at n next → number_within (suc more) s at ≡ Ok (n, next)
   number_reads zero at n next i = reads_one zero at n next i i.small
   number_reads (suc more) at n next i = go (ltb n 128) refl (λ r. number_reads more (at + 1) (n / 128) next r)
     where
-      go : (t : Bool) → ltb n 128 ≡ t → (Stands more s (at + 1) (n / 128) next → number_within (suc more) s (at + 1) ≡ Number (n / 128) next)
-          → number_within (suc (suc more)) s at ≡ Number n next
+      go : (t : Bool) → ltb n 128 ≡ t → (Stands more s (at + 1) (n / 128) next → number_within (suc more) s (at + 1) ≡ Ok (n / 128, next))
+          → number_within (suc (suc more)) s at ≡ Ok (n, next)
       go true t behind = reads_one (suc more) at n next i (ltb-true n 128 t)
       go false t behind = reads_more more at n next i (ltb-false n 128 t) behind
 
-  pub number_is : AllBelow 256 s → (at n next : ℕ) → (number_at s at ≡ Number n next) ↔ Stands 2 s at n next
+  pub number_is : AllBelow 256 s → (at n next : ℕ) → (number_at s at ≡ Ok (n, next)) ↔ Stands 2 s at n next
   unfolding number_at
   number_is b at n next = (number_read b 2 at n next, number_reads 2 at n next)
 
@@ -194,12 +192,12 @@ module _ (s : List ℕ) where
       let d : drop next s ≡ rest = sym (drop-drop (length (shortest_with 2 n)) at s) ∙ (ap (drop (length (shortest_with 2 n))) e ∙ drop-append_seam (shortest_with 2 n) rest) in
       (next, record { small = h; next_is = refl; here = rw d e }, d)
 
-pub number-written : (p : List ℕ) (n : ℕ) (q : List ℕ) → n < 2097152 → number_at (p ++ (shortest n ++ q)) (length p) ≡ Number n (length p + length (shortest n))
+pub number-written : (p : List ℕ) (n : ℕ) (q : List ℕ) → n < 2097152 → number_at (p ++ (shortest n ++ q)) (length p) ≡ Ok (n, length p + length (shortest n))
 unfolding number_at shortest
 number-written p n q h =
     let s = p ++ (shortest n ++ q) in
     let i = (next-at s (length p) n q h (drop-append_seam p (shortest n ++ q))).1 in
-    number_reads s 2 (length p) n _ i ∙ ap (Number n) i.next_is
+    number_reads s 2 (length p) n _ i ∙ ap (λ p. Ok (n, p)) i.next_is
 
 module _ (s : List ℕ) where
   pub numbers_read : AllBelow 256 s → {at next : ℕ} {ns : List ℕ} → NumbersAt (number_at s) at ns next → drop at s ≡ written ns ++ drop next s

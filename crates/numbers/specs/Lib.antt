@@ -1,3 +1,2 @@
 pub mod believed
-pub mod Refusals
 pub mod Written

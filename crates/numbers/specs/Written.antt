@@ -1,9 +1,7 @@
 -- How numbers are written as bytes, and what it is that numbers stand in a file (document 01, "The two files"; document 02, 2.4).
 -- Law: numbers_read, numbers_reads (numbers/proofs/Written.antt)
-use Rattle.std.specs.Prelude.{ℕ, zero, suc, ◌+◌, ◌<◌, ◌/◌, ◌%◌, ◌≡◌, false, cond, List, [], ◌∷◌, ◌++◌, ltb}
-use Rattle.numbers.specs.declared.NumberRead.{NumberRead}
-use Rattle.numbers.specs.declared.NumberRead.TheVariants.{Number}
-use Rattle.numbers.specs.believed.Number.{Source}
+use Rattle.std.specs.Prelude.{ℕ, zero, suc, ◌+◌, ◌<◌, ◌/◌, ◌%◌, ◌≡◌, false, cond, List, [], ◌∷◌, ◌++◌, ltb, Ok}
+use Rattle.numbers.specs.believed.Number.{Read, Source}
 
 -- all numbers of the list are below the limit
 abbrev pub AllBelow : ℕ → List ℕ → Type 0
@@ -26,9 +24,9 @@ written [] = []
 written (n ∷ ns) = shortest n ++ written ns
 
 -- the numbers stand one after another from a place up to the next
-pub data NumbersAt (number : ℕ → NumberRead) : ℕ → List ℕ → ℕ → Type 0 where
+pub data NumbersAt (number : ℕ → Read ℕ) : ℕ → List ℕ → ℕ → Type 0 where
   none : {at : ℕ} → NumbersAt number at [] at
-  one : {at n p next : ℕ} {ns : List ℕ} → number at ≡ Number n p → NumbersAt number p ns next → NumbersAt number at (n ∷ ns) next
+  one : {at n p next : ℕ} {ns : List ℕ} → number at ≡ Ok (n, p) → NumbersAt number p ns next → NumbersAt number at (n ∷ ns) next
 
 -- a file holds these numbers and nothing behind them
 abbrev pub Holds : Source → List ℕ → Type 0

@@ -20,6 +20,7 @@ use Rattle.vpg.specs.Tests.{is_open, same_token}
 use Rattle.vpg.specs.believed.Grammar.{Grammar}
 use Rattle.pair_theory.specs.Pairs.{PairState, single, next_to, over_next, open_to, over_open, finished, close_to, over_close, over_return, derivative}
 use Rattle.tables.specs.declared.Head.{Head}
+use Rattle.tables.specs.declared.Table.{Table}
 use Rattle.tables.specs.Ready.{Below}
 use Rattle.tables.specs.Table.{rule_in, rules_in}
 use Rattle.rule_index.specs.Index.{Indexed, ends_in}
@@ -139,7 +140,7 @@ single_encodes s h = record { at = λ L₁ L₂ l₁ l₂. go L₁ L₂ l₂ (eq
         ∙ bit-zero L₁
         ∙ sym (and-false (eqb L₁ s))
 
-module _ (t : List ℕ) (head : Head) (indexed : Indexed t head) where
+module _ (t : Table) (head : Head) (indexed : Indexed t head) where
   abbrev g : Grammar
   g = wide_grammar t head
 

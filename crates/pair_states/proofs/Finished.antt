@@ -1,6 +1,5 @@
 -- The digits of the contexts that may be finished: those that the paper's derivative by a close asks for.
-use Prim.Native.Nat.{ℕ, zero, suc, ◌+◌, ◌<◌}
-use native.Mathlib.Numerals.{add-one}
+use Prim.Native.Nat.{ℕ, zero, suc, ◌<◌}
 use native.Mathlib.Omega.{arith}
 use mathlib.Core.Path.{◌≡◌, refl, sym, ◌∙◌, ap}
 use mathlib.Core.Bool.{Bool, true, false, cond, ◌&&◌, ◌||◌}
@@ -19,6 +18,7 @@ use Rattle.vpg.specs.believed.Grammar.{Grammar, left}
 use Rattle.vpg.proofs.Tests.{if_empty_lem}
 use Rattle.pair_theory.specs.Pairs.{PairState, ends_from, finished}
 use Rattle.tables.specs.declared.Head.{Head}
+use Rattle.tables.specs.declared.Table.{Table}
 use Rattle.tables.specs.Table.{rule_in, rules_in}
 use Rattle.rule_index.specs.Index.{Indexed, end_in, ends_in}
 use Rattle.pair_states.specs.Encodes.{Encodes}
@@ -28,7 +28,7 @@ use Rattle.pair_states.specs.Wide.{wide_grammar}
 -- ── tests ──
 
 -- over the rules of a table by their numbers
-pub any_rules : (p : Rule → Bool) (t : List ℕ) (n : ℕ) → any p (rules_in t n) ≡ any_below n (λ r. p (rule_in t r))
+pub any_rules : (p : Rule → Bool) (t : Table) (n : ℕ) → any p (rules_in t n) ≡ any_below n (λ r. p (rule_in t r))
 unfolding rules_in
 any_rules p t zero = refl
 any_rules p t (suc n) = any_snoc p (rules_in t n) (rule_in t n) ∙ or_comm (any p (rules_in t n)) (p (rule_in t n)) ∙ ap (λ (b : Bool). p (rule_in t n) || b) (any_rules p t n)
@@ -49,13 +49,9 @@ bit-finished words empties (suc n) L = go (bit empties n) (bit-finished words em
         ∙ ap (λ (b : Bool). bit (get_or words n 0) L || b) h
     go false h = h
 
-pub finished-turn : (words : List ℕ) (empties k m : ℕ) → m ≡ finished_of words empties k → cond (bit empties k) (bit_or m (get_or words k 0)) m ≡ finished_of words empties (k + 1)
-unfolding finished_of
-finished-turn words empties k m e = rw (add-one, e)
-
 -- ── what may be finished ──
 
-module _ (t : List ℕ) (head : Head) (indexed : Indexed t head) where
+module _ (t : Table) (head : Head) (indexed : Indexed t head) where
   abbrev g : Grammar
   g = wide_grammar t head
 

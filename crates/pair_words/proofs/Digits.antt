@@ -1,39 +1,24 @@
 -- The digits of the words that rules give.
-use Prim.Native.Nat.{ℕ, zero, suc, ◌^◌, ◌<◌}
+use Prim.Native.Nat.{ℕ, zero, suc, ◌<◌}
 use native.Mathlib.Omega.{arith}
 use mathlib.Core.Path.{◌≡◌, refl, sym, ◌∙◌, ap}
-use mathlib.Core.Bool.{Bool, true, false, cond, not, ◌&&◌, ◌||◌, false≢true, or-false, or_assoc}
+use mathlib.Core.Bool.{Bool, true, false, cond, ◌&&◌, ◌||◌, false≢true, or-false, or_assoc}
 use mathlib.Core.List.{List}
-use borrow.Author.Tests.{eqb-true, eq-eqb, ne_eqb}
+use borrow.Author.Tests.{eqb-true, eq-eqb}
 use lib.Bits.{bit_or}
 use lib.Dec.{eqb}
 use lib.ListN.{length, get_or, length-set}
 use lib.Seq.{get_or-set_same, get_or-set_other}
-use Rattle.laws.specs.Any.{any, any_below}
-use Rattle.laws.proofs.Any.{below_some, some_below, any_snoc}
+use Rattle.laws.specs.Any.{any}
+use Rattle.laws.proofs.Any.{any_snoc}
 use Rattle.bits.specs.Bit.{bit}
-use Rattle.bits.proofs.Bits.{bit-zero, bit-or, no_member}
+use Rattle.bits.proofs.Bits.{bit-or}
 use Rattle.vpg.specs.declared.Rule.{Rule}
+use Rattle.tables.specs.declared.Table.{Table}
 use Rattle.tables.specs.Ready.{Below}
 use Rattle.tables.specs.Table.{rule_in, rules_in}
 use Rattle.pair_words.specs.Words.{Gives, joined, words_by}
 use Rattle.pair_words.proofs.Below.{Fits}
-
--- ── one set ──
-
--- a set of a width has a member where it isn't 0
-pub some_member : (k m : ℕ) → m < 2 ^ k → not (eqb m 0) ≡ any_below k (bit m)
-some_member k m h = go (any_below k (bit m)) refl
-  where
-    go : (b : Bool) → any_below k (bit m) ≡ b → not (eqb m 0) ≡ b
-    go true q =
-        let s = below_some k (bit m) q in
-        rw (ne_eqb m 0 (λ e. false≢true (sym (bit-zero s.number) ∙ ap (λ (x : ℕ). bit x s.number) (sym e) ∙ s.passes)))
-    go false q = rw (eq-eqb m 0 (no_member k m h (λ b l. none b l (bit m b) refl)))
-      where
-        none : (b : ℕ) → b < k → (x : Bool) → bit m b ≡ x → bit m b ≡ false
-        none b l true p = absurd (false≢true (sym q ∙ some_below k (bit m) b l p))
-        none b l false p = p
 
 -- ── 32 words ──
 
@@ -52,7 +37,7 @@ bit-joined words M m L K h = go (eqb M L) refl
 abbrev pub adds : Gives → ℕ → ℕ → Rule → Bool
 adds p L K R = p.matches R && (eqb (p.follows R) L && bit (p.contexts R) K)
 
-module _ (p : Gives) (base : List ℕ) (long : length base ≡ 32) (t : List ℕ) where
+module _ (p : Gives) (base : List ℕ) (long : length base ≡ 32) (t : Table) where
   pub words_size : (n : ℕ) → length (words_by p base t n) ≡ 32
   unfolding words_by
   words_size zero = long

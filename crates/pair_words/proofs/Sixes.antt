@@ -1,5 +1,5 @@
 -- What a rule gives, by its six numbers.
-use Prim.Native.Nat.{ℕ, ◌*◌, ◌<◌}
+use Prim.Native.Nat.{ℕ, ◌<◌}
 use native.Mathlib.Omega.{arith}
 use mathlib.Core.Path.{◌≡◌, refl, sym, ◌∙◌, ap}
 use mathlib.Core.Bool.{Bool, true, false, cond, ◌&&◌, false≢true}
@@ -17,6 +17,7 @@ use Rattle.vpg.specs.believed.Grammar.{left}
 use Rattle.vpg.specs.Parts.{onward}
 use Rattle.vpg.specs.Tests.{same_token}
 use Rattle.tables.specs.declared.Six.{Six}
+use Rattle.tables.specs.declared.Table.{Table}
 use Rattle.tables.specs.Ready.{Below}
 use Rattle.vpg.specs.Forms.{name_of}
 use Rattle.tables.specs.Table.{token_by, six_in, rule_in}
@@ -79,7 +80,7 @@ step_numbers t v z e = record {
   contexts = λ own. rw z;
 }
 
-pub numbers : (table : List ℕ) (k : ℕ) (t : Token) (v : Six) → v ≡ six_in table (k * 6) → class_of (rule_in table k) ≡ class_at t → Numbers t v (rule_in table k)
+pub numbers : (table : Table) (k : ℕ) (t : Token) (v : Six) → v ≡ six_in table k → class_of (rule_in table k) ≡ class_at t → Numbers t v (rule_in table k)
 numbers table k t v e c = go (eqb v.0 0) refl (eqb v.0 2) refl
   where
     go : (empty : Bool) → eqb v.0 0 ≡ empty → (step : Bool) → eqb v.0 2 ≡ step → Numbers t v (rule_in table k)
@@ -91,7 +92,7 @@ numbers table k t v e c = go (eqb v.0 0) refl (eqb v.0 2) refl
         let is = rule_next table k v e (eqb-false v.0 0 p) (eqb-false v.0 2 q) in
         rw is (next_numbers t v (eqb-false v.0 2 q) (rw is at c))
 
-module _ (table : List ℕ) (k : ℕ) (t : Token) (v : Six) (is : v ≡ six_in table (k * 6)) (class : class_of (rule_in table k) ≡ class_at t) where
+module _ (table : Table) (k : ℕ) (t : Token) (v : Six) (is : v ≡ six_in table k) (class : class_of (rule_in table k) ≡ class_at t) where
   pub begins_below : Below 32 (rule_in table k) → (v.1 < 32) × (v.3 < 32)
   begins_below h =
       let x = numbers table k t v is class in
@@ -113,7 +114,7 @@ module _ (table : List ℕ) (k : ℕ) (t : Token) (v : Six) (is : v ≡ six_in t
 abbrev step_named : OpenName → CloseName → Six → Bool
 step_named a b v = eqb v.2 a.0 && (eqb v.4 b.0 && eqb v.0 2)
 
-module _ (table : List ℕ) (k : ℕ) (a : OpenName) (b : CloseName) (v : Six) (is : v ≡ six_in table (k * 6)) where
+module _ (table : Table) (k : ℕ) (a : OpenName) (b : CloseName) (v : Six) (is : v ≡ six_in table k) where
   step_is : step_named a b v ≡ true → rule_in table k ≡ Rule.Step v.1 (record { 0 = v.2 }) v.3 (record { 0 = v.4 }) v.5
   step_is q = rule_step table k v is (eqb-true v.0 2 (and_right (eqb v.4 b.0) _ (and_right (eqb v.2 a.0) _ q)))
 

@@ -12,6 +12,7 @@ use Rattle.vpg.specs.declared.Token.{Token}
 use Rattle.vpg.specs.believed.Grammar.{left}
 use Rattle.vpg.specs.Tests.{is_open, same_token, if_step}
 use Rattle.vpg.specs.Parts.{onward, beyond}
+use Rattle.tables.specs.declared.Table.{Table}
 use Rattle.tables.specs.Table.{rule_in}
 
 -- ── one rule ──
@@ -70,6 +71,6 @@ abbrev pub gained : Gives → List ℕ → Rule → List ℕ
 gained p out R = cond (p.matches R) (joined out (p.follows R) (p.contexts R)) out
 
 -- what the first n rules of a table give; base: what there is besides
-unfoldable pub words_by : Gives → List ℕ → List ℕ → ℕ → List ℕ
+unfoldable pub words_by : Gives → List ℕ → Table → ℕ → List ℕ
 words_by p base t zero = base
 words_by p base t (suc n) = gained p (words_by p base t n) (rule_in t n)

@@ -1,5 +1,5 @@
 -- What the services tell, from what the passes give.
-use Prim.Native.Nat.{ℕ, zero, suc, ◌<◌, ◌≤◌}
+use Prim.Native.Nat.{ℕ, zero, suc, ◌+◌, ◌<◌, ◌≤◌}
 use native.Mathlib.Omega.{arith}
 use mathlib.Core.Path.{◌≡◌, refl, ◌∙◌, ap}
 use mathlib.Core.Bool.{Bool, true, false, cond}
@@ -9,7 +9,8 @@ use lib.Dec.{ltb}
 use lib.ListN.{length}
 use Rattle.vpg.specs.believed.Grammar.{Grammar}
 use Rattle.vpg.specs.Runs.{entries}
-use Rattle.capped.specs.Capped.{limit, cap}
+use Rattle.std.specs.Prelude.{Option, Some, None, IfSome, Ok}
+use Rattle.capped.specs.Capped.{limit, cap, value}
 use Rattle.capped.proofs.Capped.{cap_small, cap_big}
 use Rattle.count_theory.specs.believed.CountAt.{tally, count_at}
 use Rattle.count_theory.specs.Allowed.{passes, alone_at}
@@ -19,8 +20,8 @@ use Rattle.levels.proofs.Levels.{tokens_length}
 use Rattle.files.specs.believed.Files.{accepted}
 use Rattle.kth_run.specs.Kth.{kth_written}
 use Rattle.service.specs.believed.Given.{Given, given, written, untouched}
-use Rattle.service.specs.believed.Opened.{files_in}
-use Rattle.reading_counts.specs.believed.Numbered.{exact, over, told, readings_due, readings_at_due, numbered}
+use Rattle.service.specs.believed.Opened.{files_in, opened}
+use Rattle.reading_counts.specs.believed.Numbered.{exact, over, told, readings_said, readings_due, readings_at_due, reading_due, numbered}
 
 pub told_exact : (n : ℕ) → n < limit → exact n ≡ told n
 told_exact n h = rw (lt-ltb n limit h)
@@ -55,10 +56,20 @@ module _ (grammar history : List ℕ) {g : Grammar} {ts : List ℕ} (passed : fi
 abbrev pub kth_said : Bool × List ℕ → Given Unit × List ℕ
 kth_said p = cond p.0 (written, p.1) (untouched p.1 18)
 
-pub kth-numbered : (l : List (List ℕ)) (k n : ℕ) (buf : List ℕ) → kth_said (kth_written l k n buf) ≡ numbered l k n buf
-kth-numbered l zero n buf = refl
-kth-numbered l (suc i) n buf = go (ltb i (length l)) refl
+pub kth_numbered : (l : List (List ℕ)) (k n : ℕ) (buf : List ℕ) → kth_said (kth_written l k n buf) ≡ numbered l k n buf
+kth_numbered l zero n buf = refl
+kth_numbered l (suc i) n buf = go (ltb i (length l)) refl
   where
     go : (b : Bool) → ltb i (length l) ≡ b → kth_said (kth_written l (suc i) n buf) ≡ numbered l (suc i) n buf
     go true e = rw (e, ne_eqb (suc i) 0 (λ d. omega (arith, d)), le-ltb (length l) (suc i) (ltb-true i (length l) e)) refl
     go false e = rw (e, ne_eqb (suc i) 0 (λ d. omega (arith, d)), lt-ltb (length l) (suc i) (let h = ltb-false i (length l) e in omega arith)) refl
+
+-- reading k, by what the search answers
+pub reading_told : (grammar history buf : List ℕ) (k : ℕ) {g : Grammar} {ts : List ℕ} → opened 1 (length buf) (files_in grammar history) ≡ accepted g ts →
+    kth_said (kth_written (entries g (tokens_of ts)) k (length ts + 1) buf) ≡ reading_due grammar history k buf
+reading_told grammar history buf k {g} {ts} is = rw (is, tokens_length) (kth_numbered (entries g (tokens_of ts)) k (length ts + 1) buf)
+
+-- a count as the services answer it is told as it is
+pub count_told : (n : Option ℕ) → IfSome n (λ x. x < limit) → readings_said (Ok n) ≡ given (told (value n))
+count_told (Some x) h = ap given (told_exact x h)
+count_told None h = ap given (told_over limit (omega arith))

@@ -7,7 +7,6 @@ use mathlib.Core.Logic.{◌≢◌, ◌↔◌, ◌⊎◌, inl, inr}
 use mathlib.Core.Bool.{Bool, true, false, cond, ◌&&◌}
 use mathlib.Core.List.{List, [], ◌∷◌}
 use mathlib.Core.Option.{Option, none, some}
-use borrow.Author.Tests.{ne_eqb}
 use lib.Dec.{eqb, ltb}
 use lib.ListN.{length, get_or, take, drop, length-append}
 use lib.Seq.{drop-cons}
@@ -20,7 +19,7 @@ use Rattle.step_bytes.proofs.Parts.{step_in_lem}
 use Rattle.step_bytes.proofs.Steps.{open_inside}
 use Rattle.replies.specs.believed.Wire.{part_wire, step_code}
 use Rattle.refusals.specs.Codes.{StepNumbered, number_of}
-use Rattle.refusals.proofs.Readers.{OfHistory, history_of_lem}
+use Rattle.refusals.proofs.Readers.{chosen, OfHistory, history_of_lem}
 
 -- ── the number ──
 
@@ -30,28 +29,23 @@ OfStep (some e) = StepNumbered e
 
 step_in_numbers : (ts : List ℕ) (p : ℕ) → OfStep (number_in (step_in ts p))
 unfolding step_in
-step_in_numbers ts p = go (ltb p (length ts) && eqb (kind (get_or ts p 0)) 1) (step_length 0 (drop p ts))
+step_in_numbers ts p = chosen (λ x. OfStep (number_in x)) (ltb p (length ts) && eqb (kind (get_or ts p 0)) 1) (go (step_length 0 (drop p ts))) (inr (inr refl))
   where
-    go : (b : Bool) (x : Option ℕ) → OfStep (number_in (cond b (part_from ts p x) (refused 17)))
-    go true (some k) = tt
-    go true none = inr (inr refl)
-    go false x = inr (inr refl)
+    go : (x : Option ℕ) → OfStep (number_in (part_from ts p x))
+    go none = inr (inr refl)
+    go (some k) = tt
 
 step_numbers : (s : List ℕ) (p : ℕ) → OfStep (number_in (step_of s p))
 step_numbers s p =
     go (history_of s)
-    (history_of_lem StepNumbered (inl (omega arith, omega arith)) (inl (omega arith, omega arith)) (inr (inl (omega arith, omega arith)))
-    (inr (inl (omega arith, omega arith))) (inr (inl (omega arith, omega arith))) (inr (inl (omega arith, omega arith)))
-    (inr (inl (omega arith, omega arith))) (inr (inl (omega arith, omega arith))) s)
+    (history_of_lem StepNumbered (inl (omega arith)) (inl (omega arith)) (λ e h. inr (inl h)) s)
   where
     go : (f : HistoryFile) → OfHistory StepNumbered f → OfStep (number_in (step_from f p))
     go (history-file.refused e) h = h
     go (history-file.accepted ts) h = step_in_numbers ts p
 
 above : {k : ℕ} → StepNumbered k → k ≢ 0
-above (inl h) q = omega arith
-above (inr (inl h)) q = omega arith
-above (inr (inr h)) q = omega arith
+above h q = grind arith
 
 -- ── the part ──
 
@@ -61,16 +55,16 @@ written-some n ns = rw length-append (omega (arith, shortest-some n))
 
 length_some : (ts : List ℕ) (depth k : ℕ) → step_length depth ts ≡ some k → 0 < k
 unfolding step_length
-length_some [] depth k e = absurd (let z : ◌≡◌ {A = ℕ} 0 1 = cc in omega arith)
+length_some [] depth k e = cc
 length_some (t ∷ ts) depth k e = go (eqb (depth_after t depth) 0) (step_length (depth_after t depth) ts) e
   where
     go : (b : Bool) (x : Option ℕ) → cond b (some 1) (later x) ≡ some k → 0 < k
-    go true x q = let z : 1 ≡ k = cc in omega arith
-    go false none q = absurd (let z : ◌≡◌ {A = ℕ} 0 1 = cc in omega arith)
-    go false (some j) q = let z : suc j ≡ k = cc in omega arith
+    go true x q = grind arith
+    go false none q = cc
+    go false (some j) q = grind arith
 
 taken_some : (ts : List ℕ) (p k : ℕ) → p < length ts → 0 < k → 0 < length (written (take k (drop p ts)))
-taken_some ts p zero inside h = absurd (omega arith)
+taken_some ts p zero inside h = omega arith
 taken_some ts p (suc k) inside h = rw (drop-cons ts p 0 inside) (written-some (get_or ts p 0) (take k (drop (suc p) ts)))
 
 part-some : (s : List ℕ) (p start : ℕ) (us : List ℕ) → step_of s p ≡ part start us → 0 < length (written us)
@@ -94,5 +88,5 @@ step_codes s p = go (step_of s p) refl (step_numbers s p)
     go : (x : StepPart) → step_of s p ≡ x → OfStep (number_in x) → StepCode x
     go (part start us) q h =
         let some_bytes = part-some s p start us q in
-        record { one_of = inl refl; back = refl; empty = (λ e. absurd (omega (arith, some_bytes, e)), λ n. absurd (n refl)) }
-    go (refused k) q h = record { one_of = inr h; back = rw (ne_eqb k 0 (above h)); empty = (λ e. above h, λ n. refl) }
+        record { one_of = inl refl; back = refl; empty = (λ e. omega arith, λ n. absurd (n refl)) }
+    go (refused k) q h = record { one_of = inr h; back = grind (arith, above); empty = (λ e. above h, λ n. refl) }

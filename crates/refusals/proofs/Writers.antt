@@ -3,85 +3,61 @@ use Prim.Native.Nat.{ℕ}
 use native.Mathlib.Omega.{arith}
 use mathlib.Core.Path.{◌≡◌, refl}
 use mathlib.Core.Logic.{◌≢◌, ◌⊎◌, inl, inr}
-use mathlib.Core.Bool.{Bool, true, false, cond}
-use mathlib.Core.List.{List, ◌∷◌, ◌++◌}
-use borrow.Author.Tests.{ne_eqb}
+use mathlib.Core.List.{List, ◌∷◌}
 use lib.Dec.{ltb}
-use lib.ListN.{length, drop}
+use lib.ListN.{length}
 use Rattle.numbers.specs.Written.{written}
 use Rattle.elements.specs.believed.Elements.{element_at, elements}
 use Rattle.grammar_file.specs.believed.GrammarFile.{GrammarFile, grammar_from}
-use Rattle.grammar_file.specs.believed.GrammarFile
 use Rattle.grammar_file.specs.Wellformed.{numbers_of}
 use Rattle.history_file.specs.believed.HistoryFile.{HistoryFile, history_from}
-use Rattle.history_file.specs.believed.HistoryFile
-use Rattle.service.specs.believed.Given.{Given, given, refused, untouched}
+use Rattle.service.specs.believed.Given.{Given, given, refused}
 use Rattle.writers.specs.believed.Writers.{filled, grammar_filled, history_filled, grammar_written, history_written}
 use Rattle.replies.specs.believed.Wire.{length_wire}
 use Rattle.refusals.specs.Codes.{GrammarWriteNumbered, HistoryWriteNumbered, given_of}
-use Rattle.refusals.proofs.Readers.{chosen, OfNumber, OfGrammar, OfHistory, grammar_from_of, history_from_of}
-
-abbrev OfWriter : (ℕ → Type 0) → Given ℕ → Type 0
-OfWriter P (given n) = Unit
-OfWriter P (refused e) = P e
+use Rattle.refusals.proofs.Files.{OfGiven}
+use Rattle.refusals.proofs.Readers.{chosen, OfRead, OfGrammar, OfHistory, grammar_from_of, history_from_of}
 
 -- ── the numbers ──
 
-element_of : (P : ℕ → Type 0) → P 1 → (es : List ℕ) (at : ℕ) → OfNumber P (element_at es at)
+element_of : (P : ℕ → Type 0) → P 1 → (es : List ℕ) (at : ℕ) → OfRead P (element_at es at)
 unfolding element_at
-element_of P one es at = chosen (OfNumber P) (ltb at (length es)) tt one
+element_of P one es at = chosen (OfRead P) (ltb at (length es)) tt one
 
-filled_of : (P : ℕ → Type 0) → P 15 → (file buffer : List ℕ) → OfWriter P (filled file buffer).0
-filled_of P fifteen file buffer = go (ltb (length buffer) (length file))
-  where
-    go : (b : Bool) → OfWriter P (cond b (untouched buffer 15) (given (length file), file ++ drop (length file) buffer)).0
-    go true = fifteen
-    go false = tt
+filled_of : (P : ℕ → Type 0) → P 15 → (file buffer : List ℕ) → OfGiven P (filled file buffer).0
+filled_of P fifteen file buffer = chosen (λ (x : Given ℕ × List ℕ). OfGiven P x.0) (ltb (length buffer) (length file)) fifteen tt
 
-grammar_write_numbers : (es buffer : List ℕ) → OfWriter GrammarWriteNumbered (grammar_written es buffer).0
+grammar_write_numbers : (es buffer : List ℕ) → OfGiven GrammarWriteNumbered (grammar_written es buffer).0
 grammar_write_numbers es buffer =
     go (grammar_from (elements es))
-    (grammar_from_of GrammarWriteNumbered (elements es) (element_of GrammarWriteNumbered (inl refl) es) (inr (inl (omega arith, omega arith)))
-    (inr (inl (omega arith, omega arith))) (inr (inl (omega arith, omega arith))) (inr (inl (omega arith, omega arith)))
-    (inr (inl (omega arith, omega arith))) (inr (inl (omega arith, omega arith))) (inr (inl (omega arith, omega arith))))
+    (grammar_from_of GrammarWriteNumbered (elements es) (element_of GrammarWriteNumbered (inl refl) es) (λ e h. inr (inl h)))
   where
-    go : (f : GrammarFile) → OfGrammar GrammarWriteNumbered f → OfWriter GrammarWriteNumbered (grammar_filled f buffer).0
+    go : (f : GrammarFile) → OfGrammar GrammarWriteNumbered f → OfGiven GrammarWriteNumbered (grammar_filled f buffer).0
     go (GrammarFile.refused e) h = h
     go (GrammarFile.accepted g) h = filled_of GrammarWriteNumbered (inr (inr refl)) (written (numbers_of g)) buffer
 
-history_write_numbers : (es buffer : List ℕ) → OfWriter HistoryWriteNumbered (history_written es buffer).0
+history_write_numbers : (es buffer : List ℕ) → OfGiven HistoryWriteNumbered (history_written es buffer).0
 history_write_numbers es buffer =
     go (history_from (elements es))
-    (history_from_of HistoryWriteNumbered (elements es) (element_of HistoryWriteNumbered (inl refl) es) (inr (omega arith, omega arith))
-    (inr (omega arith, omega arith)) (inr (omega arith, omega arith)) (inr (omega arith, omega arith)) (inr (omega arith, omega arith))
-    (inr (omega arith, omega arith)))
+    (history_from_of HistoryWriteNumbered (elements es) (element_of HistoryWriteNumbered (inl refl) es) (λ e h. inr (omega arith)))
   where
-    go : (f : HistoryFile) → OfHistory HistoryWriteNumbered f → OfWriter HistoryWriteNumbered (history_filled f buffer).0
+    go : (f : HistoryFile) → OfHistory HistoryWriteNumbered f → OfGiven HistoryWriteNumbered (history_filled f buffer).0
     go (HistoryFile.refused e) h = h
-    go (HistoryFile.accepted ts) h = filled_of HistoryWriteNumbered (inr (omega arith, omega arith)) (written (length ts ∷ ts)) buffer
+    go (HistoryFile.accepted ts) h = filled_of HistoryWriteNumbered (inr (omega arith)) (written (length ts ∷ ts)) buffer
 
 -- ── the codes ──
-
-grammar_above : (k : ℕ) → GrammarWriteNumbered k → k ≢ 0
-grammar_above k (inl h) q = omega arith
-grammar_above k (inr (inl h)) q = omega arith
-grammar_above k (inr (inr h)) q = omega arith
-
-history_above : (k : ℕ) → HistoryWriteNumbered k → k ≢ 0
-history_above k (inl h) q = omega arith
-history_above k (inr h) q = omega arith
 
 -- the number is 0 or one of these, and number and length together say the answer
 pub record WriteCode (P : ℕ → Type 0) (x : Given ℕ) : Type 0 where
   pub one_of : ((length_wire x).answer ≡ 0) ⊎ P (length_wire x).answer
   pub back : given_of (length_wire x).answer (length_wire x).length ≡ x
 
-write_codes : (P : ℕ → Type 0) → ((k : ℕ) → P k → k ≢ 0) → (x : Given ℕ) → OfWriter P x → WriteCode P x
+write_codes : (P : ℕ → Type 0) → ((k : ℕ) → P k → k ≢ 0) → (x : Given ℕ) → OfGiven P x → WriteCode P x
 write_codes P above (given n) h = record { one_of = inl refl; back = refl }
-write_codes P above (refused k) h = record { one_of = inr h; back = rw (ne_eqb k 0 (above k h)) }
+write_codes P above (refused k) h = record { one_of = inr h; back = grind (arith, above) }
 
 pub grammar_write_codes : (es buffer : List ℕ) → WriteCode GrammarWriteNumbered (grammar_written es buffer).0
-grammar_write_codes es buffer = write_codes GrammarWriteNumbered grammar_above (grammar_written es buffer).0 (grammar_write_numbers es buffer)
+grammar_write_codes es buffer = write_codes GrammarWriteNumbered (λ k h q. grind arith) (grammar_written es buffer).0 (grammar_write_numbers es buffer)
 
 pub history_write_codes : (es buffer : List ℕ) → WriteCode HistoryWriteNumbered (history_written es buffer).0
-history_write_codes es buffer = write_codes HistoryWriteNumbered history_above (history_written es buffer).0 (history_write_numbers es buffer)
+history_write_codes es buffer = write_codes HistoryWriteNumbered (λ k h q. grind arith) (history_written es buffer).0 (history_write_numbers es buffer)

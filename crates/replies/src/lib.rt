@@ -2,21 +2,13 @@
 #![tactic(auto)]
 
 ghost use Rattle.std.specs.Prelude.{◌≡◌};
-ghost use Rattle.files.specs.believed.Checks.{grammar_said, history_said};
-ghost use Rattle.service.specs.believed.Given.{outcome_said};
-ghost use Rattle.sets.specs.believed.Sets.{count_said};
-ghost use Rattle.reading_counts.specs.believed.Numbered.{readings_said};
-ghost use Rattle.step_bytes.specs.believed.StepBytes.{number_said};
-ghost use Rattle.writers.specs.believed.Writers.{write_said};
 ghost use Rattle.replies.specs.believed.Wire.{grammar_wire, history_wire, count_wire, readings_wire, outcome_code, step_code, length_wire};
 ghost use Rattle.replies.specs.Places.{place_wire};
+ghost use Rattle.replies.specs.Told.{grammar_told, history_told, readings_told, number_told, told};
 
-use files::{GrammarCheck, HistoryCheck};
-use reading_counts::ReadingCount;
-use service::Outcome;
-use sets::CountAnswer;
-use step_bytes::{StepCheck, StepPlace};
-use writers::WriteAnswer;
+use capped::Count;
+use files::GrammarCounts;
+use step_bytes::Part;
 
 // 0 and the counts of an accepted grammar; or the number of the refusal, and zeros.
 #[repr(C)]
@@ -67,79 +59,79 @@ pub struct WriteReply {
     pub length: usize,
 }
 
-pub fn grammar_reply(check: GrammarCheck) -> GrammarReply
-    ensures { result ≡ grammar_wire (grammar_said check) }
+pub fn grammar_reply(check: Result<GrammarCounts, u8>) -> GrammarReply
+    ensures { result ≡ grammar_wire (grammar_told check) }
 {
     match check {
-        GrammarCheck::Accepted(stages, rules) => GrammarReply {
+        Ok(GrammarCounts { stages, rules }) => GrammarReply {
             answer: 0,
             stages,
             rules,
         },
-        GrammarCheck::Refused(e) => GrammarReply {
-            answer: e,
+        Err(number) => GrammarReply {
+            answer: number,
             stages: 0,
             rules: 0,
         },
     }
 }
 
-pub fn history_reply(check: HistoryCheck) -> HistoryReply
-    ensures { result ≡ history_wire (history_said check) }
+pub fn history_reply(check: Result<u16, u8>) -> HistoryReply
+    ensures { result ≡ history_wire (history_told check) }
 {
     match check {
-        HistoryCheck::Accepted(tokens) => HistoryReply { answer: 0, tokens },
-        HistoryCheck::Refused(e) => HistoryReply {
-            answer: e,
+        Ok(tokens) => HistoryReply { answer: 0, tokens },
+        Err(number) => HistoryReply {
+            answer: number,
             tokens: 0,
         },
     }
 }
 
-pub fn count_reply(given: CountAnswer) -> CountReply
-    ensures { result ≡ count_wire (count_said given) }
+pub fn count_reply(given: Result<u32, u8>) -> CountReply
+    ensures { result ≡ count_wire (told given) }
 {
     match given {
-        CountAnswer::Count(count) => CountReply { answer: 0, count },
-        CountAnswer::Refused(k) => CountReply {
-            answer: k,
+        Ok(count) => CountReply { answer: 0, count },
+        Err(number) => CountReply {
+            answer: number,
             count: 0,
         },
     }
 }
 
-pub fn readings_reply(given: ReadingCount) -> ReadingsReply
-    ensures { result ≡ readings_wire (readings_said given) }
+pub fn readings_reply(given: Result<Count, u8>) -> ReadingsReply
+    ensures { result ≡ readings_wire (readings_told given) }
 {
     match given {
-        ReadingCount::Exact(count) => ReadingsReply { answer: 0, count },
-        ReadingCount::Over => ReadingsReply {
+        Ok(Some(count)) => ReadingsReply { answer: 0, count },
+        Ok(None) => ReadingsReply {
             answer: 102,
             count: 0,
         },
-        ReadingCount::Refused(refusal) => ReadingsReply {
-            answer: refusal,
+        Err(number) => ReadingsReply {
+            answer: number,
             count: 0,
         },
     }
 }
 
 // 0, or the number of the refusal.
-pub fn outcome_code(outcome: Outcome) -> u8
-    ensures { result ≡ outcome_code (outcome_said outcome) }
+pub fn outcome_code(outcome: Result<(), u8>) -> u8
+    ensures { result ≡ outcome_code (told outcome) }
 {
     match outcome {
-        Outcome::Done => 0,
-        Outcome::Refused(k) => k,
+        Ok(()) => 0,
+        Err(number) => number,
     }
 }
 
-pub fn part_reply(place: StepPlace) -> PartReply
+pub fn part_reply(place: Result<Part, u8>) -> PartReply
     ensures { result ≡ place_wire place }
 {
     match place {
-        StepPlace::Part(start, length) => PartReply { start, length },
-        StepPlace::Refused(_) => PartReply {
+        Ok(Part { start, length }) => PartReply { start, length },
+        Err(_) => PartReply {
             start: 0,
             length: 0,
         },
@@ -147,21 +139,19 @@ pub fn part_reply(place: StepPlace) -> PartReply
 }
 
 // The number of the refusal, or 0 where there is none.
-pub fn step_code(check: StepCheck) -> u8
-    ensures { result ≡ step_code (number_said check) }
+#[tactic(auto, using(crate::proofs::Places::same_code))]
+pub fn step_code(check: Result<(), u8>) -> u8
+    ensures { result ≡ step_code (number_told check) }
 {
-    match check {
-        StepCheck::Found => 0,
-        StepCheck::Refused(e) => e,
-    }
+    outcome_code(check)
 }
 
-pub fn write_reply(answer: WriteAnswer) -> WriteReply
-    ensures { result ≡ length_wire (write_said answer) }
+pub fn write_reply(answer: Result<usize, u8>) -> WriteReply
+    ensures { result ≡ length_wire (told answer) }
 {
     match answer {
-        WriteAnswer::Written(length) => WriteReply { answer: 0, length },
-        WriteAnswer::Refused(number) => WriteReply {
+        Ok(length) => WriteReply { answer: 0, length },
+        Err(number) => WriteReply {
             answer: number,
             length: 0,
         },

@@ -3,14 +3,14 @@ use Prim.Native.Nat.{ℕ, zero, suc, ◌+◌, ◌-◌, ◌<◌, ◌≤◌}
 use native.Mathlib.Omega.{arith}
 use mathlib.Core.Path.{◌≡◌, ◌∙◌}
 use mathlib.Core.Logic.{◌≢◌}
-use mathlib.Core.List.{List}
 use native.Mathlib.Nat.{add-zero}
+use Rattle.tables.specs.declared.Table.{Table}
 use Rattle.tables.specs.Table.{rule_in}
 use Rattle.rule_index.specs.Classes.{class_of}
 use Rattle.rule_index.specs.Index.{FirstFrom}
 
 -- X n is what is gathered from the first n rules; rules of another class than c add nothing to it
-module _ {A : Type 0} (X : ℕ → A) (t : List ℕ) (c : ℕ) (other : (q : ℕ) → class_of (rule_in t q) ≢ c → X (suc q) ≡ X q) where
+module _ {A : Type 0} (X : ℕ → A) (t : Table) (c : ℕ) (other : (q : ℕ) → class_of (rule_in t q) ≢ c → X (suc q) ≡ X q) where
   none_added : (k d : ℕ) → ((q : ℕ) → k ≤ q → q < k + d → class_of (rule_in t q) ≢ c) → X (k + d) ≡ X k
   none_added k zero h = rw (add-zero k)
   none_added k (suc d) h =
@@ -24,7 +24,7 @@ module _ {A : Type 0} (X : ℕ → A) (t : List ℕ) (c : ℕ) (other : (q : ℕ
       rw e (none_added k (n - k) (λ q l m. f.none q l (omega (arith, f.from))))
 
 -- the same where only the rules of the table are known to add nothing
-module _ {A : Type 0} (X : ℕ → A) (t : List ℕ) (rules c : ℕ) (other : (q : ℕ) → q < rules → class_of (rule_in t q) ≢ c → X (suc q) ≡ X q) where
+module _ {A : Type 0} (X : ℕ → A) (t : Table) (rules c : ℕ) (other : (q : ℕ) → q < rules → class_of (rule_in t q) ≢ c → X (suc q) ≡ X q) where
   few_added : (k d : ℕ) → k + d ≤ rules → ((q : ℕ) → k ≤ q → q < k + d → class_of (rule_in t q) ≢ c) → X (k + d) ≡ X k
   few_added k zero m h = rw (add-zero k)
   few_added k (suc d) m h =

@@ -1,9 +1,8 @@
 -- The digits that the rules ask for, written down rule by rule.
-use Prim.Native.Nat.{ℕ, suc, ◌+◌, ◌<◌}
+use Prim.Native.Nat.{ℕ, suc, ◌<◌}
 use native.Mathlib.Omega.{arith}
 use native.Mathlib.Decide.{dec_lt}
-use mathlib.Core.Path.{◌≡◌, ◌∙◌}
-use mathlib.Core.Logic.{◌≢◌}
+use mathlib.Core.Path.{◌≡◌, refl, ◌∙◌}
 use mathlib.Core.Bool.{Bool, true, false}
 use mathlib.Core.List.{List}
 use lib.Dec.{ltb}
@@ -11,12 +10,13 @@ use lib.ListN.{length, get_or, set, length-set}
 use lib.Seq.{get_or-set_same, get_or-set_other}
 use Rattle.vpg.specs.declared.Rule.{Rule}
 use Rattle.tables.specs.declared.Head.{Head}
-use Rattle.tables.specs.Table.{rule_in}
+use Rattle.tables.specs.declared.Table.{Table}
+use Rattle.tables.specs.Table.{Sized, rule_in}
 use Rattle.tables.specs.Ready.{Below}
 use Rattle.rule_index.specs.Goals.{goal, inside_goal, after_goal}
-use Rattle.rule_index.specs.Index.{Goals, inside_in, after_in}
+use Rattle.rule_index.specs.Index.{Goals}
 use Rattle.rule_index.specs.Building.{SameRules, with_goals}
-use Rattle.rule_index.proofs.Kept.{rule_kept, set-behind, same_on}
+use Rattle.rule_index.proofs.Kept.{rule_kept}
 
 -- ── digits of a word of 64 ──
 
@@ -36,37 +36,35 @@ after_small W (Rule.Step L a L₁ c L₂) b = goal_small (ltb L W) L₂ b.2
 
 -- ── one rule more ──
 
-pub goals_none : (t : List ℕ) (head : Head) → Goals t head 0
+pub goals_none : (t : Table) (head : Head) → Goals t head 0
 goals_none t head = record { inside = λ r l. absurd (omega arith); after = λ r l. absurd (omega arith) }
 
-module _ (t : List ℕ) (r x y : ℕ) (small : r < 128) where
-  abbrev U : List ℕ
+-- one place more of a list
+grown : (l : List ℕ) (r x : ℕ) (due : ℕ → ℕ) → r < length l → x ≡ due r → ((q : ℕ) → q < r → get_or l q 0 ≡ due q) → (q : ℕ) → q < suc r → get_or (set l r x) q 0 ≡ due q
+grown l r x due room e before q h = go (dec_lt q r)
+  where
+    go : Dec (q < r) → get_or (set l r x) q 0 ≡ due q
+    go (yes less) = get_or-set_other l r q x 0 (λ p. omega arith) ∙ before q less
+    go (no apart) = let s : q ≡ r = omega arith in rw s (get_or-set_same l r x 0 room ∙ e)
+
+module _ (t : Table) (size : Sized t) (r x y : ℕ) (small : r < 128) where
+  abbrev U : Table
   U = with_goals t r x y
 
   pub goals_same : SameRules t U
-  goals_same = same_on (set-behind t (1156 + r) x (omega arith)) (set-behind (set t (1156 + r) x) (1284 + r) y (omega arith))
+  goals_same = record {
+    size = record {
+      rules = size.rules;
+      first = size.first;
+      next = size.next;
+      inside = length-set t.inside r x ∙ size.inside;
+      after = length-set t.after r y ∙ size.after;
+    };
+    rules = refl;
+  }
 
-  -- a place that is none of the two
-  stays : (i : ℕ) → i ≢ 1156 + r → i ≢ 1284 + r → get_or U i 0 ≡ get_or t i 0
-  stays i a b = get_or-set_other (set t (1156 + r) x) (1284 + r) i y 0 b ∙ get_or-set_other t (1156 + r) i x 0 a
-
-  pub goals_behind : (i : ℕ) → i < 1156 → get_or U i 0 ≡ get_or t i 0
-  goals_behind i h = stays i (λ e. omega arith) (λ e. omega arith)
-
-  pub goals_more : (head : Head) → length t ≡ 1412 → x ≡ inside_goal head.well (rule_in t r) → y ≡ after_goal head.well (rule_in t r) → Goals t head r → Goals U head (suc r)
-  goals_more head size a b g = record { inside = λ q l. inside q l (dec_lt q r); after = λ q l. after q l (dec_lt q r) }
-    where
-      kept : (q : ℕ) → q < suc r → rule_in U q ≡ rule_in t q
-      kept q l = rule_kept t U goals_same.rules q (omega arith)
-
-      inside : (q : ℕ) → q < suc r → Dec (q < r) → inside_in U q ≡ inside_goal head.well (rule_in U q)
-      inside q l (yes h) = rw (kept q l) (stays (1156 + q) (λ e. omega arith) (λ e. omega arith) ∙ g.inside q h)
-      inside q l (no h) =
-          let e : q ≡ r = omega arith in
-          rw (kept q l, e) (get_or-set_other (set t (1156 + r) x) (1284 + r) (1156 + r) y 0 (λ e. omega arith) ∙ get_or-set_same t (1156 + r) x 0 (omega arith) ∙ a)
-
-      after : (q : ℕ) → q < suc r → Dec (q < r) → after_in U q ≡ after_goal head.well (rule_in U q)
-      after q l (yes h) = rw (kept q l) (stays (1284 + q) (λ e. omega arith) (λ e. omega arith) ∙ g.after q h)
-      after q l (no h) =
-          let e : q ≡ r = omega arith in
-          rw (kept q l, e) (get_or-set_same (set t (1156 + r) x) (1284 + r) y 0 (simp length-set (omega arith)) ∙ b)
+  pub goals_more : (head : Head) → x ≡ inside_goal head.well (rule_in t r) → y ≡ after_goal head.well (rule_in t r) → Goals t head r → Goals U head (suc r)
+  goals_more head a b g = record {
+    inside = λ q l. rw (rule_kept t U refl q) (grown t.inside r x (λ (k : ℕ). inside_goal head.well (rule_in t k)) (omega (arith, size.inside)) a g.inside q l);
+    after = λ q l. rw (rule_kept t U refl q) (grown t.after r y (λ (k : ℕ). after_goal head.well (rule_in t k)) (omega (arith, size.after)) b g.after q l);
+  }

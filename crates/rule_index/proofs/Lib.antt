@@ -3,4 +3,5 @@ pub mod Chains
 pub mod Classes
 pub mod Goals
 pub mod Kept
+pub mod Listed
 pub mod Walk

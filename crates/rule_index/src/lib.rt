@@ -1,16 +1,21 @@
 // The index of a table: the rules that can stand at a token, in rising order, and the empty rules of each nonterminal.
-// It stands behind the table's rules, so that it goes wherever they go.
+// It stands beside the table's rules, so that it goes wherever they go.
 #![tactic(auto)]
 
-ghost use Rattle.std.specs.Prelude.{◌≡◌, ◌<◌, ◌≤◌, length, take};
+ghost use Rattle.std.specs.Prelude.{◌≡◌, ◌<◌, ◌≤◌};
 ghost use Rattle.vpg.specs.believed.Grammar.{left};
-ghost use Rattle.tables.specs.Table.{rule_in};
+ghost use Rattle.tables.specs.Table.{Sized, rule_in};
 ghost use Rattle.tables.specs.Ready.{Below, Ready};
 ghost use Rattle.rule_index.specs.Classes.{spread, class_at, class_by, class_of};
 ghost use Rattle.rule_index.specs.Goals.{goal, inside_goal, after_goal};
-ghost use Rattle.rule_index.specs.Index.{first_in, next_in, end_in, word_in, ends_in, low_ends_in, inside_in, after_in, Goals, Indexed};
-ghost use Rattle.rule_index.specs.Building.{SameRules, IndexedFrom, EndsBelow, linked, with_end, with_word, with_goals};
+ghost use Rattle.rule_index.specs.Index.{first_in, next_in, end_in, Goals, Indexed};
+ghost use Rattle.rule_index.specs.Building.{SameRules, IndexedFrom, EndsBelow, linked, with_end, with_goals};
 
+mod chain;
+mod grammar;
+
+pub use chain::Chain;
+pub use grammar::IndexedGrammar;
 use tables::{Head, Table};
 use vpg::{Rule, Token};
 
@@ -18,7 +23,7 @@ use vpg::{Rule, Token};
 fn spread_of(name: u16) -> usize
     ensures { (result ≡ spread name) × (result < 64) }
 {
-    let n = number(name);
+    let n = name as usize;
     (n + n / 64 + n / 4096) % 64
 }
 
@@ -48,93 +53,28 @@ pub fn class_of(rule: Rule) -> usize
     ensures { result ≡ class_of rule }
 {
     match rule {
-        Rule::Empty(nonterminal) => 4 * number(nonterminal) + 2,
+        Rule::Empty(nonterminal) => 4 * nonterminal as usize + 2,
         Rule::Next(_, i, _) => class_at(i),
         Rule::Step(_, a, _, _, _) => 4 * spread_of(a.0) + 1,
     }
 }
 
-fn number(x: u16) -> usize
-    ensures { result ≡ x }
-{
-    x as usize
-}
-
-fn wide(x: u16) -> u32
-    ensures { (result ≡ x) × (result < 65536) }
-{
-    x as u32
-}
-
-// The first rule of a class; the number of rules where there is none.
-pub fn first_of(table: &Table, class: usize) -> usize
-    requires { class < 256 }
-    ensures { result ≡ first_in table.now class }
-{
-    number(table[768 + class])
-}
-
-// The rule behind rule r in its class; the number of rules where there is none.
-pub fn next_of(table: &Table, r: usize) -> usize
-    requires { r < 128 }
-    ensures { result ≡ next_in table.now r }
-{
-    number(table[1024 + r])
-}
-
 // The empty rule of a nonterminal; the number of rules where there is none.
-pub fn end_of(table: &Table, nonterminal: usize) -> usize
+fn end_of(table: &Table, nonterminal: usize) -> usize
     requires { nonterminal < 32 }
     ensures { result ≡ end_in table.now nonterminal }
 {
-    number(table[768 + (4 * nonterminal + 2)])
-}
-
-// The nonterminals that have an empty rule.
-pub fn ends(table: &Table) -> u32
-    ensures { result ≡ ends_in table.now }
-{
-    let low = wide(table[1152]);
-    let high = wide(table[1153]);
-    low + 65536 * high
-}
-
-// The well-matched ones among them: those that can end before a close.
-pub fn low_ends(table: &Table) -> u32
-    ensures { result ≡ low_ends_in table.now }
-{
-    let low = wide(table[1154]);
-    let high = wide(table[1155]);
-    low + 65536 * high
-}
-
-// The digit that rule r asks for behind its token.
-pub fn inside_of(table: &Table, r: usize) -> usize
-    requires { r < 128 }
-    ensures { result ≡ inside_in table.now r }
-{
-    number(table[1156 + r])
-}
-
-// And behind the close of its step.
-pub fn after_of(table: &Table, r: usize) -> usize
-    requires { r < 128 }
-    ensures { result ≡ after_in table.now r }
-{
-    number(table[1284 + r])
+    table.first[4 * nonterminal + 2] as usize
 }
 
 // Makes the index of no rules: whatever is looked for, there is none.
 fn clear(table: &mut Table, rules: usize)
-    requires { (length table.old ≡ 1412) × (rules ≤ 128) }
+    requires { Sized table.old × (rules ≤ 128) }
     ensures { SameRules table.old table.new × IndexedFrom table.new rules rules }
 {
     let none = rules as u16;
-    let mut i: usize = 768;
-    while i < 1152 {
-        table[i] = none;
-        i += 1;
-    }
+    table.first = [none; 256];
+    table.next = [none; 128];
 }
 
 // Puts rule r before the rules of its class that are in the chain.
@@ -142,8 +82,8 @@ fn link(table: &mut Table, class: usize, r: usize)
     requires { (class < 256) × (r < 128) }
     ensures { table.new ≡ linked table.old class r }
 {
-    table[1024 + r] = table[768 + class];
-    table[768 + class] = r as u16;
+    table.next[r] = table.first[class];
+    table.first[class] = r as u16;
 }
 
 // Adds rule r to the index of the rules behind it.
@@ -157,14 +97,11 @@ fn add_rule(table: &mut Table, r: usize)
 
 // Adds all rules, from the last to the first, so that each chain rises.
 fn add_rules(table: &mut Table, head: Head)
-    requires { (length table.old ≡ 1412) × Ready table.old head × IndexedFrom table.old head.rules head.rules }
+    requires { Sized table.old × Ready table.old head × IndexedFrom table.old head.rules head.rules }
     ensures { SameRules table.old table.new × IndexedFrom table.new head.rules 0 }
 {
-    let rules = head.rules;
-    let mut due = rules;
-    while 0 < due {
-        add_rule(table, due - 1);
-        due -= 1;
+    for r in (0..head.rules).rev() {
+        add_rule(table, r);
     }
 }
 
@@ -207,20 +144,17 @@ fn put_goals(table: &mut Table, r: usize, well: u16)
     ensures { table.new ≡ with_goals table.old r (inside_goal well (rule_in table.old r)) (after_goal well (rule_in table.old r)) }
 {
     let rule = tables::rule_of(table, r);
-    table[1156 + r] = inside_goal(rule, well);
-    table[1284 + r] = after_goal(rule, well);
+    table.inside[r] = inside_goal(rule, well);
+    table.after[r] = after_goal(rule, well);
 }
 
 // Those of all rules.
 fn add_goals(table: &mut Table, head: Head)
-    requires { (length table.old ≡ 1412) × Ready table.old head × IndexedFrom table.old head.rules 0 }
+    requires { Sized table.old × Ready table.old head × IndexedFrom table.old head.rules 0 }
     ensures { SameRules table.old table.new × IndexedFrom table.new head.rules 0 × Goals table.new head head.rules }
 {
-    let rules = head.rules;
-    let mut r: usize = 0;
-    while r < rules {
+    for r in 0..head.rules {
         put_goals(table, r, head.well);
-        r += 1;
     }
 }
 
@@ -241,33 +175,22 @@ fn ends_of(table: &Table, rules: usize, n: usize) -> u32
     ensures { EndsBelow table.now rules n result }
 {
     let mut word: u32 = 0;
-    let mut nonterminal: usize = 0;
-    while nonterminal < n {
+    for nonterminal in 0..n {
         word = with_end(table, rules, word, nonterminal);
-        nonterminal += 1;
     }
     word
 }
 
-// Writes a word of 32 digits.
-fn put_word(table: &mut Table, i: usize, word: u32)
-    requires { i < 1155 }
-    ensures { table.new ≡ with_word table.old i word }
-{
-    table[i] = (word % 65536) as u16;
-    table[i + 1] = (word / 65536) as u16;
-}
-
-// Builds the index behind the rules of a table.
+// Builds the index beside the rules of a table.
 pub fn index_rules(table: &mut Table, head: Head)
-    requires { (length table.old ≡ 1412) × Ready table.old head }
-    ensures { (take 768 table.new ≡ take 768 table.old) × Indexed table.new head }
+    requires { Sized table.old × Ready table.old head }
+    ensures { (table.new.rules ≡ table.old.rules) × Indexed table.new head }
 {
     clear(table, head.rules);
     add_rules(table, head);
     add_goals(table, head);
     let all = ends_of(table, head.rules, 32);
-    let low = ends_of(table, head.rules, number(head.well));
-    put_word(table, 1152, all);
-    put_word(table, 1154, low);
+    let low = ends_of(table, head.rules, head.well as usize);
+    table.ends = all;
+    table.low_ends = low;
 }

@@ -19,13 +19,14 @@ use Rattle.bits.proofs.Bits.{bit-zero, bit-add, bit-and, same_members}
 use Rattle.vpg.specs.declared.Rule.{Rule}
 use Rattle.vpg.specs.believed.Grammar.{left}
 use Rattle.tables.specs.declared.Head.{Head}
+use Rattle.tables.specs.declared.Table.{Table}
 use Rattle.tables.specs.Table.{rule_in, rules_in}
 use Rattle.tables.proofs.Tables.{rules_at, rules_below}
 use Rattle.level_theory.proofs.Alive.{lefts-some}
 use Rattle.rule_index.specs.Classes.{class_at}
 use Rattle.rule_index.specs.Index.{FirstFrom, Indexed, end_in, ends_in, low_ends_in}
 use Rattle.contexts.specs.declared.Context.{Context}
-use Rattle.contexts.specs.Context.{token_here, low_here, may_end, applies_to, level_in}
+use Rattle.contexts.specs.Context.{code, token_here, low_here, may_end, applies_to, level_in}
 use Rattle.contexts.proofs.Contexts.{with-bit, level-bit}
 use Rattle.contexts.proofs.Ends.{level-has, ends-only, ends_stand, other_class, end_ends}
 use Rattle.rule_set.specs.Words.{bit_in, add_in}
@@ -38,7 +39,7 @@ use Rattle.rule_set.proofs.RuleSet.{Keeps, words_held}
 
 -- ── the empty rule of a nonterminal ──
 
-module _ {t : List ℕ} {head : Head} (x : Indexed t head) where
+module _ {t : Table} {head : Head} (x : Indexed t head) where
   -- a nonterminal of the index's word has an empty rule
   end_rule : (L : ℕ) → bit (ends_in t) L ≡ true → (end_in t L < head.rules) × (rule_in t (end_in t L) ≡ Rule.Empty L)
   end_rule L e =
@@ -80,7 +81,7 @@ with_end_lem here ways ends L e new = rw e (go (bit here L) refl)
     go true q = ap Of (sym (and-with here ends L q ∙ add_new (bit_and here ends) L once))
     go false q = ap Of (sym (and_without here ends L q))
 
-module _ {t : List ℕ} {head : Head} (x : Indexed t head) (p : Context) {ends : ℕ} (among : Among t ends) (o : Only t head p ends) (here : ℕ) where
+module _ {t : Table} {head : Head} (x : Indexed t head) (p : Context) {ends : ℕ} (among : Among t ends) (o : Only t head p ends) (here : ℕ) where
   -- the nonterminal of an empty rule has none before it
   unseen : (n q L : ℕ) → n ≤ q → q < head.rules → rule_in t q ≡ Rule.Empty L → bit (level_in head.well t p n) L ≡ false
   unfolding level_in
@@ -130,18 +131,18 @@ module _ {t : List ℕ} {head : Head} (x : Indexed t head) (p : Context) {ends :
 -- ── the words, one nonterminal after another ──
 
 -- rule r is the one that the index has of its nonterminal, and that is a member of the word m
-abbrev pub Due : List ℕ → ℕ → ℕ → Bool
+abbrev pub Due : Table → ℕ → ℕ → Bool
 Due t m r = eqb r (end_in t (left (rule_in t r))) && bit m (left (rule_in t r))
 
 -- on the way through a word `all` of nonterminals that have empty rules: those of `due` are left, the rules of the others are in the words
-pub record Gathered (t : List ℕ) (all due : ℕ) (words : List ℕ) : Type 0 where
+pub record Gathered (t : Table) (all due : ℕ) (words : List ℕ) : Type 0 where
   pub size : length words ≡ 4
   pub small : (k : ℕ) → get_or words k 0 < 2 ^ 32
   pub wide : due < 2 ^ 32
   pub with-ends : (L : ℕ) → bit due L ≡ true → bit (ends_in t) L ≡ true
   pub digits : (r : ℕ) → (bit_in 32 words r || Due t due r) ≡ Due t all r
 
-module _ {t : List ℕ} {head : Head} (x : Indexed t head) where
+module _ {t : Table} {head : Head} (x : Indexed t head) where
   pub gathered_none : (ends : ℕ) → Among t ends → (here : ℕ) → here < 2 ^ 32 → Gathered t (bit_and here ends) (bit_and here ends) (replicate 4 0)
   gathered_none ends among here wide = record {
     size = refl;
@@ -238,12 +239,12 @@ module _ {t : List ℕ} {head : Head} (x : Indexed t head) where
 
 -- ── where only empty rules can stand ──
 
-module _ {t : List ℕ} {head : Head} (x : Indexed t head) (p : Context) where
+module _ {t : Table} {head : Head} (x : Indexed t head) (p : Context) where
   -- at the end
   pub all_among : Among t (ends_in t)
   all_among L e = e
 
-  pub only_end : 4 ≤ p.kind → Only t head p (ends_in t)
+  pub only_end : 4 ≤ code p.kind → Only t head p (ends_in t)
   only_end h = record {
     only = λ q L l f. let e = ends-only head.well p (rule_in t q) L (end_ends head.well p h L) f in (e, (rule_end x q L l e).0);
     fits = λ q L e b. ends_stand head.well p (rule_in t q) L (end_ends head.well p h L) e;
@@ -256,9 +257,9 @@ module _ {t : List ℕ} {head : Head} (x : Indexed t head) (p : Context) where
       let w = ltb-true L head.well (and_left (ltb L head.well) _ m) in
       x.mask L ∙ both (lt-ltb L 32 (omega (arith, w, x.ready.well_small))) (and_right (ltb L head.well) _ m)
 
-  module _ (near : p.kind < 4) (h : 2 ≤ p.kind) where
+  module _ (near : code p.kind < 4) (h : 2 ≤ code p.kind) where
     low_is : (L : ℕ) → low_here head.well p L ≡ ltb L head.well
-    low_is L = rw (lt-leb 4 p.kind near)
+    low_is L = rw (lt-leb 4 (code p.kind) near)
 
     pub only_close : {n : ℕ} → FirstFrom t head.rules (class_at (token_here p)) 0 n → head.rules ≤ n → Only t head p (low_ends_in t)
     only_close {n} first none = record { only = ends; fits = stands }
@@ -271,8 +272,8 @@ module _ {t : List ℕ} {head : Head} (x : Indexed t head) (p : Context) where
             go true m =
                 let e = ends-only head.well p (rule_in t q) L m f in
                 let d = rule_end x q L l e in
-                let w = sym (low_is L) ∙ and_right (leb 2 p.kind) (low_here head.well p L) m in
+                let w = sym (low_is L) ∙ and_right (leb 2 (code p.kind)) (low_here head.well p L) m in
                 (e, x.low L ∙ both w (and_right (ltb L 32) _ (sym (x.mask L) ∙ d.0)))
 
         stands : (q L : ℕ) → rule_in t q ≡ Rule.Empty L → bit (low_ends_in t) L ≡ true → (eqb (left (rule_in t q)) L && applies_to head.well (rule_in t q) p) ≡ true
-        stands q L e b = ends_stand head.well p (rule_in t q) L (both (le-leb 2 p.kind h) (low_is L ∙ and_left (ltb L head.well) _ (sym (x.low L) ∙ b))) e
+        stands q L e b = ends_stand head.well p (rule_in t q) L (both (le-leb 2 (code p.kind) h) (low_is L ∙ and_left (ltb L head.well) _ (sym (x.low L) ∙ b))) e

@@ -3,3 +3,4 @@ pub mod Members
 pub mod RuleSet
 pub mod Words
 pub mod Sums
+pub mod Walked

@@ -16,12 +16,13 @@ use Rattle.vpg.specs.declared.Rule.{Rule}
 use Rattle.vpg.specs.believed.Grammar.{left}
 use Rattle.vpg.specs.Parts.{onward, beyond, is_it}
 use Rattle.level_theory.specs.Kept.{goes_to, returns_to, going, returning}
+use Rattle.tables.specs.declared.Table.{Table}
 use Rattle.tables.specs.Table.{rule_in, rules_in}
 use Rattle.rule_index.specs.Classes.{class_at, class_of}
 use Rattle.rule_index.specs.Index.{FirstFrom}
 use Rattle.rule_index.proofs.Chains.{passed}
 use Rattle.contexts.specs.declared.Context.{Context}
-use Rattle.contexts.specs.Context.{token_here}
+use Rattle.contexts.specs.Context.{code, token_here}
 use Rattle.contexts.proofs.Contexts.{applies_apart}
 use Rattle.rule_set.specs.Words.{Held, add_in}
 use Rattle.rule_set.specs.declared.Ways.{Ways}
@@ -37,12 +38,12 @@ some-bit x K (some M) = bit-add x M K ∙ ap (λ (b : Bool). bit x K || b) (eqb_
 -- ── all rules ──
 
 -- whether some rule passes, by the rules' numbers
-pub any_numbers : (t : List ℕ) (n : ℕ) (k : Rule → Bool) → any k (rules_in t n) ≡ any_below n (λ r. k (rule_in t r))
+pub any_numbers : (t : Table) (n : ℕ) (k : Rule → Bool) → any k (rules_in t n) ≡ any_below n (λ r. k (rule_in t r))
 unfolding rules_in
 any_numbers t zero k = refl
 any_numbers t (suc n) k = any_snoc k (rules_in t n) (rule_in t n) ∙ rw (any_numbers t n k) (or_comm _ (k (rule_in t n)))
 
-module _ (W : ℕ) (t : List ℕ) (here : ℕ) (context : Context) where
+module _ (W : ℕ) (t : Table) (here : ℕ) (context : Context) where
   abbrev pub Keeps : ℕ → Bool
   Keeps r = keeps_at W here context (rule_in t r)
 
@@ -55,7 +56,7 @@ module _ (W : ℕ) (t : List ℕ) (here : ℕ) (context : Context) where
   abbrev Class : ℕ
   Class = class_at (token_here context)
 
-  module _ (h : context.kind < 2) where
+  module _ (h : code context.kind < 2) where
     -- at a mark or an open a rule of another class is not in the set
     other_class : (q : ℕ) → class_of (rule_in t q) ≢ Class → Keeps q ≡ false
     other_class q d = rw (applies_apart W t context h q d) (and-false (bit here (left (rule_in t q))))

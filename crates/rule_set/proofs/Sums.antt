@@ -3,7 +3,6 @@ use Prim.Native.Nat.{ℕ, zero, suc, ◌+◌, ◌*◌, ◌^◌, ◌<◌, ◌≤�
 use native.Mathlib.Omega.{arith}
 use mathlib.Core.Path.{◌≡◌, refl, sym, ◌∙◌, ap}
 use mathlib.Core.Bool.{Bool, true, false, cond, ◌&&◌, ◌||◌, and-true, and-false}
-use mathlib.Core.List.{List}
 use borrow.Author.Tests.{eqb-true, lt-ltb, le-ltb, ltb-true, ltb-false}
 use lib.Bits.{bit_and, and_zero_r}
 use lib.Dec.{eqb, ltb}
@@ -13,6 +12,7 @@ use Rattle.laws.proofs.Any.{below_same}
 use Rattle.bits.specs.Bit.{bit, add_bit}
 use Rattle.bits.proofs.Bits.{bit-and, add_below}
 use Rattle.vpg.specs.believed.Grammar.{left}
+use Rattle.tables.specs.declared.Table.{Table}
 use Rattle.tables.specs.Table.{rule_in}
 use Rattle.contexts.specs.declared.Context.{Context}
 use Rattle.contexts.specs.Context.{applies_to, level_in}
@@ -37,7 +37,7 @@ ltb-add m s k = go (ltb m s) refl
 
 -- ── all rules ──
 
-module _ (W : ℕ) (t : List ℕ) (here : ℕ) (context : Context) where
+module _ (W : ℕ) (t : Table) (here : ℕ) (context : Context) where
   abbrev Sum : ℕ → ℕ
   Sum n = (ways_in W t here context n).sum
 

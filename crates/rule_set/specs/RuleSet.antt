@@ -7,6 +7,7 @@ use Rattle.bits.specs.Bit.{bit, add_bit}
 use Rattle.vpg.specs.declared.Rule.{Rule}
 use Rattle.vpg.specs.believed.Grammar.{left}
 use Rattle.vpg.specs.Parts.{onward, beyond}
+use Rattle.tables.specs.declared.Table.{Table}
 use Rattle.tables.specs.Table.{rule_in}
 use Rattle.contexts.specs.declared.Context.{Context}
 use Rattle.contexts.specs.Context.{applies_to}
@@ -43,11 +44,11 @@ abbrev pub no_ways : Ways
 no_ways = record { sum = 0; next = 0; behind = 0 }
 
 -- the ways on of those of the first n rules of a table that are in the set
-unfoldable pub ways_in : ℕ → List ℕ → ℕ → Context → ℕ → Ways
+unfoldable pub ways_in : ℕ → Table → ℕ → Context → ℕ → Ways
 ways_in W t here context zero = no_ways
 ways_in W t here context (suc n) = ways_turn W (ways_in W t here context n) here context (rule_in t n)
 
 -- and the set of them in words
-unfoldable pub words_in : ℕ → List ℕ → ℕ → Context → ℕ → List ℕ
+unfoldable pub words_in : ℕ → Table → ℕ → Context → ℕ → List ℕ
 words_in W t here context zero = replicate 4 0
 words_in W t here context (suc n) = cond (keeps_at W here context (rule_in t n)) (add_in 32 (words_in W t here context n) n) (words_in W t here context n)

@@ -1,49 +1,35 @@
--- What the opening leaves in the lent arrays, for the passes.
--- Law: both-opened (service/proofs/Opens.antt)
-use Rattle.std.specs.Prelude.{ℕ, ◌+◌, ◌*◌, ◌≤◌, ◌≡◌, List, length, take}
-use Rattle.tables.specs.declared.Head.{Head}
-use Rattle.tables.specs.Ready.{grammar_in}
-use Rattle.rule_index.specs.Index.{Indexed}
-use Rattle.history_file.specs.believed.HistoryFile.{history_of}
-use Rattle.history_file.specs.believed.HistoryFile as history-file
-use Rattle.history_file.specs.HistoryTokens.{Tokens}
+-- What the opening leaves for the passes, of the structs in which it leaves it.
+-- Law: both-opened, grammar_refuses, history_refuses, history_short (service/proofs/Opens.antt)
+use Rattle.std.specs.Prelude.{ℕ, ◌+◌, ◌*◌, ◌≤◌, ◌≡◌, length, replicate, Result, Ok, Err}
 use Rattle.vpg.specs.believed.Grammar.{Grammar}
-use Rattle.grammar_file.specs.believed.GrammarFile as grammar-file
-use Rattle.history_file.specs.Wellformed.{Wellformed}
-use Rattle.files.specs.believed.Files.{Files, accepted, refused, files_of}
-use Rattle.service.specs.declared.Opened.{Opened}
+use Rattle.tables.specs.Table.{no_table}
+use Rattle.tables.specs.Ready.{grammar_in}
+use Rattle.refusal.specs.declared.Refusal.{Refusal}
+use Rattle.refusal.specs.believed.Refusal.{number}
+use Rattle.files.specs.believed.Files.{Files, accepted, refused}
+use Rattle.levels.specs.declared.prepared.Prepared.{Prepared}
+use Rattle.levels.specs.Prepared.{prepared_grammar}
+use Rattle.service.specs.declared.opened.Contents.{Contents}
+use Rattle.service.specs.declared.opened.Opened.{Opened}
 use Rattle.service.specs.believed.Opened.{opened}
 
--- the number of a refusal, to pass it up; 0 where there is none
-abbrev pub refusal_of : Opened → ℕ
-refusal_of (Opened.Files head n) = 0
-refusal_of (Opened.Refused e) = e
+-- room in which nothing stands yet
+abbrev pub nothing_read : Contents
+nothing_read = record { table = no_table; numbers = replicate 1024 0 }
 
--- a history that passes, with room in the buffer: its n numbers stand in front
-pub record Numbers (each size : ℕ) (history : List ℕ) (n : ℕ) (numbers : List ℕ) : Type 0 where
-  pub is : history_of history ≡ history-file.accepted (take n numbers)
-  pub count : length (take n numbers) ≡ n
-  pub long : n ≤ length numbers
-  pub room : each * (n + 1) ≤ size
-  pub tokens : Tokens (take n numbers)
-  pub wellformed : Wellformed (take n numbers)
+abbrev pub opened_grammar : Opened → Grammar
+opened_grammar o = grammar_in o.grammar.table.now o.grammar.head
 
--- with a grammar that has passed, of this head
-abbrev pub HistoryOpened : ℕ → ℕ → List ℕ → Head → Opened → List ℕ → Type 0
-HistoryOpened each size history head (Opened.Files h n) numbers = (h ≡ head) × Numbers each size history n numbers
-HistoryOpened each size history head (Opened.Refused e) numbers = (g : Grammar) → opened each size (files_of (grammar-file.accepted g) (history_of history)) ≡ refused e
+-- what a pass over the opened files goes by
+abbrev pub IsPreparedOf : Opened → Prepared → Type 0
+IsPreparedOf o input = (prepared_grammar input ≡ opened_grammar o) × (input.tokens.now ≡ o.tokens.now)
 
--- both files pass and the buffer has room: the grammar is that of head and table, with its index; the tokens are the first n numbers
-pub record Open (each size : ℕ) (files : Files) (head : Head) (n : ℕ) (table numbers : List ℕ) : Type 0 where
-  pub is : opened each size files ≡ accepted (grammar_in table head) (take n numbers)
-  pub indexed : Indexed table head
-  pub count : length (take n numbers) ≡ n
-  pub long : n ≤ length numbers
-  pub room : each * (n + 1) ≤ size
-  pub tokens : Tokens (take n numbers)
-  pub wellformed : Wellformed (take n numbers)
+-- both files pass and the buffer has room: what both say is what the opening has
+pub record Open (each size : ℕ) (files : Files) (o : Opened) : Type 0 where
+  pub is : opened each size files ≡ accepted (opened_grammar o) o.tokens.now
+  pub room : each * (length o.tokens.now + 1) ≤ size
 
--- what the opening answers: these, or the number that is due
-pub record OpenedIs (each size : ℕ) (files : Files) (r : Opened) (table numbers : List ℕ) : Type 0 where
-  pub passes : (head : Head) (n : ℕ) → r ≡ Opened.Files head n → Open each size files head n table numbers
-  pub refuses : (e : ℕ) → r ≡ Opened.Refused e → opened each size files ≡ refused e
+-- what the opening answers: that, or the refusal whose number is due
+abbrev pub OpenedIs : ℕ → ℕ → Files → Result Opened Refusal → Type 0
+OpenedIs each size files (Ok o) = Open each size files o
+OpenedIs each size files (Err e) = opened each size files ≡ refused (number e)

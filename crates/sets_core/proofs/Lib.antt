@@ -1,3 +1,4 @@
-pub mod Counts
 pub mod Pass
 pub mod Written
+pub mod Counts
+pub mod Passed

@@ -28,6 +28,7 @@ use Rattle.level_theory.specs.Pending.{pending_at, close_of}
 use Rattle.level_theory.specs.Kept.{keeps, goes_to, returns_to, going, returning, passed, Front}
 use Rattle.level_theory.proofs.Kept.{front_kept, front_start, front_next}
 use Rattle.tables.specs.declared.Head.{Head}
+use Rattle.tables.specs.declared.Table.{Table}
 use Rattle.tables.specs.Table.{rule_in}
 use Rattle.tables.specs.Ready.{rules_of, grammar_in}
 use Rattle.tables.proofs.Tables.{length_rules, rules_at, rules_below, ready_general}
@@ -57,16 +58,16 @@ start-bit d s L f e = go d e (eqb L s) refl
     go false e false q = bit-zero L
 
 -- `here` are the nonterminals that can stand at position p, and `behind` has those that can stand behind each close
-abbrev pub Fronted : List ℕ → Head → List ℕ → ℕ → ℕ → List ℕ → Type 0
+abbrev pub Fronted : Table → Head → List ℕ → ℕ → ℕ → List ℕ → Type 0
 Fronted t head ts p here behind = Front head.well (grammar_in t head) (tokens_of ts) p (bit here) (λ j. bit (get_or behind j 0))
 
 -- the state of the pass before position p
-pub record Going (t : List ℕ) (head : Head) (ts : List ℕ) (p here : ℕ) (behind : List ℕ) : Type 0 where
+pub record Going (t : Table) (head : Head) (ts : List ℕ) (p here : ℕ) (behind : List ℕ) : Type 0 where
   pub within : p ≤ length ts + 1
   pub long : length behind ≡ 1025
   pub front : p ≤ length ts → Fronted t head ts p here behind
 
-module _ {t : List ℕ} {head : Head} {ts m mask : List ℕ} (x : Setting t head ts m mask) where
+module _ {t : Table} {head : Head} {ts m mask : List ℕ} (x : Setting t head ts m mask) where
   abbrev W : List Token
   W = tokens_of ts
 

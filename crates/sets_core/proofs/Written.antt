@@ -1,13 +1,12 @@
 -- The words written so far, position by position: a list of as many words as have been passed, and then the buffer as it was.
-use Prim.Native.Nat.{ℕ, zero, suc, ◌+◌, ◌-◌, ◌*◌, ◌/◌, ◌%◌, ◌<◌, ◌≤◌}
+use Prim.Native.Nat.{ℕ, zero, suc, ◌+◌, ◌*◌, ◌/◌, ◌%◌, ◌<◌, ◌≤◌}
 use native.Mathlib.Nat.{zero-add, suc-add}
 use native.Mathlib.Numerals.{add-one}
 use native.Mathlib.Omega.{arith}
 use mathlib.Core.Path.{◌≡◌, refl, sym, ◌∙◌, ap}
-use mathlib.Core.List.{List, ◌∷◌, ◌++◌, append_assoc}
+use mathlib.Core.List.{List, ◌∷◌, ◌++◌}
 use lib.ListN.{length, take, drop, length-append, length-drop}
 use lib.Seq.{take_at, drop_at, drop-drop}
-use borrow.Rule.Slice.PartMut.{put_mid, Post-is}
 use Rattle.vpg.specs.declared.Token.{Token}
 use Rattle.vpg.specs.believed.Grammar.{Grammar}
 use Rattle.sets_theory.specs.believed.Sets.{listed, set_word, set_words}
@@ -37,7 +36,7 @@ module _ {g : Grammar} {w : List Token} {old : List ℕ} {p : ℕ} {words : List
   pub written-length : 4 * p ≤ length old → length words ≡ length old
   written-length h = rw (k.is, length-append, length-listed, length-drop) (omega arith)
 
-  pub written_next : {set : List ℕ} → 4 * p + 4 ≤ length old → set ≡ listed 4 (set_word g w p) → Written g w old (p + 1) (put_mid (4 * p) (4 * p + 4 - 4 * p) words set)
+  pub written_next : {set : List ℕ} → 4 * p + 4 ≤ length old → set ≡ listed 4 (set_word g w p) → Written g w old (p + 1) (take (4 * p) words ++ set ++ drop (4 * p + 4) words)
   written_next {set} h q =
       let a = listed (4 * p) word_at in
       let b = listed 4 (set_word g w p) in
@@ -47,7 +46,7 @@ module _ {g : Grammar} {w : List Token} {old : List ℕ} {p : ℕ} {words : List
       let l : 4 * (p + 1) ≡ 4 * p + 4 = omega arith in
       let long = written-length (omega arith) in
       let s : listed 4 (λ i. word_at (4 * p + i)) ≡ b = listed_cong 4 (λ i. word_at (4 * p + i)) (set_word g w p) here in
-      record { is = rw (Post-is (4 * p) (4 * p + 4) words (omega arith), i, q, d, l, listed-add (4 * p) 4 word_at, s) (sym (append_assoc a b (drop (4 * p + 4) old))) }
+      record { is = rw (i, q, d, l, listed-add (4 * p) 4 word_at, s) }
     where
       here : (i : ℕ) → i < 4 → word_at (4 * p + i) ≡ set_word g w p i
       here i h =

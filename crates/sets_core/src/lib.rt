@@ -1,17 +1,17 @@
 // The cores of sets and of the choice count: one pass from left to right over the positions.
 #![tactic(auto)]
 
-ghost use Rattle.std.specs.Prelude.{◌≡◌, ◌++◌, ◌+◌, ◌*◌, ◌<◌, ◌≤◌, ltb, length, drop, get_or, set};
+ghost use Rattle.std.specs.Prelude.{◌≡◌, ◌++◌, ◌+◌, ◌*◌, ◌<◌, ◌≤◌, ltb, true, length, take, drop, get_or, set};
 ghost use Rattle.std.specs.Int.Bits.{bit_or};
 ghost use Rattle.sets_theory.specs.believed.Sets.{one, choice_count, set_words};
-ghost use Rattle.tables.specs.Ready.{grammar_in};
-ghost use Rattle.history_file.specs.believed.HistoryFile.{tokens_of};
-ghost use Rattle.levels.specs.Levels.{Setting};
+ghost use Rattle.levels.specs.Prepared.{prepared_grammar, prepared_tokens};
+ghost use Rattle.rule_set.specs.RuleSet.{ways_in, words_in};
 ghost use Rattle.sets_core.specs.Start.{start_set};
 
-use levels::{Closes, Masks};
+use contexts::Context;
+use levels::Prepared;
+use rule_index::IndexedGrammar;
 use rule_set::Ways;
-use tables::{Head, Table};
 
 // The nonterminals that can stand at position 0: the start, if it derives the tokens.
 fn start_set(derives: bool, start: u16) -> u32
@@ -35,7 +35,7 @@ fn onward(behind: &mut Behind, p: usize, j: usize, ways: Ways) -> u32
     ensures { (result ≡ bit_or (get_or behind.old p 0) ways.next) × (behind.new ≡ set behind.old j (bit_or (get_or behind.old j 0) ways.behind)) }
 {
     let next = behind[p] | ways.next;
-    behind[j] = behind[j] | ways.behind;
+    behind[j] |= ways.behind;
     next
 }
 
@@ -45,58 +45,55 @@ fn counted(total: u32, sum: u64, met: u32) -> u32
     requires { total < 2000 }
     ensures { result ≡ one (ltb met sum) + total }
 {
-    if (met as u64) < sum { total + 1 } else { total }
+    total + u32::from(u64::from(met) < sum)
 }
 
-// Writes the set of rules at each position, four words each, and answers how many positions are choices.
-pub fn sets(
-    table: &Table,
-    head: Head,
-    tokens: &[u32],
-    closes: &Closes,
-    masks: &Masks,
+// The ways on at position p and, if WRITE, the set of rules there, in the four words of the position.
+fn row<const WRITE: bool>(
+    grammar: &IndexedGrammar,
+    here: u32,
+    context: Context,
+    p: usize,
     words: &mut [u32],
-) -> u32
-    requires setting { Setting table.now head tokens.now closes.now masks.now }
-    requires tokens_in_bounds { 4 * (length tokens.now + 1) ≤ length words.old }
-    ensures { (result ≡ choice_count (grammar_in table.now head) (tokens_of tokens.now)) × (words.new ≡ set_words (grammar_in table.now head) (tokens_of tokens.now) ++ drop (4 * (length tokens.now + 1)) words.old) }
+) -> Ways
+    requires { WRITE ≡ true → 4 * p + 4 ≤ length words.old }
+    ensures { (result ≡ ways_in grammar.now.head.well grammar.now.table.now here context grammar.now.head.rules) × (WRITE ≡ true → words.new ≡ take (4 * p) words.old ++ words_in grammar.now.head.well grammar.now.table.now here context grammar.now.head.rules ++ drop (4 * p + 4) words.old) }
 {
-    let n = tokens.len();
+    if WRITE {
+        rule_set::set_at(grammar, here, context, &mut words[4 * p..4 * p + 4])
+    } else {
+        rule_set::ways_at(grammar, here, context)
+    }
+}
+
+// One pass over the positions: it answers how many of them are choices and, if WRITE, writes the set of rules at each, four words each.
+fn one_pass<const WRITE: bool>(input: &Prepared, words: &mut [u32]) -> u32
+    requires tokens_in_bounds { WRITE ≡ true → 4 * (length input.now.tokens.now + 1) ≤ length words.old }
+    ensures { (result ≡ choice_count (prepared_grammar input.now) (prepared_tokens input.now)) × (WRITE ≡ true → words.new ≡ set_words (prepared_grammar input.now) (prepared_tokens input.now) ++ drop (4 * (length input.now.tokens.now + 1)) words.old) }
+{
     let mut behind = [0u32; 1025];
-    let derives = levels::derives_all(masks, head);
-    let mut here = start_set(derives, head.start);
+    let mut here = start_set(levels::derives_all(input), input.grammar.head.start);
     let mut count: u32 = 0;
-    let mut p: usize = 0;
-    while p <= n {
-        let context = levels::context_at(tokens, closes, masks, p);
-        let ways = rule_set::set_at(table, head, here, context, &mut words[4 * p..4 * p + 4]);
-        count = counted(count, ways.sum, here & bits::low_half(masks[p]));
-        here = onward(&mut behind, p, levels::close_at(closes, p), ways);
-        p += 1;
+    for p in 0..input.tokens.len() + 1 {
+        let context = levels::context_at(input, p);
+        let ways = row::<WRITE>(&input.grammar, here, context, p, words);
+        count = counted(count, ways.sum, here & bits::low_half(input.masks[p]));
+        here = onward(&mut behind, p, levels::close_at(input.closes, p), ways);
     }
     count
 }
 
-// How many positions are choices, where nobody asks for the sets.
-pub fn choices(table: &Table, head: Head, tokens: &[u32], closes: &Closes, masks: &Masks) -> u32
-    requires { Setting table.now head tokens.now closes.now masks.now }
-    ensures { result ≡ choice_count (grammar_in table.now head) (tokens_of tokens.now) }
+// Writes the set of rules at each position, four words each, and answers how many positions are choices.
+pub fn sets(input: &Prepared, words: &mut [u32]) -> u32
+    requires tokens_in_bounds { 4 * (length input.now.tokens.now + 1) ≤ length words.old }
+    ensures { (result ≡ choice_count (prepared_grammar input.now) (prepared_tokens input.now)) × (words.new ≡ set_words (prepared_grammar input.now) (prepared_tokens input.now) ++ drop (4 * (length input.now.tokens.now + 1)) words.old) }
 {
-    let mut behind = [0u32; 1025];
-    let derives = levels::derives_all(masks, head);
-    let mut here = start_set(derives, head.start);
-    let mut total: u32 = 0;
-    let mut p: usize = 0;
-    while p <= tokens.len() {
-        let ways = rule_set::ways_at(
-            table,
-            head,
-            here,
-            levels::context_at(tokens, closes, masks, p),
-        );
-        total = counted(total, ways.sum, here & bits::low_half(masks[p]));
-        here = onward(&mut behind, p, levels::close_at(closes, p), ways);
-        p += 1;
-    }
-    total
+    one_pass::<true>(input, words)
+}
+
+// How many positions are choices, where nobody asks for the sets.
+pub fn choices(input: &Prepared) -> u32
+    ensures { result ≡ choice_count (prepared_grammar input.now) (prepared_tokens input.now) }
+{
+    one_pass::<false>(input, &mut [])
 }

@@ -10,10 +10,11 @@ use borrow.Author.Tests.{ltb-true, ltb-false, lt-ltb, le-ltb}
 use lib.Dec.{ltb}
 use lib.ListN.{length, get_or, take, drop, length-append, length-take}
 use lib.Seq.{take_all, take-take, get_or-take, split_at}
-use Rattle.numbers.specs.declared.NumberRead.TheVariants.{Number, Refused}
 use Rattle.numbers.specs.believed.Number.{number_within, number_at, bytes}
 use Rattle.numbers.specs.Written.{AllBelow, shortest_with, shortest, written}
 use Rattle.numbers.proofs.Written.{limit_with, below_append, number-written, written-append, shortest-some}
+use Rattle.std.specs.Prelude.{Ok, Err}
+use Rattle.refusal.specs.declared.Refusal.{Refusal}
 use Rattle.elements.specs.believed.Elements.{element_at, elements}
 use Rattle.elements.specs.Encoded.{writable, encoded}
 use Rattle.elements.proofs.Encoding.{bytes_to, bytes_next, writable_large, writable-same, writable_small}
@@ -75,11 +76,11 @@ module _ (es : List ℕ) (most : ℕ) where
           ap (λ z. written (map writable z)) e
           ∙ (ap written (map-append writable (take p es) (number ∷ drop (suc p) l)) ∙ written-append (map writable (take p es)) (map writable (number ∷ drop (suc p) l)))
 
-      byte-number : number_at (bytes_to es most) (length (bytes_to es p)) ≡ Number (writable number) (length (bytes_to es (p + 1)))
+      byte-number : number_at (bytes_to es most) (length (bytes_to es p)) ≡ Ok (writable number, length (bytes_to es (p + 1)))
       byte-number =
           rw (parts, bytes_next es p inside, length-append) (number-written (bytes_to es p) (writable number) rest (writable_small number))
 
-      element_number : element_at es p ≡ Number number (p + 1)
+      element_number : element_at es p ≡ Ok (number, p + 1)
       unfolding element_at
       element_number = rw (lt-ltb p (length es) inside)
 
@@ -91,11 +92,11 @@ module _ (es : List ℕ) (most : ℕ) where
       end_is : length (bytes_to es p) ≡ length (bytes_to es most)
       end_is = ap (λ l. length (written (map writable l))) (take_all p es behind ∙ sym (take_all most es (omega arith)))
 
-      byte-none : number_at (bytes_to es most) (length (bytes_to es p)) ≡ Refused 1
+      byte-none : number_at (bytes_to es most) (length (bytes_to es p)) ≡ Err Refusal.Truncated
       unfolding number_at number_within
       byte-none = rw (end_is, le-ltb (length (bytes_to es most)) (length (bytes_to es most)) (omega arith))
 
-      element_none : element_at es p ≡ Refused 1
+      element_none : element_at es p ≡ Err Refusal.Truncated
       unfolding element_at
       element_none = rw (le-ltb p (length es) behind)
 

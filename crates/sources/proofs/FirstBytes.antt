@@ -11,10 +11,11 @@ use lib.Dec.{ltb}
 use lib.ListN.{length, get_or, take, length-take}
 use lib.Seq.{get_or-take}
 use Rattle.laws.proofs.Bools.{chose_first}
-use Rattle.numbers.specs.declared.NumberRead.{NumberRead}
-use Rattle.numbers.specs.declared.NumberRead.TheVariants.{Number, Refused}
-use Rattle.numbers.specs.believed.Number.{with_group, number_within, number_at, bytes}
-use Rattle.numbers.proofs.Written.{apart, group_read}
+use Rattle.std.specs.Prelude.{Ok, Err}
+use Rattle.refusal.specs.declared.Refusal.{Refusal}
+use Rattle.numbers.specs.believed.Number.{Read, with_group, number_within, number_at, bytes}
+use Rattle.numbers.proofs.Written.{group_read}
+use Rattle.numbers.proofs.Results.{apart, same_read}
 use Rattle.grammar_file.specs.believed.GrammarFile.{grammar_of}
 use Rattle.history_file.specs.believed.HistoryFile.{history_of}
 use Rattle.sources.proofs.Alike.{SameNumber, both, neither, Alike}
@@ -22,21 +23,21 @@ use Rattle.sources.proofs.Grammars.{grammar_alike}
 use Rattle.sources.proofs.Histories.{history_alike}
 
 -- a number has no more bytes than are allowed
-byte_near : (s : List ℕ) (most at n next : ℕ) (rest : NumberRead) → ((m : ℕ) → rest ≡ Number m next → next ≤ at + 1 + most)
-    → cond (ltb at (length s)) (cond (ltb (get_or s at 0) 128) (Number (get_or s at 0) (at + 1)) (with_group (get_or s at 0 - 128) rest)) (Refused 1) ≡ Number n next
+byte_near : (s : List ℕ) (most at n next : ℕ) (rest : Read ℕ) → ((m : ℕ) → rest ≡ Ok (m, next) → next ≤ at + 1 + most)
+    → cond (ltb at (length s)) (cond (ltb (get_or s at 0) 128) (Ok (get_or s at 0, at + 1)) (with_group (get_or s at 0 - 128) rest)) (Err Refusal.Truncated) ≡ Ok (n, next)
     → next ≤ at + suc most
 byte_near s most at n next rest behind h = go (ltb (get_or s at 0) 128) (chose_first (ltb at (length s)) _ _ apart h).1
   where
-    go : (t : Bool) → cond t (Number (get_or s at 0) (at + 1)) (with_group (get_or s at 0 - 128) rest) ≡ Number n next → next ≤ at + suc most
-    go true r = let e : at + 1 ≡ next = cc in omega arith
+    go : (t : Bool) → cond t (Ok (get_or s at 0, at + 1)) (with_group (get_or s at 0 - 128) rest) ≡ Ok (n, next) → next ≤ at + suc most
+    go true r = let (n_is, e) = same_read r in omega arith
     go false r = let (m, is, some, worth) = group_read (get_or s at 0 - 128) rest n next r in let l = behind m is in omega arith
 
-near : (s : List ℕ) (most at n next : ℕ) → number_within most s at ≡ Number n next → next ≤ at + most
+near : (s : List ℕ) (most at n next : ℕ) → number_within most s at ≡ Ok (n, next) → next ≤ at + most
 unfolding number_within
 near s zero at n next h = absurd (apart h)
 near s (suc most) at n next h = byte_near s most at n next (number_within most s (at + 1)) (λ m e. near s most (at + 1) m next e) h
 
-next_near : (s : List ℕ) (at n next : ℕ) → number_at s at ≡ Number n next → next ≤ at + 3
+next_near : (s : List ℕ) (at n next : ℕ) → number_at s at ≡ Ok (n, next) → next ≤ at + 3
 unfolding number_at
 next_near s at n next h = near s 3 at n next h
 
@@ -69,11 +70,11 @@ module _ (s : List ℕ) (most : ℕ) where
   numbers_together : (k p q : ℕ) → Together (suc k) p q → SameNumber 2097152 (Together k) (number_at s p) (number_at part q)
   numbers_together k p q t = rw (← t.same, same_number p (omega (arith, t.room))) (go (number_at s p) refl)
     where
-      go : (r : NumberRead) → number_at s p ≡ r → SameNumber 2097152 (Together k) r r
-      go (Number n next) e =
+      go : (r : Read ℕ) → number_at s p ≡ r → SameNumber 2097152 (Together k) r r
+      go (Ok (n, next)) e =
           let after : Together k next next = record { same = refl; room = omega (arith, t.room, next_near s p n next e) } in
           both (inl refl) after
-      go (Refused d) e = neither
+      go (Err d) e = neither
 
   together : Alike (bytes s) (bytes part) 2097152 Together
   together = record {

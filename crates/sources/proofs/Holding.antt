@@ -12,22 +12,22 @@ use lib.ListN.{length, get_or, drop, drop_of_length-le, length-drop}
 use lib.Seq.{drop-cons}
 use Rattle.laws.proofs.Bools.{chose_first}
 use Rattle.laws.proofs.Lists.{heads, tails}
-use Rattle.numbers.specs.declared.NumberRead.TheVariants.{Number}
 use Rattle.numbers.specs.believed.Number.{number_within, number_at, bytes}
 use Rattle.numbers.specs.Written.{NumbersAt, none, one, Holds}
-use Rattle.numbers.proofs.Written.{apart}
+use Rattle.std.specs.Prelude.{Ok}
+use Rattle.numbers.specs.believed.Number.{Read}
+use Rattle.numbers.proofs.Results.{apart, same_read}
 use Rattle.elements.specs.believed.Elements.{element_at, elements}
 
 -- ── elements ──
 
 module _ (es : List ℕ) where
-  element_read : (at n next : ℕ) → element_at es at ≡ Number n next → (drop at es ≡ n ∷ drop next es) × (next ≤ length es)
+  element_read : (at n next : ℕ) → element_at es at ≡ Ok (n, next) → (drop at es ≡ n ∷ drop next es) × (next ≤ length es)
   unfolding element_at
   element_read at n next h =
       let p = chose_first (ltb at (length es)) _ _ apart h in
       let l = ltb-true at (length es) p.0 in
-      let en : get_or es at 0 ≡ n = cc in
-      let ep : at + 1 ≡ next = cc in
+      let (en, ep) = same_read p.1 in
       (rw (← en, ← ep, add-one) (drop-cons es at 0 l), omega arith)
 
   elements_read : {at next : ℕ} {ns : List ℕ} → NumbersAt (element_at es) at ns next → drop at es ≡ ns ++ drop next es
@@ -42,7 +42,7 @@ module _ (es : List ℕ) where
   elements_stand (n ∷ ns) at h e =
       let l : at < length es = omega (arith, rw length-drop at (ap length e)) in
       let d : get_or es at 0 ∷ drop (at + 1) es ≡ n ∷ ns = rw (add-one, ← drop-cons es at 0 l) e in
-      let read : element_at es at ≡ Number n (at + 1) = rw (lt-ltb at (length es) l, heads d) in
+      let read : element_at es at ≡ Ok (n, at + 1) = rw (lt-ltb at (length es) l, heads d) in
       one read (elements_stand ns (at + 1) (omega arith) (tails d))
 
   pub elements_hold : (ns : List ℕ) → Holds (elements es) ns ↔ (es ≡ ns)
@@ -54,7 +54,7 @@ module _ (es : List ℕ) where
 -- ── bytes ──
 
 module _ (s : List ℕ) where
-  end_read : (at n next : ℕ) → ltb at (length s) ≡ false → number_at s at ≡ Number n next → ⊥
+  end_read : (at n next : ℕ) → ltb at (length s) ≡ false → number_at s at ≡ Ok (n, next) → ⊥
   unfolding number_at number_within
   end_read at n next e h = apart (rw e at h)
 
@@ -64,10 +64,9 @@ module _ (s : List ℕ) where
   same_numbers none e (one {at} {n} {p} h rest) f = absurd (end_read at n p e h)
   same_numbers (one {at} {n} {p} h rest) e none f = absurd (end_read at n p f h)
   same_numbers (one {at} {n} {p} {next} {ns} h rest) e (one {at = at2} {n = m} {p = q} {next = next2} {ns = ms} k more) f =
-      let z : Number n p ≡ Number m q = sym h ∙ k in
-      let en : n ≡ m = cc in
-      let ep : q ≡ p = cc in
-      rw en (ap (λ l. m ∷ l) (same_numbers rest e (rw ep at more) f))
+      let z : ◌≡◌ {A = Read ℕ} (Ok (n, p)) (Ok (m, q)) = sym h ∙ k in
+      let (en, ep) = same_read z in
+      rw en (ap (λ l. m ∷ l) (same_numbers rest e (rw (← ep) at more) f))
 
   pub bytes_hold_one : (ns ms : List ℕ) → Holds (bytes s) ns → Holds (bytes s) ms → ns ≡ ms
   bytes_hold_one ns ms (p, i, e) (q, j, f) = same_numbers i e j f

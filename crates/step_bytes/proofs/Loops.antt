@@ -1,18 +1,20 @@
--- One turn and the end of the two loops: the search for a step's end, and the bytes of the tokens.
-use Prim.Native.Nat.{ℕ, suc, ◌+◌, ◌-◌, ◌<◌, ◌≤◌}
+-- One turn and the end of the search for a step's end; and the bytes of the tokens.
+use Prim.Native.Nat.{ℕ, suc, ◌+◌, ◌-◌, ◌<◌, ◌≤◌, ◌*◌}
 use mathlib.Core.Path.{◌≡◌, refl, sym, ap, ◌∙◌}
 use mathlib.Core.Logic.{◌≢◌}
 use mathlib.Core.Bool.{Bool, true, false, cond}
-use mathlib.Core.List.{List, [], ◌∷◌, ◌++◌, append-nil}
+use mathlib.Core.List.{List, [], ◌∷◌}
 use mathlib.Core.Option.{Option, none, some}
 use native.Mathlib.Omega.{arith}
 use native.Mathlib.Numerals.{add-one}
 use lib.Dec.{eqb}
-use lib.ListN.{length, get_or, take, drop, length-append, drop_of_length-le}
-use lib.Seq.{drop-cons, take-suc, take_all}
+use lib.ListN.{length, get_or, drop, length-append, drop_of_length-le}
+use lib.Seq.{drop-cons}
 use borrow.Author.Tests.{eq-eqb, ne_eqb}
+use Rattle.std.specs.List.{sum_by}
+use Rattle.std.proofs.lemmas.List.Sums.{sum_by-cons}
 use Rattle.numbers.specs.Written.{shortest, written}
-use Rattle.numbers.proofs.Written.{written-append}
+use Rattle.numbers.proofs.Written.{shortest_most}
 use Rattle.history_file.specs.believed.HistoryFile.{kind, depth_after}
 use Rattle.step_bytes.specs.believed.StepBytes.{later, step_length}
 
@@ -68,19 +70,15 @@ module _ (ts : List ℕ) where
   unfolding step_length
   search-ends depth i h q = q ∙ rw (drop_of_length-le ts h)
 
-  -- so many bytes in front of token i
-  abbrev pub Sized : ℕ → ℕ → Type 0
-  Sized total i = total ≡ length (written (take i ts))
+-- the bytes of the tokens, added up
+pub size_of_written : (ts : List ℕ) → length (written ts) ≡ sum_by (λ t. length (shortest t)) ts
+unfolding written
+size_of_written [] = refl
+size_of_written (t ∷ ts) =
+    length-append (shortest t) (written ts) ∙ (ap (λ (n : ℕ). length (shortest t) + n) (size_of_written ts) ∙ sym (sum_by-cons (λ u. length (shortest u)) t ts))
 
-  pub sizes_start : Sized 0 0
-  unfolding written
-  sizes_start = refl
-
-  pub sizes_go : (total i : ℕ) → i < length ts → Sized total i → Sized (total + length (shortest (get_or ts i 0))) (i + 1)
-  unfolding written
-  sizes_go total i h q =
-      let e : take (i + 1) ts ≡ take i ts ++ (get_or ts i 0 ∷ []) = rw (add-one i) (take-suc ts i 0 h) in
-      rw (e, written-append, length-append, append-nil, q)
-
-  pub sizes_end : (total i : ℕ) → length ts ≤ i → Sized total i → total ≡ length (written ts)
-  sizes_end total i h q = q ∙ rw (take_all i ts h)
+-- three at most each
+pub size_most : (ts : List ℕ) → length (written ts) ≤ 3 * length ts
+unfolding written
+size_most [] = omega arith
+size_most (t ∷ ts) = omega (arith, length-append (shortest t) (written ts), shortest_most t, size_most ts)

@@ -1,19 +1,22 @@
 -- The part of the file where a step's bytes stand: it lies within the file, and holds the step's tokens.
-use Prim.Native.Nat.{ℕ, ◌+◌, ◌<◌, ◌≤◌}
+use Prim.Native.Nat.{ℕ, ◌+◌, ◌≤◌}
 use mathlib.Core.Path.{◌≡◌, refl, sym, ap, ◌∙◌}
 use mathlib.Core.Bool.{Bool, true, false, cond}
 use mathlib.Core.List.{List, ◌∷◌, ◌++◌}
 use mathlib.Core.Option.{Option, none, some}
 use native.Mathlib.Omega.{arith}
 use lib.ListN.{length, get_or, take, drop, length-append, take-append-drop}
+use Rattle.std.proofs.Common.{Fits, w8}
 use lib.Seq.{take-append_seam, drop-append_seam}
 use Rattle.numbers.specs.Written.{AllBelow, written}
 use Rattle.numbers.proofs.Written.{below_all, written-append}
-use Rattle.history_file.specs.believed.HistoryFile
 use Rattle.history_file.specs.believed.HistoryFile.{HistoryFile, history_of}
 use Rattle.history_file.proofs.BothWays.{history_both_ways}
-use Rattle.step_bytes.specs.declared.StepPlace.{StepPlace}
-use Rattle.step_bytes.specs.believed.StepBytes.{StepPart, part, refused, step_length, part_from, step_in, step_from, step_of, bytes_in, start_in, number_in}
+use Rattle.std.specs.Prelude.{Result, Ok}
+use Rattle.refusal.specs.declared.Refusal.{Refusal}
+use Rattle.refusal.specs.Numbered.{numbered}
+use Rattle.step_bytes.specs.declared.Part.{Part}
+use Rattle.step_bytes.specs.believed.StepBytes.{StepPart, part, refused, step_length, part_from, step_in, step_from, step_of, bytes_in, start_in}
 use Rattle.step_bytes.specs.Places.{placed}
 use Rattle.step_bytes.proofs.Steps.{open_at}
 
@@ -98,34 +101,21 @@ pub record Within (s : List ℕ) (p start n : ℕ) : Type 0 where
   pub starts : start ≡ start_in (step_of s p)
   pub holds : take n (drop start s) ≡ bytes_in (step_of s p)
 
-pub place_within : (s : List ℕ) → ((i : ℕ) → get_or s i 0 < 256) → (p start n : ℕ) → StepPlace.Part start n ≡ placed (step_of s p) → Within s p start n
-place_within s each p start n e = go (step_of s p) refl e
+-- of a search that answered a part
+pub place_within : (s : List ℕ) → ((i : ℕ) → Fits w8 (get_or s i 0)) → (p : ℕ) → {r : Result Part Refusal} → numbered r ≡ placed (step_of s p)
+    → {found : Part} → r ≡ Ok found → Within s p found.start found.length
+place_within s each p says {found = found} is = go (step_of s p) refl (sym (ap numbered is) ∙ says)
   where
     small : AllBelow 256 s
-    small = below_all 256 s each
+    small = below_all 256 s (λ i. omega (arith, each i))
 
-    go : (x : StepPart) → step_of s p ≡ x → StepPlace.Part start n ≡ placed x → Within s p start n
+    go : (x : StepPart) → step_of s p ≡ x → Ok found ≡ placed x → Within s p found.start found.length
     go (refused k) q e = absurd (let z : ◌≡◌ {A = ℕ} 0 1 = cc in omega arith)
     go (part a us) q e =
-        let ea : start ≡ a = cc in
-        let en : n ≡ length (written us) = cc in
+        let ea : found.start ≡ a = cc in
+        let en : found.length ≡ length (written us) = cc in
         record {
           inside = rw (ea, en) (part_inside s small p a us q);
           starts = rw (q, ea);
           holds = rw (q, ea, en) (part-holds s small p a us q);
         }
-
-pub place_refused : (s : List ℕ) (p k : ℕ) → StepPlace.Refused k ≡ placed (step_of s p) → step_of s p ≡ refused k
-place_refused s p k e = go (step_of s p) refl e
-  where
-    go : (x : StepPart) → step_of s p ≡ x → StepPlace.Refused k ≡ placed x → x ≡ refused k
-    go (refused j) q e = let z : j ≡ k = cc in ap refused z
-    go (part a us) q e = absurd (let z : ◌≡◌ {A = ℕ} 0 1 = cc in omega arith)
-
-abbrev pub number_of : StepPlace → Option ℕ
-number_of (StepPlace.Part start n) = none
-number_of (StepPlace.Refused k) = some k
-
-pub place_number : (x : StepPart) → number_of (placed x) ≡ number_in x
-place_number (part a us) = refl
-place_number (refused k) = refl

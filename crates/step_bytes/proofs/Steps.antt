@@ -1,27 +1,23 @@
 -- Which step a position has, from what the search for its end found.
 use Prim.Native.Nat.{ℕ, suc, ◌+◌, ◌-◌, ◌≤◌, ◌<◌}
-use mathlib.Core.Path.{◌≡◌, refl, sym, ap}
+use mathlib.Core.Path.{◌≡◌, refl, sym, ap, ◌∙◌}
 use mathlib.Core.Bool.{Bool, true, false, cond, ◌&&◌}
 use mathlib.Core.List.{List, [], ◌∷◌}
 use mathlib.Core.Option.{Option, none, some}
 use native.Mathlib.Omega.{arith}
 use lib.Dec.{eqb, ltb}
+use Rattle.std.specs.Prelude.{Ok, Err}
+use Rattle.std.specs.Prelude as count
+use Rattle.std.specs.Option.{ok_or}
+use Rattle.refusal.specs.declared.Refusal.{Refusal}
+use Rattle.refusal.specs.believed.Refusal.{number}
 use lib.ListN.{length, get_or, take, drop, length-append, length-drop}
 use lib.Seq.{take_all}
 use borrow.Author.Tests.{ltb-true}
 use Rattle.numbers.specs.Written.{shortest, written}
 use Rattle.history_file.specs.believed.HistoryFile.{kind, depth_after}
-use Rattle.step_bytes.specs.declared.StepEnd.{StepEnd}
 use Rattle.step_bytes.specs.believed.StepBytes.{refused, later, step_length, part_from, step_in}
 use Rattle.step_bytes.specs.Places.{ended}
-
-pub ended_some : (x : Option ℕ) (k : ℕ) → StepEnd.Tokens k ≡ ended x → x ≡ some k
-ended_some none k e = absurd (let z : ◌≡◌ {A = ℕ} 0 1 = cc in omega arith)
-ended_some (some j) k e = let z : j ≡ k = cc in ap some z
-
-pub ended-none : (x : Option ℕ) → StepEnd.Nothing ≡ ended x → x ≡ none
-ended-none none e = refl
-ended-none (some j) e = absurd (let z : ◌≡◌ {A = ℕ} 0 1 = cc in omega arith)
 
 pub length_most : (ts : List ℕ) (depth k : ℕ) → step_length depth ts ≡ some k → k ≤ length ts
 unfolding step_length
@@ -38,9 +34,6 @@ module _ (ts : List ℕ) (p : ℕ) where
   pub part-start : length (shortest (length ts)) + length (written (take p ts)) ≡ length (written (length ts ∷ take p ts))
   unfolding written
   part-start = sym (length-append (shortest (length ts)) (written (take p ts)))
-
-  pub rest_all : take (length ts - p) (drop p ts) ≡ drop p ts
-  rest_all = take_all (length ts - p) (drop p ts) (rw length-drop (omega arith))
 
   abbrev pub open_at : Bool
   open_at = ltb p (length ts) && eqb (kind (get_or ts p 0)) 1
@@ -59,3 +52,28 @@ module _ (ts : List ℕ) (p : ℕ) where
   pub no_step : open_at ≡ false → step_in ts p ≡ refused 17
   unfolding step_in
   no_step e = rw e
+
+  rest_all : take (length ts - p) (drop p ts) ≡ drop p ts
+  rest_all = take_all (length ts - p) (drop p ts) (rw length-drop (omega arith))
+
+  -- what the search for the end answers, over the tokens from an open on
+  module _ {b : Bool} (asked : b ≡ open_at) (opens : b ≡ true) {end : count.Option ℕ} (searched : end ≡ ended (step_length 0 (take (length ts - p) (drop p ts)))) where
+    at_open : (x : Option ℕ) → step_length 0 (drop p ts) ≡ x → step_in ts p ≡ part_from ts p x
+    at_open x q = step_at_open (sym asked ∙ opens) ∙ ap (part_from ts p) q
+
+    pub count_found : (k : ℕ) → ok_or end Refusal.NoStep ≡ Ok k → (p + k ≤ length ts) × (step_in ts p ≡ part_from ts p (some k))
+    count_found k e = go (step_length 0 (drop p ts)) refl (rw rest_all at searched)
+      where
+        go : (x : Option ℕ) → step_length 0 (drop p ts) ≡ x → end ≡ ended x → (p + k ≤ length ts) × (step_in ts p ≡ part_from ts p (some k))
+        go none q f = absurd (let z : ◌≡◌ {A = ℕ} 0 1 = cc in omega arith)
+        go (some j) q f =
+            let j_is : j ≡ k = cc in
+            let k_is : step_length 0 (drop p ts) ≡ some k = q ∙ ap some j_is in
+            (omega (arith, open_inside (sym asked ∙ opens), rw length-drop at (length_most (drop p ts) 0 k k_is)), at_open (some k) k_is)
+
+    pub none_found : (e : Refusal) → ok_or end Refusal.NoStep ≡ Err e → step_in ts p ≡ refused (number e)
+    none_found e h = go (step_length 0 (drop p ts)) refl (rw rest_all at searched)
+      where
+        go : (x : Option ℕ) → step_length 0 (drop p ts) ≡ x → end ≡ ended x → step_in ts p ≡ refused (number e)
+        go none q f = let e_is : Refusal.NoStep ≡ e = cc in at_open none q ∙ ap (λ (d : Refusal). refused (number d)) e_is
+        go (some j) q f = absurd (let z : ◌≡◌ {A = ℕ} 0 1 = cc in omega arith)

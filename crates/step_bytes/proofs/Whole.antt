@@ -17,7 +17,6 @@ use Rattle.vpg.specs.declared.Token.{Token}
 use Rattle.level_theory.specs.Pending.{Closes, rest, pending_over, pending, pending_at, close_of}
 use Rattle.numbers.specs.believed.Number.{bytes}
 use Rattle.numbers.specs.Written.{written}
-use Rattle.history_file.specs.believed.HistoryFile
 use Rattle.history_file.specs.believed.HistoryFile.{HistoryFile, history_of, kind, token_of, tokens_of, depth_after}
 use Rattle.history_file.specs.Wellformed.{TokenNumber, Nested, Wellformed}
 use Rattle.history_file.proofs.Accepted.{history_wellformed}

@@ -2,69 +2,49 @@
 // One search for the place of the part; two services, one that hands the part back and one that says why there is none.
 #![tactic(auto)]
 
-ghost use Rattle.std.specs.Prelude.{◌≡◌, ◌&&◌, ◌+◌, ◌≤◌, eqb, ltb, length, get_or};
+ghost use Rattle.std.specs.Prelude.{◌≡◌, ◌&&◌, ◌+◌, ◌≤◌, eqb, ltb, length, get_or, Ok};
 ghost use Rattle.std.proofs.Math.Option.{some};
 ghost use Rattle.numbers.specs.Written.{written};
+ghost use Rattle.refusal.specs.Numbered.{numbered};
 ghost use Rattle.history_file.specs.believed.HistoryFile.{kind, depth_after};
 ghost use Rattle.step_bytes.specs.believed.StepBytes.{step_length, part_from, step_in, step_of, bytes_in, start_in, number_in, number_said, within};
 ghost use Rattle.step_bytes.specs.Places.{ended, placed};
 
-use history_file::HistoryAnswer;
+use refusal::Refusal;
 
-// How many tokens a step has; or that its close is missing.
-#[derive(Clone, Copy)]
-pub enum StepEnd {
-    Tokens(usize),
-    Nothing,
-}
-
-// The first byte of a step in the file, and how many there are; or the number of the refusal.
-#[derive(Clone, Copy)]
-pub enum StepPlace {
-    Part(usize, usize),
-    Refused(u8),
-}
-
-// There is a step at the position; or the number of the refusal.
-#[derive(Clone, Copy)]
-pub enum StepCheck {
-    Found,
-    Refused(u8),
+// Where a part of a file starts, and how many bytes it has.
+#[derive(Clone, Copy, Debug, PartialEq, Eq)]
+pub struct Part {
+    pub start: usize,
+    pub length: usize,
 }
 
 // How many steps are open after a token, whatever token it is.
+#[tactic(auto, unfolding(history_file::specs::believed::HistoryFile::depth_after))]
 fn steps_open(t: u32, depth: u32) -> u32
     requires { depth ≤ 1024 }
     ensures { result ≡ depth_after t depth }
 {
-    let kind = t % 4;
-    if kind == 1 {
-        return depth + 1;
+    match t % 4 {
+        1 => depth + 1,
+        2 => depth.saturating_sub(1),
+        _ => depth,
     }
-    if kind == 2 {
-        if depth == 0 {
-            return 0;
-        }
-        return depth - 1;
-    }
-    depth
 }
 
 // How many tokens there are from an open through the close that ends its step: the first token after which no step is open.
-fn step_end(tokens: &[u32]) -> StepEnd
+fn step_end(tokens: &[u32]) -> Option<usize>
     requires { length tokens.now ≤ 1024 }
     ensures { result ≡ ended (step_length 0 tokens.now) }
 {
-    let mut depth: u32 = 0;
-    let mut i: usize = 0;
-    while i < tokens.len() {
+    let mut depth = 0;
+    for i in 0..tokens.len() {
         depth = steps_open(tokens[i], depth);
-        i += 1;
         if depth == 0 {
-            return StepEnd::Tokens(i);
+            return Some(i + 1);
         }
     }
-    StepEnd::Nothing
+    None
 }
 
 // How many bytes the tokens take in a file.
@@ -72,84 +52,65 @@ fn bytes_of(tokens: &[u32]) -> usize
     requires { length tokens.now ≤ 1024 }
     ensures { (result ≡ length (written tokens.now)) × (result ≤ 4096) }
 {
-    let mut total: usize = 0;
-    let mut i: usize = 0;
-    while i < tokens.len() {
-        total += numbers::size_of(tokens[i]);
-        i += 1;
-    }
-    total
+    tokens.iter().map(|&t| numbers::size_of(t)).sum()
 }
 
-// Whether an open stands at the position.
+// Whether an open stands at the position. Its kind is taken out of the number, since any number may stand there.
 fn is_open(tokens: &[u32], position: usize) -> bool
     ensures { result ≡ (ltb position (length tokens.now) && eqb (kind (get_or tokens.now position 0)) 1) }
 {
-    if position < tokens.len() {
-        tokens[position] % 4 == 1
-    } else {
-        false
-    }
+    position < tokens.len() && tokens[position] % 4 == 1
 }
 
 // The place of so many tokens from a position on.
-fn part_at(tokens: &[u32], position: usize, count: usize) -> StepPlace
+fn part_at(tokens: &[u32], position: usize, count: usize) -> Part
     requires { (length tokens.now ≤ 1024) × (position + count ≤ length tokens.now) }
-    ensures { result ≡ placed (part_from tokens.now position (some count)) }
+    ensures { Ok result ≡ placed (part_from tokens.now position (some count)) }
 {
     let behind = position + count;
     let first = numbers::size_of(tokens.len() as u32);
     let before = bytes_of(&tokens[..position]);
-    let length = bytes_of(&tokens[position..behind]);
-    StepPlace::Part(first + before, length)
+    Part {
+        start: first + before,
+        length: bytes_of(&tokens[position..behind]),
+    }
 }
 
 // The place of the step at a position, where the history has passed.
-fn place_in(tokens: &[u32], position: usize) -> StepPlace
+fn place_in(tokens: &[u32], position: usize) -> Result<Part, Refusal>
     requires { length tokens.now ≤ 1024 }
-    ensures { result ≡ placed (step_in tokens.now position) }
+    ensures { numbered result ≡ placed (step_in tokens.now position) }
 {
-    if is_open(tokens, position) {
-        let end = step_end(&tokens[position..]);
-        let StepEnd::Tokens(count) = end else {
-            return StepPlace::Refused(17);
-        };
-        return part_at(tokens, position, count);
+    if !is_open(tokens, position) {
+        return Err(Refusal::NoStep);
     }
-    StepPlace::Refused(17)
+    let count = step_end(&tokens[position..]).ok_or(Refusal::NoStep)?;
+    Ok(part_at(tokens, position, count))
 }
 
 // The place of the step at a position of a history file.
-pub fn locate(history: &[u8], position: usize) -> StepPlace
-    ensures { result ≡ placed (step_of history.now position) }
+pub fn locate(history: &[u8], position: usize) -> Result<Part, Refusal>
+    ensures { numbered result ≡ placed (step_of history.now position) }
 {
-    let mut tokens = [0u32; 1024];
-    let read = history_file::read_history(history, &mut tokens);
-    match read {
-        HistoryAnswer::Refused(e) => StepPlace::Refused(e),
-        HistoryAnswer::Accepted(n) => place_in(&tokens[..n], position),
-    }
+    let mut tokens = [0; 1024];
+    let count = history_file::read_history(history, &mut tokens)?;
+    place_in(&tokens[..count], position)
 }
 
 // The bytes of the step whose open stands at the position, as a part of the caller's own; where there is none, the empty part at their start.
 pub fn step_bytes<'a>(history: &'a [u8], position: usize) -> &'a [u8]
     ensures { (result.now ≡ bytes_in (step_of history.now position)) × (result.ref_ptr ≡ within history.entry.ref_ptr (start_in (step_of history.now position))) }
 {
-    let place = locate(history, position);
-    let StepPlace::Part(start, length) = place else {
-        return &history[..0];
-    };
-    let end = start + length;
-    &history[start..end]
+    match locate(history, position) {
+        Ok(part) => &history[part.start..part.start + part.length],
+        Err(_) => &history[..0],
+    }
 }
 
 // Whether there is a step at the position, or why the part is empty.
-pub fn step_check(history: &[u8], position: usize) -> StepCheck
+pub fn step_check(history: &[u8], position: usize) -> Result<(), Refusal>
     ensures { number_said result ≡ number_in (step_of history.now position) }
 {
-    let place = locate(history, position);
-    match place {
-        StepPlace::Part(_, _) => StepCheck::Found,
-        StepPlace::Refused(e) => StepCheck::Refused(e),
-    }
+    locate(history, position)?;
+    Ok(())
 }

@@ -5,18 +5,15 @@ ghost use Rattle.std.specs.Prelude.{◌≡◌};
 ghost use Rattle.service.specs.believed.Given.{outcome_said};
 ghost use Rattle.stop_marks.specs.believed.StopMarks.{marks_due};
 
-use service::{Opened, Outcome};
+use refusal::Refusal;
+use service::Contents;
 
 // Writes n + 1 bytes: byte i is 1 where the first i tokens alone have a reading, else 0.
-pub fn stop_marks(grammar: &[u8], history: &[u8], marks: &mut [u8]) -> Outcome
+pub fn stop_marks(grammar: &[u8], history: &[u8], marks: &mut [u8]) -> Result<(), Refusal>
     ensures { (outcome_said result, marks.new) ≡ marks_due grammar.now history.now marks.old }
 {
-    let mut table = [0u16; 1412];
-    let mut tokens = [0u32; 1024];
-    let opened = service::open_files(grammar, history, 1, marks.len(), &mut table, &mut tokens);
-    let Opened::Files(head, n) = opened else {
-        return Outcome::Refused(service::refusal_of(opened));
-    };
-    stop_marks_core::marks(&table, head, &tokens[..n], marks);
-    Outcome::Done
+    let mut contents = Contents::new();
+    let opened = service::open_files(grammar, history, 1, marks.len(), &mut contents)?;
+    stop_marks_core::marks(&opened.grammar, opened.tokens, marks);
+    Ok(())
 }

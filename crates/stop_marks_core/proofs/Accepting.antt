@@ -11,26 +11,29 @@ use Rattle.pair_theory.specs.Pairs.{PairStack, Configuration, bottom, free, fini
 use Rattle.pair_theory.proofs.Pairs.{accepts_inside}
 use Rattle.sets_theory.specs.believed.Sets.{one}
 use Rattle.tables.specs.declared.Head.{Head}
+use Rattle.tables.specs.declared.Table.{Table}
 use Rattle.tables.proofs.Tables.{ready_general}
 use Rattle.rule_index.specs.Index.{Indexed, ends_in}
 use Rattle.pair_states.specs.Finished.{finished_of, may_end}
 use Rattle.pair_states.specs.Wide.{wide_grammar}
 use Rattle.pair_states.proofs.Finished.{finished_members, finished-some}
+use Rattle.pair_states.specs.declared.Opened.{Opened}
+use Rattle.configurations.specs.declared.stack.Stack.{Stack}
 use Rattle.configurations.specs.Stack.{Saved, Holds}
 use Rattle.stop_marks_core.specs.MarkOf.{mark_of}
 
 -- no open is unmatched exactly where the stack is empty
-saved_bottom : (stack : List (List ℕ)) (names : List ℕ) (d : ℕ) (T : PairStack) → Saved stack names d T → eqb d 0 ≡ bottom T
-saved_bottom stack names zero [] x = refl
-saved_bottom stack names zero (y ∷ T) x = absurd x
-saved_bottom stack names (suc d) [] x = absurd x
-saved_bottom stack names (suc d) (y ∷ T) x = eqb-suc-zero d
+saved_bottom : (opened : List Opened) (d : ℕ) (T : PairStack) → Saved opened d T → eqb d 0 ≡ bottom T
+saved_bottom opened zero [] x = refl
+saved_bottom opened zero (y ∷ T) x = absurd x
+saved_bottom opened (suc d) [] x = absurd x
+saved_bottom opened (suc d) (y ∷ T) x = eqb-suc-zero d
 
 -- the marks agree
-pub mark-accepts : (table : List ℕ) (head : Head) → Indexed table head → (d : ℕ) (rows : List ℕ) (stack : List (List ℕ)) (names : List ℕ) (x : Configuration) →
-    Holds d rows stack names x → Within (wide_grammar table head) x → mark_of d rows (ends_in table) head ≡ one (accepts (wide_grammar table head) x)
-mark-accepts table head indexed d rows stack names x h w =
-    ap (λ (b : Bool). one (cond b (may_end rows (ends_in table)) inside)) (saved_bottom stack names d x.1 h.saved) ∙ ap one (go (bottom x.1) refl)
+pub mark-accepts : (table : Table) (head : Head) → Indexed table head → (rows : List ℕ) (stack : Stack) (x : Configuration) → Holds rows stack x → Within (wide_grammar table head) x →
+    mark_of stack.depth rows (ends_in table) head ≡ one (accepts (wide_grammar table head) x)
+mark-accepts table head indexed rows stack x h w =
+    ap (λ (b : Bool). one (cond b (may_end rows (ends_in table)) inside)) (saved_bottom stack.opened stack.depth x.1 h.saved) ∙ ap one (go (bottom x.1) refl)
   where
     g : Grammar
     g = wide_grammar table head

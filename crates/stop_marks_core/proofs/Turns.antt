@@ -13,12 +13,14 @@ use Rattle.pair_theory.specs.Pairs.{Configuration, begin, single, derivative, ac
 use Rattle.sets_theory.specs.believed.Sets.{one, stop_mark, stop_marks}
 use Rattle.pair_theory.proofs.Pairs.{begin-within, derivative-within, stop_marks_pairs}
 use Rattle.tables.specs.declared.Head.{Head}
+use Rattle.tables.specs.declared.Table.{Table}
 use Rattle.tables.specs.Ready.{grammar_in}
 use Rattle.rule_index.specs.Index.{Indexed, ends_in}
 use Rattle.history_file.specs.believed.HistoryFile.{token_of, tokens_of}
 use Rattle.pair_states.specs.Encodes.{Encodes}
 use Rattle.pair_states.specs.Wide.{wide_grammar}
 use Rattle.pair_states.proofs.Grammars.{proper}
+use Rattle.configurations.specs.declared.stack.Stack.{Stack}
 use Rattle.configurations.specs.Stack.{Holds, StepHolds}
 use Rattle.stop_marks_core.specs.MarkOf.{mark_of}
 use Rattle.stop_marks_core.proofs.Accepting.{mark-accepts}
@@ -29,55 +31,50 @@ drop_token ts i h =
     (drop-cons (tokens_of ts) i (token_of 0) (rw length-map h) ∙ ap (λ (x : Token). x ∷ drop (suc i) (tokens_of ts)) (get_or-map token_of ts i 0))
 
 -- what is known before token i: ts are the token numbers, out₀ the buffer as it was lent
-pub record Turn (g : Grammar) (ts out₀ : List ℕ) (i d : ℕ) (rows : List ℕ) (stack : List (List ℕ)) (names out : List ℕ) : Type 0 where
+pub record Turn (g : Grammar) (ts out₀ : List ℕ) (i : ℕ) (rows : List ℕ) (stack : Stack) (out : List ℕ) : Type 0 where
   pub configuration : Configuration
-  pub holds : Holds d rows stack names configuration
+  pub holds : Holds rows stack configuration
   pub within : Within g configuration
-  pub shallow : Shallow 128 (drop i (tokens_of ts)) d
+  pub shallow : Shallow 128 (drop i (tokens_of ts)) stack.depth
   pub marks : take i out ++ marks_from g configuration (drop i (tokens_of ts)) ≡ marks_from g (begin g) (tokens_of ts)
   pub rest : drop i out ≡ drop i out₀
-  pub stack_size : length stack ≡ 128
-  pub names-size : length names ≡ 128
   pub size : length out ≡ length out₀
 
--- how many steps are open before token i, and after it
-pub depths : {g : Grammar} {ts out₀ : List ℕ} {i d : ℕ} {rows : List ℕ} {stack : List (List ℕ)} {names out : List ℕ} → Turn g ts out₀ i d rows stack names out → i < length ts →
-    (d ≤ 128) × (open_after (token_of (get_or ts i 0)) d ≤ 128)
-depths {ts} {i} {d} u h = go (drop (i + 1) (tokens_of ts)) (rw (drop_token ts i h) at u.shallow)
+-- how many steps are open after token i
+pub depth-next : {g : Grammar} {ts out₀ : List ℕ} {i : ℕ} {rows : List ℕ} {stack : Stack} {out : List ℕ} → Turn g ts out₀ i rows stack out → i < length ts →
+    open_after (token_of (get_or ts i 0)) stack.depth ≤ 128
+depth-next {ts} {i} {stack} u h = go (drop (i + 1) (tokens_of ts)) (rw (drop_token ts i h) at u.shallow)
   where
-    go : (v : List Token) → Shallow 128 (token_of (get_or ts i 0) ∷ v) d → (d ≤ 128) × (open_after (token_of (get_or ts i 0)) d ≤ 128)
-    go [] s = s
-    go (x ∷ v) s = (s.0, s.1.0)
+    go : (v : List Token) → Shallow 128 (token_of (get_or ts i 0) ∷ v) stack.depth → open_after (token_of (get_or ts i 0)) stack.depth ≤ 128
+    go [] s = s.1
+    go (x ∷ v) s = s.1.0
 
 -- the stop marks go by the rules and the start alone: how many nonterminals there are changes none
-marks-wide : (table : List ℕ) (head : Head) (w : List Token) → stop_marks (wide_grammar table head) w ≡ stop_marks (grammar_in table head) w
+marks-wide : (table : Table) (head : Head) (w : List Token) → stop_marks (wide_grammar table head) w ≡ stop_marks (grammar_in table head) w
 unfolding stop_mark stop_marks
 marks-wide table head w = refl
 
-module _ (table : List ℕ) (head : Head) (ts out₀ : List ℕ) where
+module _ (table : Table) (head : Head) (ts out₀ : List ℕ) where
   abbrev g : Grammar
   g = wide_grammar table head
 
-  pub first-turn : Indexed table head → (rows : List ℕ) (stack : List (List ℕ)) (names : List ℕ) → Encodes rows (single head.start head.start) → Shallow 128 (tokens_of ts) 0 →
-      length stack ≡ 128 → length names ≡ 128 → Turn g ts out₀ 0 0 rows stack names out₀
-  first-turn indexed rows stack names x s p q =
+  pub first-turn : Indexed table head → (rows : List ℕ) (stack : Stack) → Encodes rows (single head.start head.start) → Shallow 128 (tokens_of ts) 0 → stack.depth ≡ 0 → Turn g ts out₀ 0 rows stack out₀
+  first-turn indexed rows stack x s e =
       let v = proper table head indexed.ready in
       record {
         configuration = begin g;
-        holds = record { state = x; saved = tt };
+        holds = record { state = x; saved = rw e tt };
         within = begin-within g v.form v;
-        shallow = s;
+        shallow = rw e s;
         marks = refl;
         rest = refl;
-        stack_size = p;
-        names-size = q;
         size = refl;
       }
 
-  module _ (i d : ℕ) (rows : List ℕ) (stack : List (List ℕ)) (names out : List ℕ) (m : ℕ) (room : length ts + 1 ≤ length out₀) (u : Turn g ts out₀ i d rows stack names out)
-      (indexed : Indexed table head) (is : m ≡ mark_of d rows (ends_in table) head) where
+  module _ (i : ℕ) (rows : List ℕ) (stack : Stack) (out : List ℕ) (m : ℕ) (room : length ts + 1 ≤ length out₀) (u : Turn g ts out₀ i rows stack out) (indexed : Indexed table head)
+      (is : m ≡ mark_of stack.depth rows (ends_in table) head) where
     accepted : m ≡ one (accepts g u.configuration)
-    accepted = is ∙ mark-accepts table head indexed d rows stack names u.configuration u.holds u.within
+    accepted = is ∙ mark-accepts table head indexed rows stack u.configuration u.holds u.within
 
     written : i < length out → take (i + 1) (set out i m) ≡ take i out ++ (m ∷ [])
     written h = rw add-one (take-suc-set out i m h)
@@ -85,10 +82,9 @@ module _ (table : List ℕ) (head : Head) (ts out₀ : List ℕ) where
     rest-next : drop (i + 1) out ≡ drop (i + 1) out₀
     rest-next = sym (drop-drop 1 i out) ∙ ap (drop 1) u.rest ∙ drop-drop 1 i out₀
 
-    pub next-turn : (d' : ℕ) (rows' : List ℕ) (stack' : List (List ℕ)) (names' : List ℕ) → i < length ts → StepHolds table head (token_of (get_or ts i 0)) d rows stack names d' rows' stack' names' →
-        Turn g ts out₀ (i + 1) d' rows' stack' names' (set out i m)
+    pub next-turn : (rows' : List ℕ) (stack' : Stack) → i < length ts → StepHolds table head (token_of (get_or ts i 0)) rows stack rows' stack' → Turn g ts out₀ (i + 1) rows' stack' (set out i m)
     unfolding marks_from
-    next-turn d' rows' stack' names' h s =
+    next-turn rows' stack' h s =
         let x = u.configuration in
         let y = derivative g (token_of (get_or ts i 0)) x in
         let v = drop (i + 1) (tokens_of ts) in
@@ -106,8 +102,6 @@ module _ (table : List ℕ) (head : Head) (ts out₀ : List ℕ) where
               ∙ ap (λ (l : List Token). take i out ++ marks_from g x l) (sym (drop_token ts i h))
               ∙ u.marks;
           rest = drop-set-lt (i + 1) out i m (omega arith) ∙ rest-next;
-          stack_size = s.stack_size;
-          names-size = s.names-size;
           size = length-set out i m ∙ u.size;
         }
 

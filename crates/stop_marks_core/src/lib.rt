@@ -2,27 +2,18 @@
 // One pass from left to right. The states before and after a token are two arrays that take turns: the 32 words are copied at an open alone.
 #![tactic(auto)]
 
-ghost use Rattle.std.specs.Prelude.{◌≡◌, cond, ◌++◌, ◌+◌, ◌<◌, ◌≤◌, length, drop};
+ghost use Rattle.std.specs.Prelude.{◌≡◌, ◌++◌, ◌+◌, ◌<◌, ◌≤◌, length, drop};
 ghost use Rattle.pair_theory.specs.Depth.{Shallow};
-ghost use Rattle.sets_theory.specs.believed.Sets.{one, stop_marks};
+ghost use Rattle.sets_theory.specs.believed.Sets.{stop_marks};
 ghost use Rattle.tables.specs.Ready.{grammar_in};
 ghost use Rattle.history_file.specs.believed.HistoryFile.{tokens_of};
 ghost use Rattle.history_file.specs.HistoryTokens.{Tokens};
-ghost use Rattle.rule_index.specs.Index.{Indexed};
 ghost use Rattle.stop_marks_core.specs.MarkOf.{mark_of};
 
-use configurations::Top;
+use configurations::Stack;
 use pair_words::Words;
-use tables::{Head, Table};
-
-fn number(b: bool) -> u8
-    ensures { result ≡ one b }
-{
-    if b {
-        return 1;
-    }
-    0
-}
+use rule_index::IndexedGrammar;
+use tables::Head;
 
 // The stop mark of a configuration whose state has these words. With no open unmatched it says whether some level may be finished; else whether that of
 // the start may, where the start isn't well matched: of the contexts in which nothing is due then, it is the only one.
@@ -31,49 +22,32 @@ fn mark_of(words: &Words, depth: usize, empties: u32, head: Head) -> u8
     ensures { result ≡ mark_of depth words.now empties head }
 {
     if depth == 0 {
-        return number(pair_states::may_end(words, empties));
+        return u8::from(pair_states::may_end(words, empties));
     }
     if head.start < head.well {
         return 0;
     }
-    let start = pair_words::wide(head.start);
-    number(bits::has(pair_states::finished_of(words, empties), start))
-}
-
-// The same where the state is in a or in b.
-fn mark_in(first: bool, a: &Words, b: &Words, depth: usize, empties: u32, head: Head) -> u8
-    requires { head.start < 32 }
-    ensures { result ≡ mark_of depth (cond first a.now b.now) empties head }
-{
-    if first {
-        return mark_of(a, depth, empties, head);
-    }
-    mark_of(b, depth, empties, head)
+    let finished = pair_states::finished_of(words, empties);
+    u8::from(bits::has(finished as u64, head.start as usize))
 }
 
 // The stop marks of the positions 0 to n, for n tokens: out[i] is 1 where the first i tokens have a reading, else 0.
-pub fn marks(table: &Table, head: Head, tokens: &[u32], out: &mut [u8])
-    requires indexed { Indexed table.now head }
+pub fn marks(grammar: &IndexedGrammar, tokens: &[u32], out: &mut [u8])
     requires tokens { Tokens tokens.now }
     requires shallow { Shallow 128 (tokens_of tokens.now) 0 }
     requires tokens_in_bounds { length tokens.now + 1 ≤ length out.old }
-    ensures { out.new ≡ stop_marks (grammar_in table.now head) (tokens_of tokens.now) ++ drop (length tokens.now + 1) out.old }
+    ensures { out.new ≡ stop_marks (grammar_in grammar.now.table.now grammar.now.head) (tokens_of tokens.now) ++ drop (length tokens.now + 1) out.old }
 {
-    let empties = rule_index::ends(table);
-    let mut stack = [[0u32; 32]; 128];
-    let mut names = [0u16; 128];
-    let mut a = pair_states::begin(head.start);
-    let mut b = [0u32; 32];
-    let mut depth: usize = 0;
-    let mut first = true;
-    let mut i: usize = 0;
-    while i < tokens.len() {
-        out[i] = mark_in(first, &a, &b, depth, empties, head);
+    let empties = grammar.ends();
+    let mut stack = Stack::new();
+    let mut first = pair_states::begin(grammar.head.start);
+    let mut second = [0u32; 32];
+    let (mut from, mut to) = (&mut first, &mut second);
+    for i in 0..tokens.len() {
+        out[i] = mark_of(from, stack.depth, empties, grammar.head);
         let token = history_file::token_of(tokens[i]);
-        let top = Top { head, depth, first };
-        depth = configurations::turn(table, top, token, &mut a, &mut b, &mut stack, &mut names);
-        first = !first;
-        i += 1;
+        configurations::step(grammar, token, from, to, &mut stack);
+        std::mem::swap(&mut from, &mut to);
     }
-    out[i] = mark_in(first, &a, &b, depth, empties, head);
+    out[tokens.len()] = mark_of(from, stack.depth, empties, grammar.head);
 }

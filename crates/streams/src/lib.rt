@@ -31,11 +31,8 @@ impl<W: Write> Sink<W> {
     pub fn put(&mut self, bytes: &[u8])
         ensures { Sent W.contents self.old self.new bytes.now }
     {
-        if self.failed.is_some() {
-            return;
-        }
-        if let Err(e) = self.writer.write_all(bytes) {
-            self.failed = Some(e);
+        if self.failed.is_none() {
+            self.failed = self.writer.write_all(bytes).err();
         }
     }
 
@@ -43,10 +40,7 @@ impl<W: Write> Sink<W> {
     pub fn outcome(&self) -> io::Result<()>
         ensures { result ≡ outcome_of self.now.failed }
     {
-        match self.failed {
-            None => Ok(()),
-            Some(e) => Err(e),
-        }
+        self.failed.map_or(Ok(()), Err)
     }
 }
 
@@ -58,14 +52,10 @@ pub fn read_full<R: Read>(stream: &mut R, buf: &mut [u8]) -> usize
 {
     let mut done: usize = 0;
     while done < buf.len() {
-        let got = stream.read(&mut buf[done..]);
-        let Ok(n) = got else {
-            return done;
-        };
-        if n == 0 {
-            return done;
+        match stream.read(&mut buf[done..]) {
+            Ok(0) | Err(_) => break,
+            Ok(n) => done += n,
         }
-        done += n;
     }
     done
 }

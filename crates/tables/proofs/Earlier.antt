@@ -12,6 +12,7 @@ use borrow.Author.Tests.{eqb-true, eq-eqb}
 use Rattle.vpg.specs.declared.Rule.{Rule}
 use Rattle.vpg.specs.believed.Grammar.{left}
 use Rattle.tables.specs.declared.Six.{Six}
+use Rattle.tables.specs.declared.Table.{Table}
 use Rattle.tables.specs.Table.{six_of, rule_from, same_six, same_rule, earlier, rule_in, rules_in}
 use Rattle.tables.proofs.Tables.{from_of}
 
@@ -70,9 +71,15 @@ unfolding earlier
 earlier_snoc r x [] = or-false (same_rule r x)
 earlier_snoc r x (y ∷ ys) = rw (earlier_snoc r x ys) (sym (or_assoc (same_rule r y) (earlier r ys) (same_rule r x)))
 
-pub earlier-at : (r : Rule) (t : List ℕ) (j : ℕ) → 0 < j → earlier r (rules_in t j) ≡ (earlier r (rules_in t (j - 1)) || same_rule r (rule_in t (j - 1)))
+pub earlier-at : (r : Rule) (t : Table) (j : ℕ) → 0 < j → earlier r (rules_in t j) ≡ (earlier r (rules_in t (j - 1)) || same_rule r (rule_in t (j - 1)))
 unfolding rules_in
 earlier-at r t zero h = absurd (omega arith)
 earlier-at r t (suc n) h =
     let e : suc n - 1 ≡ n = omega arith in
     rw e (earlier_snoc r (rule_in t n) (rules_in t n))
+
+-- the nonterminal that a rule is for is its second number
+pub left_six : (r : Rule) → (six_of r).1 ≡ left r
+left_six (Rule.Empty L) = refl
+left_six (Rule.Next L i L₁) = refl
+left_six (Rule.Step L a L₁ b L₂) = refl

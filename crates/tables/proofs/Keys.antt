@@ -1,5 +1,5 @@
 -- Keys of rules: a rule whose key no earlier rule has is none of them.
-use Prim.Native.Nat.{ℕ, zero, suc, ◌+◌, ◌*◌, ◌/◌, ◌%◌, ◌<◌, ◌≤◌}
+use Prim.Native.Nat.{ℕ, zero, suc, ◌+◌, ◌/◌, ◌%◌, ◌<◌}
 use native.Mathlib.Nat.{eq-or-lt_of_le, le_of_suc-le-suc}
 use native.Mathlib.Numerals.{add-one}
 use native.Mathlib.Omega.{arith}
@@ -14,6 +14,7 @@ use lib.Seq.{get_or-set_same, get_or-set_other}
 use Rattle.bits.proofs.Bits.{bit-add}
 use Rattle.vpg.specs.declared.Rule.{Rule}
 use Rattle.tables.specs.declared.Six.{Six}
+use Rattle.tables.specs.declared.Table.{Table}
 use Rattle.tables.specs.Table.{six_of, rule_in, rules_in, put_six, same_rule, earlier}
 use Rattle.tables.specs.Keys.{key_in, key_of, has_key, with_key, Keyed}
 use Rattle.tables.proofs.Tables.{rule_low, rule_same}
@@ -44,7 +45,7 @@ other_key r x apart = go (same_rule r x) refl
     go false e = refl
 
 -- a rule whose key isn't marked is none of the first n
-pub unmarked : (t : List ℕ) (n : ℕ) (keys : List ℕ) (r : Rule) → Keyed t n keys → has_key keys (key_of r) ≡ false → earlier r (rules_in t n) ≡ false
+pub unmarked : (t : Table) (n : ℕ) (keys : List ℕ) (r : Rule) → Keyed t n keys → has_key keys (key_of r) ≡ false → earlier r (rules_in t n) ≡ false
 unfolding earlier rules_in
 unmarked t zero keys r k e = refl
 unmarked t (suc n) keys r k e =
@@ -53,11 +54,11 @@ unmarked t (suc n) keys r k e =
     ∙ rw (unmarked t n keys r (record { size = k.size; marked = λ q h. k.marked q (omega arith) }) e, other_key r (rule_in t n) apart)
 
 -- before the first rule
-pub none_keyed : (t keys : List ℕ) → length keys ≡ 64 → Keyed t 0 keys
+pub none_keyed : (t : Table) (keys : List ℕ) → length keys ≡ 64 → Keyed t 0 keys
 none_keyed t keys e = record { size = e; marked = λ q h. absurd (omega arith) }
 
 -- one rule more, whose key is marked
-pub key_marked : (t keys : List ℕ) (k : ℕ) (r : Rule) → k * 6 + 6 ≤ length t → Keyed t k keys → Keyed (put_six t k (six_of r)) (k + 1) (with_key keys (key_of r))
+pub key_marked : (t : Table) (keys : List ℕ) (k : ℕ) (r : Rule) → k < length t.rules → Keyed t k keys → Keyed (put_six t k (six_of r)) (k + 1) (with_key keys (key_of r))
 key_marked t keys k r room h = record { size = length-set keys (key_of r / 32) _ ∙ h.size; marked = λ q l. go q (eq-or-lt_of_le (le_of_suc-le-suc (rw (add-one k) at l))) }
   where
     there : key_of r / 32 < length keys

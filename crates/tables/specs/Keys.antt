@@ -4,6 +4,7 @@ use Rattle.std.specs.Prelude.{ℕ, ◌+◌, ◌*◌, ◌/◌, ◌%◌, ◌<◌, 
 use Rattle.bits.specs.Bit.{bit, add_bit}
 use Rattle.vpg.specs.declared.Rule.{Rule}
 use Rattle.tables.specs.declared.Six.{Six}
+use Rattle.tables.specs.declared.Table.{Table}
 use Rattle.tables.specs.Table.{six_of, rule_in}
 
 -- a number below 2,048 that equal rules share
@@ -22,6 +23,6 @@ abbrev pub with_key : List ℕ → ℕ → List ℕ
 with_key keys k = set keys (k / 32) (add_bit (get_or keys (k / 32) 0) (k % 32))
 
 -- the keys of the first n rules are marked
-pub record Keyed (t : List ℕ) (n : ℕ) (keys : List ℕ) : Type 0 where
+pub record Keyed (t : Table) (n : ℕ) (keys : List ℕ) : Type 0 where
   pub size : length keys ≡ 64
   pub marked : (q : ℕ) → q < n → has_key keys (key_of (rule_in t q)) ≡ true

@@ -1,10 +1,11 @@
--- A table of numbers, six to a rule: the form, the fields in file order, and zeros.
+-- A table of rules, six numbers to a rule: the form, the fields in file order, and zeros.
 -- Law: earlier_is (tables/proofs/Earlier.antt)
-use Rattle.std.specs.Prelude.{ℕ, zero, suc, ◌+◌, ◌*◌, List, [], ◌∷◌, ◌++◌, Bool, false, cond, ◌&&◌, ◌||◌, get_or, set, replicate, eqb}
+use Rattle.std.specs.Prelude.{ℕ, zero, suc, ◌+◌, ◌≡◌, List, [], ◌∷◌, ◌++◌, Bool, false, cond, ◌&&◌, ◌||◌, length, get_or, set, replicate, eqb}
 use Rattle.vpg.specs.declared.Rule.{Rule}
 use Rattle.vpg.specs.declared.Token.{Token}
 use Rattle.vpg.specs.Forms.{form_of, name_of}
 use Rattle.tables.specs.declared.Six.{Six}
+use Rattle.tables.specs.declared.Table.{Table}
 
 abbrev pub six_of : Rule → Six
 six_of (Rule.Empty l) = record { 0 = 0; 1 = l; 2 = 0; 3 = 0; 4 = 0; 5 = 0 }
@@ -23,38 +24,57 @@ rule_from v =
     (Rule.Step v.1 (record { 0 = v.2 }) v.3 (record { 0 = v.4 }) v.5)
     (Rule.Next v.1 (token_by v.0 v.2) v.3))
 
-abbrev pub six_in : List ℕ → ℕ → Six
-six_in t b = record {
-  0 = get_or t b 0;
-  1 = get_or t (b + 1) 0;
-  2 = get_or t (b + 2) 0;
-  3 = get_or t (b + 3) 0;
-  4 = get_or t (b + 4) 0;
-  5 = get_or t (b + 5) 0;
+abbrev pub no_six : Six
+no_six = record { 0 = 0; 1 = 0; 2 = 0; 3 = 0; 4 = 0; 5 = 0 }
+
+-- the table of no rules and no index
+abbrev pub no_table : Table
+no_table = record {
+  rules = replicate 128 no_six;
+  first = replicate 256 0;
+  next = replicate 128 0;
+  ends = 0;
+  low_ends = 0;
+  inside = replicate 128 0;
+  after = replicate 128 0;
 }
 
+-- so many places as the type of a table says
+pub record Sized (t : Table) : Type 0 where
+  pub rules : length t.rules ≡ 128
+  pub first : length t.first ≡ 256
+  pub next : length t.next ≡ 128
+  pub inside : length t.inside ≡ 128
+  pub after : length t.after ≡ 128
+
+-- the six numbers of rule k
+abbrev pub six_in : Table → ℕ → Six
+six_in t k = get_or t.rules k no_six
+
 -- the rule of number k
-unfoldable pub rule_in : List ℕ → ℕ → Rule
-rule_in t k = rule_from (six_in t (k * 6))
+unfoldable pub rule_in : Table → ℕ → Rule
+rule_in t k = rule_from (six_in t k)
 
 -- the first n rules
-unfoldable pub rules_in : List ℕ → ℕ → List Rule
+unfoldable pub rules_in : Table → ℕ → List Rule
 rules_in t zero = []
 rules_in t (suc n) = rules_in t n ++ (rule_in t n ∷ [])
 
-abbrev pub put_six : List ℕ → ℕ → Six → List ℕ
-put_six t k v =
-    set (set (set (set (set (set t (k * 6) v.0) (k * 6 + 1) v.1) (k * 6 + 2) v.2) (k * 6 + 3) v.3) (k * 6 + 4) v.4)
-    (k * 6 + 5) v.5
+-- the table with other rules and the same index
+abbrev pub with_rules : Table → List Six → Table
+with_rules t rules = record { rules = rules; first = t.first; next = t.next; ends = t.ends; low_ends = t.low_ends; inside = t.inside; after = t.after }
+
+abbrev pub put_six : Table → ℕ → Six → Table
+put_six t k v = with_rules t (set t.rules k v)
 
 -- the rules from number k on, written one after another
-unfoldable pub fill : List ℕ → ℕ → List Rule → List ℕ
+unfoldable pub fill : Table → ℕ → List Rule → Table
 fill t k [] = t
 fill t k (r ∷ rs) = fill (put_six t k (six_of r)) (k + 1) rs
 
 -- the table of at most 128 rules
-unfoldable pub table_of : List Rule → List ℕ
-table_of rs = fill (replicate 1412 0) 0 rs
+unfoldable pub table_of : List Rule → Table
+table_of rs = fill no_table 0 rs
 
 abbrev pub same_six : Six → Six → Bool
 same_six a b =

@@ -1,16 +1,45 @@
-// Rules as a table of numbers, six to a rule, in file order: what the layers above work on.
+// Rules as a table, six numbers to a rule, in file order: what the layers above work on.
 #![tactic(auto)]
 
-ghost use Rattle.std.specs.Prelude.{◌≡◌, ◌&&◌, ◌*◌, ◌≤◌, ◌<◌};
+ghost use Rattle.std.specs.Prelude.{◌≡◌, ◌&&◌, ◌≤◌, ◌<◌};
+ghost use Rattle.vpg.specs.declared.Rule.{Rule as RuleValue};
 ghost use Rattle.vpg.specs.believed.Grammar.{left};
 ghost use Rattle.vpg.specs.Forms.{form_of, name_of};
-ghost use Rattle.tables.specs.Table.{token_by, six_of, rule_from, six_in, rule_in, rules_in, put_six, same_rule, earlier};
+ghost use Rattle.tables.specs.Table.{token_by, six_of, rule_from, six_in, rule_in, rules_in, put_six, no_table, same_rule, earlier};
 ghost use Rattle.tables.specs.Keys.{key_in, has_key, with_key, Keyed};
 
 use vpg::{CloseName, MarkName, OpenName, Rule, Token};
 
-// The rules of a grammar, at most 128, six numbers to each; behind them, from number 768 on, room for the index that crates/rule_index keeps.
-pub type Table = [u16; 1412];
+// The rules of a grammar, at most 128, six numbers to each; beside them, room for the index that crates/rule_index keeps: the first rule of each of
+// 256 classes and the next one in the class of each rule, the nonterminals that have an empty rule and the well-matched ones among them, and the
+// digits that a rule asks for behind its token and behind the close of its step.
+#[derive(Clone, Copy)]
+pub struct Table {
+    pub rules: [Six; 128],
+    pub first: [u16; 256],
+    pub next: [u16; 128],
+    pub ends: u32,
+    pub low_ends: u32,
+    pub inside: [u16; 128],
+    pub after: [u16; 128],
+}
+
+impl Table {
+    // All zeros.
+    pub fn new() -> Table
+        ensures { result ≡ no_table }
+    {
+        Table {
+            rules: [Six(0, 0, 0, 0, 0, 0); 128],
+            first: [0; 256],
+            next: [0; 128],
+            ends: 0,
+            low_ends: 0,
+            inside: [0; 128],
+            after: [0; 128],
+        }
+    }
+}
 
 // What a grammar file says before its rules: how many nonterminals there are, how many of them, the first ones, are well matched, the start, and
 // how many rules.
@@ -23,7 +52,7 @@ pub struct Head {
 }
 
 // A rule as six numbers: the form, the fields in file order, and zeros.
-#[derive(Clone, Copy)]
+#[derive(Clone, Copy, PartialEq, Eq)]
 pub struct Six(pub u16, pub u16, pub u16, pub u16, pub u16, pub u16);
 
 // The form of a rule that takes the token alone: 1 for a mark; 3 for an open and 4 for a close, which no file has yet.
@@ -85,17 +114,9 @@ fn rule_from(v: Six) -> Rule
 // The six numbers of rule k, for loops over the rules: most rules are passed over by a number or two.
 pub fn six_in(table: &Table, k: usize) -> Six
     requires { k < 128 }
-    ensures { result ≡ six_in table.now (k * 6) }
+    ensures { result ≡ six_in table.now k }
 {
-    let b = k * 6;
-    Six(
-        table[b],
-        table[b + 1],
-        table[b + 2],
-        table[b + 3],
-        table[b + 4],
-        table[b + 5],
-    )
+    table.rules[k]
 }
 
 // The rule of number k.
@@ -111,7 +132,7 @@ pub fn left_in(table: &Table, k: usize) -> u16
     requires { k < 128 }
     ensures { result ≡ left (rule_in table.now k) }
 {
-    table[k * 6 + 1]
+    table.rules[k].1
 }
 
 // Writes the rule of number k.
@@ -119,46 +140,16 @@ pub fn put(table: &mut Table, k: usize, v: Six)
     requires { k < 128 }
     ensures { table.new ≡ put_six table.old k v }
 {
-    let b = k * 6;
-    table[b] = v.0;
-    table[b + 1] = v.1;
-    table[b + 2] = v.2;
-    table[b + 3] = v.3;
-    table[b + 4] = v.4;
-    table[b + 5] = v.5;
+    table.rules[k] = v;
 }
 
-// Both of two tests; neither is left out, so that there is one branch for a proof to look at.
-pub fn both(a: bool, b: bool) -> bool
-    ensures { result ≡ a && b }
+// Whether a rule with these six numbers is that of number j, equal in form and in all fields (refusal 8): most rules differ in their nonterminal
+// already.
+fn same_at(table: &Table, j: usize, six: Six) -> bool
+    requires { j < 128 }
+    ensures { (rule : RuleValue) → six ≡ six_of rule → result ≡ same_rule rule (rule_in table.now j) }
 {
-    a && b
-}
-
-// Equal in form and in all fields (refusal 8).
-fn same_rule(r: Rule, x: Rule) -> bool
-    ensures { result ≡ same_rule r x }
-{
-    let a = six_of(r);
-    let b = six_of(x);
-    both(
-        a.0 == b.0,
-        both(
-            a.1 == b.1,
-            both(a.2 == b.2, both(a.3 == b.3, both(a.4 == b.4, a.5 == b.5))),
-        ),
-    )
-}
-
-// Whether the rule, which is for l, is that of number j: most rules differ in l already.
-fn same_at(table: &Table, j: usize, l: u16, rule: Rule) -> bool
-    requires { (j < 128) × (l ≡ left rule) }
-    ensures { result ≡ same_rule rule (rule_in table.now j) }
-{
-    if left_in(table, j) != l {
-        return false;
-    }
-    same_rule(rule, rule_of(table, j))
+    left_in(table, j) == six.1 && six == six_of(rule_of(table, j))
 }
 
 // Whether the rule is one of the first n: it is held against each of them.
@@ -166,30 +157,21 @@ fn seen_among(table: &Table, n: usize, rule: Rule) -> bool
     requires { n ≤ 128 }
     ensures { result ≡ earlier rule (rules_in table.now n) }
 {
-    let v = six_of(rule);
-    let l = v.1;
-    let mut j = n;
-    while 0 < j {
-        j -= 1;
-        if same_at(table, j, l, rule) {
+    let six = six_of(rule);
+    for j in (0..n).rev() {
+        if same_at(table, j, six) {
             return true;
         }
     }
     false
 }
 
-fn wide(x: u16) -> u32
-    ensures { (result ≡ x) × (result < 65536) }
-{
-    x as u32
-}
-
 // A number below 2,048 that equal rules share. The factors spread rules whose stages and names are dealt out in turn.
 fn key_of(v: Six) -> usize
     ensures { result ≡ key_in v }
 {
-    let front = 525 * wide(v.0) + 1326 * wide(v.1) + 1409 * wide(v.2);
-    let sum = front + 513 * wide(v.3) + 287 * wide(v.4) + 1335 * wide(v.5);
+    let front = 525 * v.0 as u32 + 1326 * v.1 as u32 + 1409 * v.2 as u32;
+    let sum = front + 513 * v.3 as u32 + 287 * v.4 as u32 + 1335 * v.5 as u32;
     (sum % 2048) as usize
 }
 
@@ -201,7 +183,7 @@ fn has_key(keys: &Keys, v: Six) -> bool
     ensures { result ≡ has_key keys.now (key_in v) }
 {
     let k = key_of(v);
-    bits::has(keys[k / 32], k % 32)
+    bits::has(keys[k / 32] as u64, k % 32)
 }
 
 // Marks the key of these six numbers.
@@ -217,8 +199,5 @@ pub fn seen(table: &Table, n: usize, rule: Rule, keys: &Keys) -> bool
     requires { (n ≤ 128) × Keyed table.now n keys.now }
     ensures { result ≡ earlier rule (rules_in table.now n) }
 {
-    if has_key(keys, six_of(rule)) {
-        return seen_among(table, n, rule);
-    }
-    false
+    has_key(keys, six_of(rule)) && seen_among(table, n, rule)
 }

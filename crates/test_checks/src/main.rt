@@ -3,70 +3,79 @@
 // then the label and the file.
 #![tactic(auto)]
 
-use files::{GrammarCheck, HistoryCheck};
+use files::GrammarCounts;
+use refusal::Refusal;
 use std::io::Read;
 use std::{fs, io};
-use test_packed::{part, two};
+use test_packed::{for_each_case, head, part, u16_at};
 
-fn print_refused(rt: &impl Print, e: u8) -> io::Result<()> {
-    print!(rt; "refused {e}")
+// The check that a case is about.
+#[derive(Clone, Copy)]
+enum Check {
+    Grammar,
+    History,
 }
 
-fn print_accepted(rt: &impl Print, count: u16) -> io::Result<()> {
-    print!(rt; "accepted {count}")
+// The head of a case: its check, and the sizes of its parts.
+#[derive(Clone, Copy)]
+struct Head {
+    check: Check,
+    label: u16,
+    file: u16,
+}
+
+fn read_head<F: Read>(cases: &mut F) -> Option<Head> {
+    let bytes = head::<F, 4>(cases)?;
+    let check = match bytes[0] {
+        0 => Check::Grammar,
+        _ => Check::History,
+    };
+    Some(Head {
+        check,
+        label: u16::from(bytes[1]),
+        file: u16_at(&bytes, 2),
+    })
+}
+
+fn print_refusal(rt: &impl Print, refusal: Refusal) -> io::Result<()> {
+    let number = u8::from(refusal);
+    print!(rt; "refused {number}")
 }
 
 fn print_grammar_check(rt: &impl Print, file: &[u8]) -> io::Result<()> {
-    let answer = files::grammar_check(file);
-    match answer {
-        GrammarCheck::Accepted(nonterminals, rules) => {
-            print_accepted(rt, nonterminals)?;
-            print!(rt; " {rules}")
-        }
-        GrammarCheck::Refused(e) => print_refused(rt, e),
+    match files::grammar_check(file) {
+        Ok(GrammarCounts { stages, rules }) => print!(rt; "accepted {stages} {rules}"),
+        Err(refusal) => print_refusal(rt, refusal),
     }
 }
 
 fn print_history_check(rt: &impl Print, file: &[u8]) -> io::Result<()> {
-    let answer = files::history_check(file);
-    match answer {
-        HistoryCheck::Accepted(tokens) => print_accepted(rt, tokens),
-        HistoryCheck::Refused(e) => print_refused(rt, e),
+    match files::history_check(file) {
+        Ok(tokens) => print!(rt; "accepted {tokens}"),
+        Err(refusal) => print_refusal(rt, refusal),
     }
 }
 
-// The next case; false where the file has no further one.
-fn one<F: Read>(rt: &impl Print, cases: &mut F) -> io::Result<bool> {
-    let mut head = [0u8; 4];
-    let got = streams::read_full(cases, &mut head);
-    if got < 4 {
-        return Ok(false);
-    }
+fn run_case<F: Read>(rt: &impl Print, cases: &mut F, head: Head) -> io::Result<()> {
     let mut label = [0u8; 4096];
     let mut file = [0u8; 4096];
-    let shown = part(cases, two(head[1], 0), &mut label);
-    let size = part(cases, two(head[2], head[3]), &mut file);
-    rt.write_all(&label[..shown])?;
+    let label = part(cases, head.label, &mut label);
+    let file = part(cases, head.file, &mut file);
+    rt.write_all(label)?;
     print!(rt; ": ")?;
-    if head[0] == 0 {
-        print_grammar_check(rt, &file[..size])?;
-    } else {
-        print_history_check(rt, &file[..size])?;
+    match head.check {
+        Check::Grammar => print_grammar_check(rt, file)?,
+        Check::History => print_history_check(rt, file)?,
     }
-    println!(rt; "")?;
-    Ok(true)
-}
-
-fn all<F: Read>(rt: &impl Print, cases: &mut F) -> io::Result<()> {
-    for _ in 0..10000 {
-        if !one(rt, cases)? {
-            return Ok(());
-        }
-    }
-    Ok(())
+    println!(rt; "")
 }
 
 fn main(rt: HostRuntime) -> io::Result<()> {
     let mut cases = fs::open(&rt, "cases.bin")?;
-    all(&rt, &mut cases)
+    for_each_case(
+        &mut cases,
+        read_head,
+        |cases, head, _| run_case(&rt, cases, head),
+    )?;
+    Ok(())
 }

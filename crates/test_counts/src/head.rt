@@ -1,55 +1,64 @@
 // The head of a case, 33 bytes: what is asked, what is due, the label's length; in eight bytes each k or the position, the rule, and the count
 // that is due; in two bytes each the sizes of grammar, history and buffer; low bytes first.
-ghost use Rattle.std.specs.Prelude.{◌≤◌};
+use std::io::Read;
+use test_packed::{head, u16_at, u64_at};
 
-use test_packed::{four, two};
-
-// What is asked: 0 the count, 1 the count at a position, 2 reading k, 3 whether the counts add up at each position, 4 every reading.
+// What is asked, in the order of its numbers from 0 on: the count, the count at a position, reading k, whether the counts add up to a total at
+// each position, every reading of a total.
 #[derive(Clone, Copy)]
-pub struct Asked {
-    pub what: u8,
-    pub place: u64,
-    pub rule: u64,
+pub enum Question {
+    Count,
+    CountAt { position: usize, rule: usize },
+    Reading(u64),
+    Sums(u64),
+    Listing(u64),
 }
 
-// The answer that is due: 0 where the service gives the count or writes the reading, 102 for over, else the number of the refusal; and the count.
+// No question stands where its number is not known here. What is due is the number of a refusal, or an answer: a count, or none where there
+// are more than 2^64 - 1 readings; a reading is due where a count is.
 #[derive(Clone, Copy)]
-pub struct Due {
-    pub number: u8,
-    pub count: u64,
+pub struct Head {
+    pub question: Option<Question>,
+    pub due: Result<Option<u64>, u8>,
+    pub label: u16,
+    pub grammar: u16,
+    pub history: u16,
+    pub buffer: u16,
 }
 
-// A number of eight bytes, from its halves.
-fn eight(low: u32, high: u32) -> u64 {
-    low as u64 + high as u64 * 4294967296
-}
-
-// The number of four bytes that begins at a place of the head.
-fn half_at(head: &[u8; 33], at: usize) -> u32
-    requires { at ≤ 29 }
-{
-    let low = two(head[at], head[at + 1]);
-    let high = two(head[at + 2], head[at + 3]);
-    four(low, high)
-}
-
-fn number_at(head: &[u8; 33], at: usize) -> u64
-    requires { at ≤ 25 }
-{
-    eight(half_at(head, at), half_at(head, at + 4))
-}
-
-pub(crate) fn asked_in(head: &[u8; 33]) -> Asked {
-    Asked {
-        what: head[0],
-        place: number_at(head, 3),
-        rule: number_at(head, 11),
+fn question_in(bytes: &[u8; 33]) -> Option<Question> {
+    let place = u64_at(bytes, 3);
+    let total = u64_at(bytes, 19);
+    match bytes[0] {
+        0 => Some(Question::Count),
+        1 => Some(Question::CountAt {
+            position: place as usize,
+            rule: u64_at(bytes, 11) as usize,
+        }),
+        2 => Some(Question::Reading(place)),
+        3 => Some(Question::Sums(total)),
+        4 => Some(Question::Listing(total)),
+        _ => None,
     }
 }
 
-pub(crate) fn due_in(head: &[u8; 33]) -> Due {
-    Due {
-        number: head[1],
-        count: number_at(head, 19),
+// No refusal has the number 102.
+fn due_in(bytes: &[u8; 33]) -> Result<Option<u64>, u8> {
+    match bytes[1] {
+        0 => Ok(Some(u64_at(bytes, 19))),
+        102 => Ok(None),
+        number => Err(number),
     }
+}
+
+pub(crate) fn read_head<F: Read>(cases: &mut F) -> Option<Head> {
+    let bytes = head::<F, 33>(cases)?;
+    Some(Head {
+        question: question_in(&bytes),
+        due: due_in(&bytes),
+        label: u16::from(bytes[2]),
+        grammar: u16_at(&bytes, 27),
+        history: u16_at(&bytes, 29),
+        buffer: u16_at(&bytes, 31),
+    })
 }

@@ -1,31 +1,20 @@
 // The counts of all rules at a position, which add up to the total where that is exact.
-use reading_counts::ReadingCount;
+use test_enumerator::{Grammar, History};
+use test_packed::Files;
 
-// Whether the counts of all rules at the position add up to the total; none of them is then larger than what is left of it.
-fn adds_up(grammar: &[u8], history: &[u8], position: usize, total: u64) -> bool {
-    let rules = test_enumerator::rule_numbers(grammar) / 6;
-    let mut left = total;
-    let mut rule: usize = 0;
-    while rule < rules {
-        let given = reading_counts::reading_count_at(grammar, history, position, rule);
-        let ReadingCount::Exact(count) = given else {
-            return false;
-        };
-        if left < count {
-            return false;
-        }
-        left -= count;
-        rule += 1;
-    }
-    left == 0
+// What is left of the total, less the count of a rule at the position; None where the count is larger, or none is given.
+fn less_count(files: Files, position: usize, rule: usize, left: u64) -> Option<u64> {
+    let given = reading_counts::reading_count_at(files.grammar, files.history, position, rule);
+    let count = given.ok()??;
+    left.checked_sub(count)
 }
 
-// Whether they do at every position.
-pub(crate) fn each_adds_up(grammar: &[u8], history: &[u8], total: u64) -> bool {
-    let n = test_enumerator::token_count(history);
-    let mut position: usize = 0;
-    while position <= n && adds_up(grammar, history, position, total) {
-        position += 1;
-    }
-    n < position
+// Whether the counts of all rules add up to the total at every position.
+pub(crate) fn each_adds_up(files: Files, total: u64) -> bool {
+    let grammar = Grammar::read(files.grammar);
+    let history = History::read(files.history);
+    let rules = grammar.rules().len();
+    (0..=history.tokens().len()).all(|position| {
+        (0..rules).try_fold(total, |left, rule| less_count(files, position, rule, left)) == Some(0)
+    })
 }

@@ -1,110 +1,174 @@
 // Reads the two files, of which it takes for granted that they pass the checks.
-ghost use Rattle.std.specs.Prelude.{◌≡◌, ◌+◌, ◌*◌, ◌≤◌, ◌<◌, length};
+ghost use Rattle.std.specs.Prelude.{◌<◌, ◌≤◌, length};
 
-use crate::list::{at, byte, put_number};
+// The bytes of a file that are still to be read; zeros stand behind them.
+#[derive(Drop)]
+struct Unread<'a> {
+    bytes: &'a [u8],
+}
 
-// The number that starts at p.
-fn number(file: &[u8], p: usize) -> usize
-    requires { p < 5000 }
-    ensures { result ≤ 5000000 }
-{
-    let low = at(file, p);
-    if low < 128 {
-        return low;
+impl Unread<'_> {
+    fn byte(&mut self) -> u8 {
+        match self.bytes.split_first() {
+            None => 0,
+            Some((first, rest)) => {
+                self.bytes = rest;
+                *first
+            }
+        }
     }
-    let middle = at(file, p + 1);
-    if middle < 128 {
-        return low - 128 + middle * 128;
+
+    // A number, in groups of seven bits, the lowest first.
+    fn number(&mut self) -> u32 {
+        let low = u32::from(self.byte());
+        if low < 128 {
+            return low;
+        }
+        let middle = u32::from(self.byte());
+        if middle < 128 {
+            return low - 128 + middle * 128;
+        }
+        low - 128 + (middle - 128) * 128 + u32::from(self.byte()) * 16384
     }
-    low - 128 + (middle - 128) * 128 + at(file, p + 2) * 16384
-}
 
-// The place behind the number that starts at p.
-fn behind(file: &[u8], p: usize) -> usize
-    requires { p < 5000 }
-    ensures { result ≤ p + 3 }
-{
-    if at(file, p) < 128 {
-        return p + 1;
+    fn rule(&mut self) -> Rule {
+        let form = self.number();
+        let left = self.number();
+        let right = self.right_side(form);
+        Rule { left, right }
     }
-    if at(file, p + 1) < 128 { p + 2 } else { p + 3 }
-}
 
-fn at_most(x: usize, limit: usize) -> usize
-    ensures { result ≤ limit }
-{
-    if x < limit { x } else { limit }
-}
-
-// Where a grammar's rule count stands: behind the stage count; or, in a file that begins with a 0, behind stage count and start.
-fn count_place(file: &[u8]) -> usize
-    ensures { result ≤ 3 }
-{
-    if at(file, 0) == 0 { 3 } else { 1 }
-}
-
-// The nonterminal that a grammar starts from: the one behind a leading 0 and the stage count, else 0.
-fn start_of(file: &[u8]) -> u8 {
-    if at(file, 0) == 0 { byte(file, 2) } else { 0 }
-}
-
-// How many numbers the start and the rules of a grammar are here: one, and six for each rule.
-pub fn rule_numbers(file: &[u8]) -> usize
-    ensures { result ≤ 769 }
-{
-    1 + at_most(number(file, count_place(file)), 128) * 6
-}
-
-pub fn token_count(file: &[u8]) -> usize
-    ensures { result ≤ 1024 }
-{
-    at_most(number(file, 0), 1024)
-}
-
-// Copies the numbers of a rule from p on, 2 + 2f of them for form f. Answers the place behind it.
-fn copy_rule(file: &[u8], p: usize, rules: &mut [u32], to: usize) -> usize
-    requires { (p < 4000) × (to < 5000) }
-    ensures { (result ≤ p + 18) × (length rules.new ≡ length rules.old) }
-{
-    let size = at_most(2 + 2 * at(file, p), 6);
-    let mut q = p;
-    let mut i: usize = 0;
-    while i < size {
-        put_number(rules, to + i, number(file, q) as u32);
-        q = behind(file, q);
-        i += 1;
+    // A form that no rule has counts as one with as many numbers as a step.
+    fn right_side(&mut self, form: u32) -> Right {
+        match form {
+            0 => Right::End,
+            1 => Right::Mark {
+                mark: self.number(),
+                behind: self.number(),
+            },
+            2 => self.step(),
+            _ => {
+                self.step();
+                Right::Unknown
+            }
+        }
     }
-    q
+
+    fn step(&mut self) -> Right {
+        Right::Step {
+            open: self.number(),
+            inside: self.number(),
+            close: self.number(),
+            behind: self.number(),
+        }
+    }
 }
 
-// The start and the rules of a grammar, six numbers for each rule, zeros where it has fewer.
-pub fn rules_of(file: &[u8]) -> [u32; 769]
-    ensures { length result ≡ 769 }
-{
-    let mut rules = [0u32; 769];
-    rules[0] = start_of(file) as u32;
-    let size = rule_numbers(file);
-    let mut p = behind(file, count_place(file));
-    let mut to: usize = 1;
-    while to < size {
-        p = copy_rule(file, p, &mut rules, to);
-        to += 6;
-    }
-    rules
+// What a rule makes: nothing, a mark, or an open with its close. The other numbers are stages.
+#[derive(Clone, Copy)]
+pub enum Right {
+    End,
+    Mark {
+        mark: u32,
+        behind: u32,
+    },
+    Step {
+        open: u32,
+        inside: u32,
+        close: u32,
+        behind: u32,
+    },
+    Unknown,
 }
 
-// The tokens of a history, a number each.
-pub fn tokens_of(file: &[u8]) -> [u32; 1024]
-    ensures { length result ≡ 1024 }
-{
-    let mut tokens = [0u32; 1024];
-    let n = token_count(file);
-    let mut p = behind(file, 0);
-    let mut k: usize = 0;
-    while k < n {
-        tokens[k] = number(file, p) as u32;
-        p = behind(file, p);
-        k += 1;
+// A rule, with the stage on its left.
+#[derive(Clone, Copy)]
+pub struct Rule {
+    pub left: u32,
+    pub right: Right,
+}
+
+// The start and the rules of a grammar.
+#[derive(Clone, Copy)]
+pub struct Grammar {
+    pub start: u32,
+    list: [Rule; 128],
+    count: usize,
+    ghost fits: { count ≤ 128 },
+}
+
+impl Grammar {
+    // The start is stage 0 in a file that does not begin with a 0; there the rule count stands behind the stage count.
+    pub fn read(file: &[u8]) -> Grammar
+        ensures { result.start < 256 }
+    {
+        let mut unread = Unread { bytes: file };
+        let mut start = 0;
+        if unread.byte() == 0 {
+            unread.byte();
+            start = u32::from(unread.byte());
+        }
+        let count = (unread.number() as usize).min(128);
+        let mut list = [Rule {
+            left: 0,
+            right: Right::End,
+        }; 128];
+        for rule in &mut list[..count] {
+            *rule = unread.rule();
+        }
+        Grammar { start, list, count }
     }
-    tokens
+
+    pub fn rules(&self) -> &[Rule]
+        ensures { length result.now ≤ 128 }
+    {
+        &self.list[..self.count]
+    }
+}
+
+// A token with its name.
+#[derive(Clone, Copy)]
+pub enum Token {
+    Mark(u32),
+    Open(u32),
+    Close(u32),
+    Unknown,
+}
+
+fn token_of(number: u32) -> Token {
+    let name = number / 4;
+    match number % 4 {
+        0 => Token::Mark(name),
+        1 => Token::Open(name),
+        2 => Token::Close(name),
+        _ => Token::Unknown,
+    }
+}
+
+// The tokens of a history.
+#[derive(Clone, Copy)]
+pub struct History {
+    list: [Token; 1024],
+    count: usize,
+    ghost fits: { count ≤ 1024 },
+}
+
+impl History {
+    pub fn read(file: &[u8]) -> History
+        ensures { result.count ≤ 1024 }
+    {
+        let mut unread = Unread { bytes: file };
+        let count = (unread.number() as usize).min(1024);
+        let mut list = [Token::Unknown; 1024];
+        for token in &mut list[..count] {
+            *token = token_of(unread.number());
+        }
+        History { list, count }
+    }
+
+    pub fn tokens(&self) -> &[Token]
+        ensures { length result.now ≤ 1024 }
+    {
+        &self.list[..self.count]
+    }
 }

@@ -6,58 +6,51 @@ use std::io::Read;
 use std::rt::Files;
 use std::{fs, io};
 use streams::Sink;
-use test_packed::{part, two};
+use test_packed::{for_each_case, head, part, u16_at};
 
-// Writes the listing in pieces of 65,536 bytes: in one piece, since no case has more.
-fn show_whole(rt: &impl Print, grammar: &[u8], history: &[u8]) -> io::Result<()> {
-    let mut text = [0u8; 65536];
-    let mut sink = Sink::new(io::writer(rt));
-    listing_output::write_listing(grammar, history, &mut text, &mut sink);
-    sink.outcome()
+// The sizes of a case's files.
+#[derive(Clone, Copy)]
+struct Head {
+    grammar: u16,
+    history: u16,
 }
 
-// Writes the listing in pieces of 4,096 bytes.
-fn show_pieces(rt: &impl Print, grammar: &[u8], history: &[u8]) -> io::Result<()> {
-    let mut text = [0u8; 4096];
-    let mut sink = Sink::new(io::writer(rt));
-    listing_output::write_listing(grammar, history, &mut text, &mut sink);
-    sink.outcome()
+fn read_head<F: Read>(cases: &mut F) -> Option<Head> {
+    let bytes = head::<F, 4>(cases)?;
+    Some(Head {
+        grammar: u16_at(&bytes, 0),
+        history: u16_at(&bytes, 2),
+    })
 }
 
-// The next case; false where the file has no further one.
-fn one<F: Read>(rt: &impl Print, cases: &mut F, whole: bool) -> io::Result<bool> {
-    let mut head = [0u8; 4];
-    let got = streams::read_full(cases, &mut head);
-    if got < 4 {
-        return Ok(false);
-    }
+// Writes the listing of the next case, in pieces as large as the text.
+fn run_case<F: Read>(
+    rt: &impl Print,
+    cases: &mut F,
+    head: Head,
+    text: &mut [u8],
+) -> io::Result<()> {
     let mut grammar = [0u8; 4096];
     let mut history = [0u8; 4096];
-    let g = part(cases, two(head[0], head[1]), &mut grammar);
-    let h = part(cases, two(head[2], head[3]), &mut history);
-    if whole {
-        show_whole(rt, &grammar[..g], &history[..h])?;
-    } else {
-        show_pieces(rt, &grammar[..g], &history[..h])?;
-    }
-    Ok(true)
+    let grammar = part(cases, head.grammar, &mut grammar);
+    let history = part(cases, head.history, &mut history);
+    let mut sink = Sink::new(io::writer(rt));
+    listing_output::write_listing(grammar, history, text, &mut sink);
+    sink.outcome()
 }
 
-fn all<F: Read>(rt: &impl Print, cases: &mut F, whole: bool) -> io::Result<()> {
-    for _ in 0..10000 {
-        if !one(rt, cases, whole)? {
-            return Ok(());
-        }
-    }
+fn show_file(rt: &(impl Files + Print), name: &str, text: &mut [u8]) -> io::Result<()> {
+    let mut cases = fs::open(rt, name)?;
+    for_each_case(
+        &mut cases,
+        read_head,
+        |cases, head, _| run_case(rt, cases, head, text),
+    )?;
     Ok(())
 }
 
-fn show_file(rt: &(impl Files + Print), name: &str, whole: bool) -> io::Result<()> {
-    let mut cases = fs::open(rt, name)?;
-    all(rt, &mut cases, whole)
-}
-
+// No listing of cases.bin has more than 65,536 bytes.
 fn main(rt: HostRuntime) -> io::Result<()> {
-    show_file(&rt, "cases.bin", true)?;
-    show_file(&rt, "random.bin", false)
+    show_file(&rt, "cases.bin", &mut [0u8; 65536])?;
+    show_file(&rt, "random.bin", &mut [0u8; 4096])
 }

@@ -3,70 +3,75 @@
 // bytes each the first byte of the part that is due, how many there are, and the history's length; low bytes first), then label and history.
 #![tactic(auto)]
 
+use refusal::Refusal;
 use std::io::Read;
 use std::{fs, io};
-use step_bytes::{StepCheck, StepPlace};
-use test_packed::{four, part, two};
+use step_bytes::Part;
+use test_packed::{for_each_case, head, part, u16_at, u64_at};
 
-// A number of eight bytes, from its halves.
-fn eight(low: u32, high: u32) -> usize {
-    low as usize + high as usize * 4294967296
-}
-
-// The answer that is due: the number of the refusal, 0 where there is a step; the part's first byte, and how many there are.
+// The answer that is due: the number of the refusal, if there is no step; and the part, which has no bytes then.
 #[derive(Clone, Copy)]
 struct Due {
-    number: u8,
-    start: usize,
-    length: usize,
+    refusal: Option<u8>,
+    part: Part,
 }
 
-// Whether the bytes of the one are the first of the other.
-fn begins(part: &[u8], whole: &[u8]) -> bool {
-    if whole.len() < part.len() {
-        return false;
-    }
-    let mut i: usize = 0;
-    while i < part.len() {
-        if part[i] != whole[i] {
-            return false;
+impl Due {
+    fn place(self) -> Result<Part, u8> {
+        match self.refusal {
+            None => Ok(self.part),
+            Some(number) => Err(number),
         }
-        i += 1;
     }
-    true
+}
+
+// The head of a case: the position, what is due there, and the sizes of label and history.
+#[derive(Clone, Copy)]
+struct Head {
+    position: usize,
+    due: Due,
+    label: u16,
+    history: u16,
+}
+
+fn read_head<F: Read>(cases: &mut F) -> Option<Head> {
+    let bytes = head::<F, 16>(cases)?;
+    let number = bytes[8];
+    let part = Part {
+        start: usize::from(u16_at(&bytes, 10)),
+        length: usize::from(u16_at(&bytes, 12)),
+    };
+    Some(Head {
+        position: u64_at(&bytes, 0) as usize,
+        due: Due {
+            refusal: (number != 0).then_some(number),
+            part,
+        },
+        label: u16::from(bytes[9]),
+        history: u16_at(&bytes, 14),
+    })
+}
+
+// The number of the refusal, if step_check refuses.
+fn refusal_of(given: Result<(), Refusal>) -> Option<u8> {
+    given.err().map(u8::from)
+}
+
+// The part that locate finds, or the number of its refusal.
+fn place_of(given: Result<Part, Refusal>) -> Result<Part, u8> {
+    given.map_err(u8::from)
 }
 
 // Whether step_bytes hands back as many bytes as are due, and those.
-fn same_bytes(history: &[u8], position: usize, due: Due) -> bool {
+fn same_bytes(history: &[u8], position: usize, part: Part) -> bool {
     let given = step_bytes::step_bytes(history, position);
-    let start = due.start;
-    if given.len() != due.length || history.len() < start {
-        return false;
-    }
-    begins(given, &history[start..])
+    given.len() == part.length
+        && history
+            .get(part.start..)
+            .is_some_and(|rest| rest.starts_with(given))
 }
 
-// Whether step_check says that there is a step, or the number that is due.
-fn same_number(history: &[u8], position: usize, due: Due) -> bool {
-    let given = step_bytes::step_check(history, position);
-    match given {
-        StepCheck::Found => due.number == 0,
-        StepCheck::Refused(number) => number != 0 && number == due.number,
-    }
-}
-
-// Whether locate, which both go by, gives the part's place or the number.
-fn same_place(history: &[u8], position: usize, due: Due) -> bool {
-    let given = step_bytes::locate(history, position);
-    match given {
-        StepPlace::Part(start, length) => {
-            due.number == 0 && start == due.start && length == due.length
-        }
-        StepPlace::Refused(number) => number != 0 && number == due.number,
-    }
-}
-
-// Writes a line where the two differ.
+// Writes a line where the two differ; each program names its own numbers there, so that one function for all would take six arguments.
 fn tell(rt: &impl Print, same: bool, what: &str, label: &[u8], position: usize) -> io::Result<()> {
     if same {
         return Ok(());
@@ -75,55 +80,26 @@ fn tell(rt: &impl Print, same: bool, what: &str, label: &[u8], position: usize) 
     println!(rt; ", position {position}: {what} DIFFERS")
 }
 
-fn compare(
-    rt: &impl Print,
-    label: &[u8],
-    history: &[u8],
-    position: usize,
-    due: Due,
-) -> io::Result<()> {
-    let bytes = same_bytes(history, position, due);
-    tell(rt, bytes, "step_bytes", label, position)?;
-    let number = same_number(history, position, due);
-    tell(rt, number, "step_check", label, position)?;
-    let place = same_place(history, position, due);
-    tell(rt, place, "locate", label, position)
-}
-
-// The next case; false where the file has no further one.
-fn one<F: Read>(rt: &impl Print, cases: &mut F) -> io::Result<bool> {
-    let mut head = [0u8; 16];
-    let got = streams::read_full(cases, &mut head);
-    if got < 16 {
-        return Ok(false);
-    }
-    let low = four(two(head[0], head[1]), two(head[2], head[3]));
-    let high = four(two(head[4], head[5]), two(head[6], head[7]));
-    let due = Due {
-        number: head[8],
-        start: two(head[10], head[11]) as usize,
-        length: two(head[12], head[13]) as usize,
-    };
+fn run_case<F: Read>(rt: &impl Print, cases: &mut F, head: Head) -> io::Result<()> {
+    let Head { position, due, .. } = head;
     let mut label = [0u8; 4096];
     let mut history = [0u8; 4096];
-    let l = part(cases, two(head[9], 0), &mut label);
-    let h = part(cases, two(head[14], head[15]), &mut history);
-    compare(rt, &label[..l], &history[..h], eight(low, high), due)?;
-    Ok(true)
-}
-
-// Compares all cases, and answers how many.
-fn all<F: Read>(rt: &impl Print, cases: &mut F) -> io::Result<u32> {
-    for count in 0..10000 {
-        if !one(rt, cases)? {
-            return Ok(count);
-        }
-    }
-    Ok(10000)
+    let label = part(cases, head.label, &mut label);
+    let history = part(cases, head.history, &mut history);
+    let bytes = same_bytes(history, position, due.part);
+    tell(rt, bytes, "step_bytes", label, position)?;
+    let refusal = refusal_of(step_bytes::step_check(history, position));
+    tell(rt, refusal == due.refusal, "step_check", label, position)?;
+    let place = place_of(step_bytes::locate(history, position));
+    tell(rt, place == due.place(), "locate", label, position)
 }
 
 fn main(rt: HostRuntime) -> io::Result<()> {
     let mut cases = fs::open(&rt, "cases.bin")?;
-    let count = all(&rt, &mut cases)?;
+    let count = for_each_case(
+        &mut cases,
+        read_head,
+        |cases, head, _| run_case(&rt, cases, head),
+    )?;
     println!(rt; "{count} cases compared")
 }

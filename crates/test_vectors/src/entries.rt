@@ -1,76 +1,74 @@
 // All readings of a history as the enumerator finds them, one behind the other.
-ghost use Rattle.std.specs.Prelude.{◌≤◌, length};
+ghost use Rattle.std.specs.Prelude.{◌<◌, ◌≤◌, length};
+ghost use Rattle.std.specs.Slice.Iter.{chunks_exact_size};
 
-use crate::compare::copy_to;
-use test_enumerator::Found;
+use std::slice::ChunksExact;
+use test_enumerator::{Found, Search};
 
-// How many bytes a reading takes, how many all that are listed take, whether these are all, and whether the enumerator gave up.
-#[derive(Clone, Copy)]
-pub struct Entries {
-    pub size: u16,
-    pub end: u16,
-    pub whole: bool,
-    pub lost: bool,
+// The readings that are listed, the size of each, and what the enumerator came to behind the last of them.
+#[derive(Drop)]
+pub struct Entries<'a> {
+    pub bytes: &'a [u8],
+    pub size: usize,
+    pub behind: Found,
+    ghost sized: { (0 < size) × (size ≤ 1025) },
 }
 
-fn is_reading(found: Found) -> bool {
-    match found {
-        Found::Reading => true,
-        Found::NoReading => false,
-        Found::GaveUp => false,
+impl<'a> Entries<'a> {
+    pub(crate) fn iter(&self) -> ChunksExact<'a, u8>
+        ensures { 0 < chunks_exact_size result }
+    {
+        self.bytes.chunks_exact(self.size)
     }
-}
 
-fn is_lost(found: Found) -> bool {
-    match found {
-        Found::Reading => false,
-        Found::NoReading => false,
-        Found::GaveUp => true,
+    pub(crate) fn count(&self) -> usize {
+        self.bytes.len() / self.size
+    }
+
+    // Whether these are all readings.
+    pub(crate) fn are_all(&self) -> bool {
+        self.behind == Found::NoReading
+    }
+
+    // Whether some entry has the rule at the position.
+    pub(crate) fn stands(&self, position: usize, rule: usize) -> bool {
+        self.iter().any(|entry| entry.get(position).is_some_and(|x| usize::from(*x) == rule))
     }
 }
 
 // Whether the first i tokens alone have a reading.
-pub(crate) fn readable(rules: &[u32], tokens: &[u32], i: usize) -> bool {
-    if tokens.len() < i {
+pub(crate) fn readable(search: &Search, i: usize) -> bool {
+    let Some(tokens) = search.tokens.get(..i) else {
         return false;
-    }
-    let mut path = [0u8; 1025];
-    is_reading(test_enumerator::first(rules, &tokens[..i], &mut path))
+    };
+    let prefix = Search {
+        start: search.start,
+        rules: search.rules,
+        tokens,
+    };
+    prefix.first(&mut [0u8; 1025]) == Found::Reading
 }
 
-// Writes the readings in their order, as many as `limit` bytes hold; the path is where they are made.
-fn enumerate_by(
-    rules: &[u32],
-    tokens: &[u32],
-    limit: u16,
-    list: &mut [u8],
-    path: &mut [u8],
-) -> Entries
-    requires { length tokens.now ≤ 1024 }
+// Writes the readings in their order, as many as the list holds.
+pub(crate) fn enumerate<'a>(search: &Search, list: &'a mut [u8]) -> Entries<'a>
+    requires { length search.now.tokens.now ≤ 1024 }
 {
-    let size = tokens.len() + 1;
-    let room = limit as usize;
-    let mut found = test_enumerator::first(rules, tokens, path);
+    let size = search.tokens.len() + 1;
+    let mut space = [0u8; 1025];
+    let path = &mut space[..size];
+    let mut found = search.first(path);
     let mut end: usize = 0;
-    while end + size <= room && is_reading(found) {
-        copy_to(path, list, end, size);
+    for entry in list.chunks_exact_mut(size) {
+        if found != Found::Reading {
+            break;
+        }
+        entry.copy_from_slice(path);
         end += size;
-        found = test_enumerator::next(rules, tokens, path);
+        found = search.next(path);
     }
-    let more = is_reading(found);
-    let lost = is_lost(found);
     Entries {
-        size: size as u16,
-        end: end as u16,
-        whole: !more && !lost,
-        lost,
+        bytes: &list[..end],
+        size,
+        behind: found,
     }
-}
-
-// Writes the readings in their order, as many as `limit` bytes hold.
-pub(crate) fn enumerate(rules: &[u32], tokens: &[u32], limit: u16, list: &mut [u8]) -> Entries
-    requires { length tokens.now ≤ 1024 }
-{
-    let mut path = [0u8; 1025];
-    enumerate_by(rules, tokens, limit, list, &mut path)
 }

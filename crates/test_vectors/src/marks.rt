@@ -1,30 +1,22 @@
 // Stop marks, compared with what the enumerator finds of each prefix alone.
-use crate::compare::{FILLER, untouched};
 use crate::entries::readable;
-use service::Outcome;
+use crate::lent::{BYTE, untouched};
+use crate::services::write_marks;
+use test_enumerator::Search;
+use test_packed::Files;
 
-// Whether the mark at position i is 1 where the first i tokens have a reading, and else 0.
-fn right_mark(rules: &[u32], tokens: &[u32], marks: &[u8], i: usize) -> bool {
-    let due = if readable(rules, tokens, i) { 1 } else { 0 };
-    test_enumerator::at(marks, i) == due
-}
-
-// Whether every mark is right, and the bytes behind them are as they were lent.
-pub(crate) fn same_marks(grammar: &[u8], history: &[u8], rules: &[u32], tokens: &[u32]) -> bool {
-    let mut space = [FILLER; 1028];
-    let marks: &mut [u8] = &mut space;
-    let answer = stop_marks::stop_marks(grammar, history, marks);
-    let Outcome::Done = answer else {
+// Whether each mark is 1 where the tokens before its position have a reading, and else 0, and the bytes behind them are as they were lent.
+pub(crate) fn same_marks(files: Files, search: &Search) -> bool {
+    let mut space = [BYTE; 1028];
+    if write_marks(files, &mut space).is_err() {
+        return false;
+    }
+    let Some((marks, rest)) = space.split_at_checked(search.tokens.len() + 1) else {
         return false;
     };
-    right_marks(rules, tokens, marks)
-}
-
-fn right_marks(rules: &[u32], tokens: &[u32], marks: &[u8]) -> bool {
-    let n = tokens.len();
-    let mut i: usize = 0;
-    while i <= n && right_mark(rules, tokens, marks, i) {
-        i += 1;
-    }
-    n < i && untouched(marks, i)
+    untouched(rest, BYTE)
+        && marks
+            .iter()
+            .enumerate()
+            .all(|(i, mark)| *mark == u8::from(readable(search, i)))
 }

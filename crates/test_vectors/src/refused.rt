@@ -1,90 +1,57 @@
 // Refusals: every service answers the number that is due, and leaves what it was lent.
 ghost use Rattle.std.specs.Prelude.{◌≤◌};
 
-use service::Outcome;
-use sets::CountAnswer;
+use crate::lent::{BYTE, WORD, untouched};
+use crate::services::{
+    FIRST, NEXT, SHORT_BUFFER, call, count_choices, run_calls, write_marks, write_sets,
+};
+use test_packed::Files;
 
-fn call_refused(grammar: &[u8], history: &[u8], kind: u8, buffer: &mut [u8], due: u8) -> bool {
-    calls::call(grammar, history, kind, buffer) == due && crate::compare::untouched(buffer, 0)
+fn call_refused(files: Files, kind: u8, buffer: &mut [u8], due: u8) -> bool {
+    call(files, kind, buffer) == due && untouched(buffer, BYTE)
 }
 
-fn sets_refused(grammar: &[u8], history: &[u8], buffer: &mut [u32], due: u8) -> bool {
-    let answer = sets::sets(grammar, history, buffer);
-    let CountAnswer::Refused(number) = answer else {
-        return false;
-    };
-    number == due && crate::kept_rules::untouched(buffer, 0)
+fn sets_refused(files: Files, words: &mut [u32], due: u8) -> bool {
+    write_sets(files, words) == Err(due) && untouched(words, WORD)
 }
 
-fn count_refused(grammar: &[u8], history: &[u8], due: u8) -> bool {
-    let answer = sets::choice_count(grammar, history);
-    let CountAnswer::Refused(number) = answer else {
-        return false;
-    };
-    number == due
-}
-
-fn marks_refused(grammar: &[u8], history: &[u8], buffer: &mut [u8], due: u8) -> bool {
-    let answer = stop_marks::stop_marks(grammar, history, buffer);
-    let Outcome::Refused(number) = answer else {
-        return false;
-    };
-    number == due && crate::compare::untouched(buffer, 0)
+fn marks_refused(files: Files, marks: &mut [u8], due: u8) -> bool {
+    write_marks(files, marks) == Err(due) && untouched(marks, BYTE)
 }
 
 // Whether each service that is lent a buffer of bytes or words answers the number.
-fn buffers_refused(
-    grammar: &[u8],
-    history: &[u8],
-    buffer: &mut [u8],
-    words: &mut [u32],
-    due: u8,
-) -> bool {
-    if !call_refused(grammar, history, 0, buffer, due) {
-        return false;
-    }
-    if !call_refused(grammar, history, 1, buffer, due) {
-        return false;
-    }
-    if !sets_refused(grammar, history, words, due) {
-        return false;
-    }
-    marks_refused(grammar, history, buffer, due)
+fn buffers_refused(files: Files, buffer: &mut [u8], words: &mut [u32], due: u8) -> bool {
+    call_refused(files, FIRST, buffer, due)
+        && call_refused(files, NEXT, buffer, due)
+        && sets_refused(files, words, due)
+        && marks_refused(files, buffer, due)
 }
 
 // Whether every service answers the number of the file's fault.
-pub(crate) fn all_refused(grammar: &[u8], history: &[u8], due: u8) -> bool {
-    let mut bytes = [crate::compare::FILLER; 1028];
-    let mut words = [crate::kept_rules::FILLER; 4104];
-    buffers_refused(grammar, history, &mut bytes, &mut words, due)
-        && count_refused(grammar, history, due)
+pub(crate) fn all_refused(files: Files, due: u8) -> bool {
+    let mut bytes = [BYTE; 1028];
+    let mut words = [WORD; 4104];
+    buffers_refused(files, &mut bytes, &mut words, due) && count_choices(files) == Err(due)
 }
 
-// Whether each service refuses a buffer that is one element too short, by 15.
-pub(crate) fn short_refused(grammar: &[u8], history: &[u8], n: usize) -> bool
+// Whether each service refuses a buffer that is one element too short.
+pub(crate) fn short_refused(files: Files, n: usize) -> bool
     requires { n ≤ 1024 }
 {
-    let mut bytes = [crate::compare::FILLER; 1028];
-    let mut words = [crate::kept_rules::FILLER; 4104];
+    let mut bytes = [BYTE; 1028];
+    let mut words = [WORD; 4104];
     buffers_refused(
-        grammar,
-        history,
+        files,
         &mut bytes[..n],
         &mut words[..4 * n + 3],
-        15,
+        SHORT_BUFFER,
     )
 }
 
-// Whether a list of calls is refused by 15 where one answer too few can be written.
-pub(crate) fn calls_refused(grammar: &[u8], history: &[u8]) -> bool {
-    let mut answers = [crate::compare::FILLER; 2];
-    let mut buffer = [crate::compare::FILLER; 1028];
-    let answer = calls::run_calls(grammar, history, b"\x00\x01\x01", &mut answers, &mut buffer);
-    let Outcome::Refused(number) = answer else {
-        return false;
-    };
-    if !crate::compare::untouched(&answers, 0) {
-        return false;
-    }
-    number == 15 && crate::compare::untouched(&buffer, 0)
+// Whether a list of calls is refused where one answer too few can be written.
+pub(crate) fn calls_refused(files: Files) -> bool {
+    let mut answers = [BYTE; 2];
+    let mut buffer = [BYTE; 1028];
+    let made = run_calls(files, &[FIRST, NEXT, NEXT], &mut answers, &mut buffer);
+    made == Err(SHORT_BUFFER) && untouched(&answers, BYTE) && untouched(&buffer, BYTE)
 }

@@ -3,75 +3,77 @@
 // buffer; then label, elements (four bytes each, low byte first), the buffer before the call, and after it.
 #![tactic(auto)]
 
-ghost use Rattle.std.specs.Prelude.{◌≡◌, ◌+◌, ◌*◌, ◌≤◌, length};
+ghost use Rattle.std.specs.Prelude.{◌≤◌};
 
+use refusal::Refusal;
 use std::io::Read;
 use std::{fs, io};
-use test_packed::{four, part, two};
-use writers::WriteAnswer;
+use test_packed::{for_each_case, head, part, u16_at};
 
 // As many elements as a case may have.
 const MOST: usize = 5000;
 
-// The answer that is due: the number of the refusal, 0 where the file is written; and the file's length.
+// The writer that a case is about.
 #[derive(Clone, Copy)]
-struct Due {
-    number: u8,
-    length: usize,
+enum Writer {
+    Grammar,
+    History,
 }
 
-// How many elements the bytes hold.
-fn count_of(bytes: &[u8]) -> usize
-    ensures { (result ≤ 5000) × (result * 4 ≤ length bytes.now) }
+// The head of a case: its writer, the file's length or the number of the refusal that is due, and the sizes of its parts.
+#[derive(Clone, Copy)]
+struct Head {
+    writer: Writer,
+    due: Result<usize, u8>,
+    label: u16,
+    packed: u16,
+    buffer: u16,
+}
+
+fn read_head<F: Read>(cases: &mut F) -> Option<Head> {
+    let bytes = head::<F, 9>(cases)?;
+    let writer = match bytes[0] {
+        0 => Writer::Grammar,
+        _ => Writer::History,
+    };
+    let due = match bytes[1] {
+        0 => Ok(usize::from(u16_at(&bytes, 3))),
+        number => Err(number),
+    };
+    Some(Head {
+        writer,
+        due,
+        label: u16::from(bytes[2]),
+        packed: u16_at(&bytes, 5),
+        buffer: u16_at(&bytes, 7),
+    })
+}
+
+// Writes the elements that the bytes hold to the start of the list, as many as it holds, and gives how many these are.
+fn unpack(packed: &[u8], elements: &mut [u32; MOST]) -> usize
+    ensures { result ≤ 5000 }
 {
-    let count = bytes.len() / 4;
-    if count < MOST { count } else { MOST }
-}
-
-// The element whose bytes begin at a place.
-fn element_at(bytes: &[u8], at: usize) -> u32
-    requires { at + 4 ≤ length bytes.now }
-{
-    let low = two(bytes[at], bytes[at + 1]);
-    let high = two(bytes[at + 2], bytes[at + 3]);
-    four(low, high)
-}
-
-// The elements that the bytes hold; 0 behind the last one.
-fn elements_of(bytes: &[u8]) -> [u32; 5000]
-    ensures { 5000 ≡ length result }
-{
-    let mut elements = [0u32; 5000];
-    let count = count_of(bytes);
-    let mut i: usize = 0;
-    while i < count {
-        elements[i] = element_at(bytes, i * 4);
-        i += 1;
+    let (packed, _) = packed.as_chunks::<4>();
+    for (element, bytes) in elements.iter_mut().zip(packed) {
+        *element = u32::from_le_bytes(*bytes);
     }
-    elements
+    packed.len().min(MOST)
 }
 
-// Calls the writer that the case is about.
-fn write(which: u8, elements: &[u32], buffer: &mut [u8]) -> WriteAnswer {
-    if which == 0 {
-        return writers::write_grammar(elements, buffer);
+// Calls the writer with the elements that the bytes hold.
+fn write(writer: Writer, packed: &[u8], buffer: &mut [u8]) -> Result<usize, Refusal> {
+    let mut elements = [0u32; MOST];
+    let count = unpack(packed, &mut elements);
+    let elements = &elements[..count];
+    match writer {
+        Writer::Grammar => writers::write_grammar(elements, buffer),
+        Writer::History => writers::write_history(elements, buffer),
     }
-    writers::write_history(elements, buffer)
 }
 
-// The same, from the bytes that hold the elements.
-fn write_packed(which: u8, packed: &[u8], buffer: &mut [u8]) -> WriteAnswer {
-    let elements = elements_of(packed);
-    let n = count_of(packed);
-    write(which, &elements[..n], buffer)
-}
-
-// Whether the length or the number is the one that is due.
-fn same_answer(given: WriteAnswer, due: Due) -> bool {
-    match given {
-        WriteAnswer::Written(length) => due.number == 0 && length == due.length,
-        WriteAnswer::Refused(number) => number != 0 && number == due.number,
-    }
+// The length of the file that is written, or the number of the refusal.
+fn outcome_of(given: Result<usize, Refusal>) -> Result<usize, u8> {
+    given.map_err(u8::from)
 }
 
 // Writes a line where the two differ.
@@ -83,66 +85,28 @@ fn tell(rt: &impl Print, same: bool, what: &str, label: &[u8], size: usize) -> i
     println!(rt; ", buffer of {size}: {what} DIFFERS")
 }
 
-// The writer's answer, and every byte of the buffer.
-fn compare(
-    rt: &impl Print,
-    which: u8,
-    label: &[u8],
-    packed: &[u8],
-    buffer: &mut [u8],
-    after: &[u8],
-    due: Due,
-) -> io::Result<()> {
-    let given = write_packed(which, packed, buffer);
-    let size = after.len();
-    let same = *buffer == *after;
-    tell(rt, same_answer(given, due), "the answer", label, size)?;
-    tell(rt, same, "the buffer", label, size)
-}
-
-// The next case; false where the file has no further one.
-fn one<F: Read>(rt: &impl Print, cases: &mut F) -> io::Result<bool> {
-    let mut head = [0u8; 9];
-    let got = streams::read_full(cases, &mut head);
-    if got < 9 {
-        return Ok(false);
-    }
-    let due = Due {
-        number: head[1],
-        length: two(head[3], head[4]) as usize,
-    };
+// Compares the writer's answer, and every byte of the buffer.
+fn run_case<F: Read>(rt: &impl Print, cases: &mut F, head: Head) -> io::Result<()> {
     let mut label = [0u8; 4096];
     let mut packed = [0u8; 65536];
     let mut buffer = [0u8; 4096];
     let mut after = [0u8; 4096];
-    let l = part(cases, two(head[2], 0), &mut label);
-    let e = part(cases, two(head[5], head[6]), &mut packed);
-    let b = part(cases, two(head[7], head[8]), &mut buffer);
-    let a = part(cases, two(head[7], head[8]), &mut after);
-    compare(
-        rt,
-        head[0],
-        &label[..l],
-        &packed[..e],
-        &mut buffer[..b],
-        &after[..a],
-        due,
-    )?;
-    Ok(true)
-}
-
-// Compares all cases, and answers how many.
-fn all<F: Read>(rt: &impl Print, cases: &mut F) -> io::Result<u32> {
-    for count in 0..10000 {
-        if !one(rt, cases)? {
-            return Ok(count);
-        }
-    }
-    Ok(10000)
+    let label = part(cases, head.label, &mut label);
+    let packed = part(cases, head.packed, &mut packed);
+    let buffer = part(cases, head.buffer, &mut buffer);
+    let after = part(cases, head.buffer, &mut after);
+    let given = outcome_of(write(head.writer, packed, buffer));
+    let size = after.len();
+    tell(rt, given == head.due, "the answer", label, size)?;
+    tell(rt, *buffer == *after, "the buffer", label, size)
 }
 
 fn main(rt: HostRuntime) -> io::Result<()> {
     let mut cases = fs::open(&rt, "cases.bin")?;
-    let count = all(&rt, &mut cases)?;
+    let count = for_each_case(
+        &mut cases,
+        read_head,
+        |cases, head, _| run_case(&rt, cases, head),
+    )?;
     println!(rt; "{count} cases compared")
 }

@@ -6,6 +6,3 @@ use Rattle.calls.proofs.run_calls.Given as goal
 
 abbrev pub invariant-loop-i : goal.invariant-loop-i
 invariant-loop-i l = Calling l.grammar l.history l.calls l.initial.answers l.initial.buffer l.answers l.buffer l.i
-
-abbrev pub decreases-loop-i : goal.decreases-loop-i
-decreases-loop-i l = length l.calls - l.i

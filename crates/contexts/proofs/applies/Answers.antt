@@ -5,12 +5,12 @@ use Rattle.contexts.proofs.applies.Goals as goal
 
 pub returns-then-v-eq0 : goal.returns-then-v-eq0
 returns-then-v-eq0 c =
-    c.may_end.ensures ∙ empty_applies c.args.head.well c.args.context c.args.table.now c.args.r _ c.six_in-v.ensures c.if-v-eq0.true
+    c.may_end.ensures ∙ empty_applies c.args.grammar.now.head.well c.args.context c.args.grammar.now.table.now c.args.r _ c.six_in-v.ensures c.if-v-eq0.true
 
 pub takes-requires : goal.takes-requires
 takes-requires c =
-    (c.requires.0, c.requires.1, form_at c.args.head.well c.args.context c.args.table.now c.args.r _ c.six_in-v.ensures c.if-v-eq0.false (sym c.kind_fits.ensures ∙ c.if-kind_fits.true))
+    (c.requires, form_at c.args.grammar.now.head.well c.args.context c.args.grammar.now.table.now c.args.r _ c.six_in-v.ensures c.if-v-eq0.false (sym c.kind_fits.ensures ∙ c.if-kind_fits.true))
 
 pub returns : goal.returns
 returns c =
-    form_apart c.args.head.well c.args.context c.args.table.now c.args.r _ c.six_in-v.ensures c.if-v-eq0.false (sym c.kind_fits.ensures ∙ c.if-kind_fits.false)
+    form_apart c.args.grammar.now.head.well c.args.context c.args.grammar.now.table.now c.args.r _ c.six_in-v.ensures c.if-v-eq0.false (sym c.kind_fits.ensures ∙ c.if-kind_fits.false)

@@ -1,41 +1,29 @@
 -- `contexts::level` meets its contract.
-use mathlib.Core.Path.{◌≡◌, refl, sym, ◌∙◌}
 use native.Mathlib.Omega.{arith}
+use mathlib.Core.Path.{◌∙◌}
 use Rattle.tables.specs.Table.{rule_in}
-use Rattle.rule_index.specs.Classes.{class_at}
-use Rattle.rule_index.proofs.Chains.{passed_below}
-use Rattle.rule_index.proofs.Walk.{starts, goes_on}
-use Rattle.contexts.specs.Context.{token_here}
-use Rattle.contexts.proofs.Ends.{Sofar, sofar_apart, sofar_whole, sofar_start, sofar_with}
+use Rattle.rule_index.proofs.Walk.{along}
+use Rattle.contexts.specs.Context.{code}
+use Rattle.contexts.proofs.Ends.{sofar_over, sofar_whole, sofar_start, sofar_with}
 use Rattle.contexts.proofs.Forms.{class_kind}
 use Rattle.contexts.proofs.level.Goals as goal
 
 pub loop-r-init : goal.loop-r-init
 loop-r-init c =
-    let f = starts c.requires.0 (token_here c.args.context) _ c.first_here-r.result refl c.first_here-r.ensures in (
-      f.most,
-      λ L.
-          sofar_start c.args.table.now c.args.head c.args.context c.requires.0 c.requires.1 c.base_of-set.result L c.base_of-set.ensures
-          ∙ sym (passed_below (Sofar c.args.table.now c.args.head c.args.context c.requires.0 c.requires.1 L) c.args.table.now c.args.head.rules (class_at (token_here c.args.context)) (sofar_apart c.args.table.now c.args.head c.args.context c.requires.0 c.requires.1 L) f),
-      f.of_class,
-    )
+    along (sofar_over c.args.grammar.now.table.now c.args.grammar.now.head c.args.context c.args.grammar.now.indexed c.requires c.base_of-set.result) 0 (omega arith) (c.into_iter-r-iterator.ensures.into_iter_gives ∙ c.rules_here-r-items.ensures)
+    (λ L. sofar_start c.args.grammar.now.table.now c.args.grammar.now.head c.args.context c.args.grammar.now.indexed c.requires c.base_of-set.result L c.base_of-set.ensures)
 
 pub with_left-set-requires : goal.with_left-set-requires
 with_left-set-requires c =
-    (c.requires.0, c.loop-r-test.true, class_kind (rule_in c.args.table.now c.loop-r.r) c.args.context.kind c.args.context.name c.requires.1 (c.loop-r.invariant.2 c.loop-r-test.true))
+    let w = c.loop-r.invariant.turn _ _ c.in-Some.ensures.steps in
+    (w.below, class_kind (rule_in c.args.grammar.now.table.now c.in-Some.r) (code c.args.context.kind) c.args.context.name c.requires w.of_class)
 
 pub loop-r-preserved : goal.loop-r-preserved
 loop-r-preserved c =
-    let f = goes_on c.requires.0 c.loop-r.r (class_at (token_here c.args.context)) c.next_of-r.result c.loop-r-test.true (c.loop-r.invariant.2 c.loop-r-test.true) c.next_of-r.ensures in (
-      f.most,
-      λ L.
-          rw c.with_left-set.ensures
-          (sofar_with c.args.table.now c.args.head c.args.context c.requires.0 c.requires.1 c.loop-r.set c.loop-r.r L (c.loop-r.invariant.1 L)
-          ∙ sym (passed_below (Sofar c.args.table.now c.args.head c.args.context c.requires.0 c.requires.1 L) c.args.table.now c.args.head.rules (class_at (token_here c.args.context)) (sofar_apart c.args.table.now c.args.head c.args.context c.requires.0 c.requires.1 L) f)),
-      f.of_class,
-    )
+    let w = c.loop-r.invariant.turn _ _ c.in-Some.ensures.steps in
+    along (sofar_over c.args.grammar.now.table.now c.args.grammar.now.head c.args.context c.args.grammar.now.indexed c.requires c.with_left-set.result) _ w.below w.rest (λ L. rw c.with_left-set.ensures (sofar_with c.args.grammar.now.table.now c.args.grammar.now.head c.args.context c.args.grammar.now.indexed c.requires c.loop-r.set c.in-Some.r L (w.held L)))
 
 pub returns : goal.returns
 returns c =
-    let e : c.loop-r.r ≡ c.args.head.rules = omega arith in
-    sofar_whole c.args.table.now c.args.head c.args.context c.requires.0 c.requires.1 c.loop-r.set (λ L. rw e at (c.loop-r.invariant.1 L))
+    sofar_whole c.args.grammar.now.table.now c.args.grammar.now.head c.args.context c.args.grammar.now.indexed c.requires c.loop-r.set
+    (c.loop-r.invariant.ended c.in-None.ensures.steps.0)

@@ -1,8 +1,9 @@
 -- `grammar_file::counted_at` meets its contract.
 use mathlib.Core.Path.{refl, sym, ◌∙◌}
+use Rattle.refusal.specs.declared.Refusal.{Refusal}
 use Rattle.numbers.proofs.Fields.{count_most}
 use Rattle.grammar_file.proofs.counted_at.Goals as goal
 
-pub rules_at-requires : goal.rules_at-requires
-rules_at-requires c =
-    (count_most _ _ 128 4 _ _ (sym c.count_at-count.ensures ∙ c.in-Field.is), refl, c.requires)
+pub returns-clause-head : goal.returns-clause-head
+returns-clause-head c =
+    (count_most _ _ 128 Refusal.RuleCount _ _ (sym c.count_at.ensures ∙ c.in_ok-due.was), refl)

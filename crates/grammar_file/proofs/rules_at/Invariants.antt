@@ -1,5 +1,5 @@
 -- `grammar_file::rules_at` meets its contract.
-use Prim.Native.Nat.{◌≤◌, ◌-◌}
+use Prim.Native.Nat.{◌-◌}
 use mathlib.Core.Path.{◌≡◌}
 use mathlib.Core.List.{[]}
 use lib.ListN.{length}
@@ -11,11 +11,7 @@ use Rattle.grammar_file.proofs.rules_at.Given as goal
 
 abbrev pub invariant-loop-k : goal.invariant-loop-k
 invariant-loop-k l =
-    (l.k ≤ l.head.rules)
-    × (length l.table ≡ 1412)
+    (length l.table.rules ≡ 128)
     × (l.table ≡ table_of (rules_in l.table l.k))
     × (rules_from (bytes l.s) l.head.nonterminals l.head.start (l.head.rules - l.k) l.at (rules_in l.table l.k) ≡ rules_from (bytes l.s) l.head.nonterminals l.head.start l.head.rules l.from [])
     × Keyed l.table l.k l.keys
-
-abbrev pub decreases-loop-k : goal.decreases-loop-k
-decreases-loop-k l = l.head.rules - l.k

@@ -10,11 +10,7 @@ use Rattle.history_file.proofs.tokens_at.Given as goal
 
 abbrev pub invariant-loop-k : goal.invariant-loop-k
 invariant-loop-k l =
-    (l.k ≤ l.due)
-    × (l.depth ≤ 128)
+    (l.depth ≤ 128)
     × (length l.tokens ≡ 1024)
     × Cleared 1024 l.tokens l.k
     × (tokens_from (bytes l.s) (l.due - l.k) l.at l.depth (take l.k l.tokens) ≡ tokens_from (bytes l.s) l.due l.from 0 [])
-
-abbrev pub decreases-loop-k : goal.decreases-loop-k
-decreases-loop-k l = l.due - l.k

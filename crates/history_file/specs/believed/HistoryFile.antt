@@ -1,15 +1,11 @@
 -- What a history file says, or the first fault met in file order (document 01, "The two files" and refusals 1, 2 and 9 to 14).
 -- Clauses: 1.1, 1.2, 1.4, 5.4, 5.5, 6.5 (docs/SPECIFICATION.md)
-use Rattle.std.specs.Prelude.{ℕ, zero, suc, ◌+◌, ◌-◌, ◌/◌, ◌%◌, cond, ◌&&◌, ◌||◌, List, [], ◌∷◌, ◌++◌, map, eqb, ltb, leb}
-use Rattle.numbers.specs.declared.NumberRead.{NumberRead}
-use Rattle.numbers.specs.declared.NumberRead.TheVariants.{Number, Refused as NumberRefused}
-use Rattle.numbers.specs.declared.FieldRead.{FieldRead}
-use Rattle.numbers.specs.declared.FieldRead.TheVariants.{Field, Refused as FieldRefused}
-use Rattle.numbers.specs.believed.Number.{Source, bytes}
+use Rattle.std.specs.Prelude.{ℕ, zero, suc, ◌+◌, ◌-◌, ◌/◌, ◌%◌, cond, ◌&&◌, ◌||◌, List, [], ◌∷◌, ◌++◌, map, eqb, ltb, leb, Ok, Err}
+use Rattle.refusal.specs.declared.Refusal.{Refusal}
+use Rattle.refusal.specs.believed.Refusal.{number}
+use Rattle.numbers.specs.believed.Number.{Read, Source, bytes}
 use Rattle.numbers.specs.believed.Field.{field_at}
 use Rattle.vpg.specs.declared.Token.{Token}
-use Rattle.history_file.specs.declared.TokenRead.{TokenRead}
-use Rattle.history_file.specs.declared.TokenRead.TheVariants.{Token as TokenIs, Refused as TokenRefused}
 
 -- "each token as 4 × name + kind, kind 0 mark, 1 open, 2 close"
 abbrev pub kind : ℕ → ℕ
@@ -30,20 +26,20 @@ tokens_of ts = map token_of ts
 
 -- a token number, with so many steps open before it. 11: "names above 65,535" (document 02, 2.4), or a token number "that leaves 3 when
 -- divided by 4"; 12: "a close with no step open"; 14: "an open while 128 steps are open"
-unfoldable pub token_judged : ℕ → ℕ → ℕ → TokenRead
+unfoldable pub token_judged : ℕ → ℕ → ℕ → Read ℕ
 token_judged t next depth =
-    cond (ltb 65535 (t / 4) || eqb (kind t) 3) (TokenRefused 11)
-    (cond (eqb (kind t) 2 && eqb depth 0) (TokenRefused 12)
-    (cond (eqb (kind t) 1 && leb 128 depth) (TokenRefused 14)
-    (TokenIs t next)))
+    cond (ltb 65535 (t / 4) || eqb (kind t) 3) (Err Refusal.TokenNumber)
+    (cond (eqb (kind t) 2 && eqb depth 0) (Err Refusal.CloseWithoutOpen)
+    (cond (eqb (kind t) 1 && leb 128 depth) (Err Refusal.TooDeep)
+    (Ok (t, next))))
 
 -- 1 and 2, for the number itself, go before 11, 12 and 14
-abbrev pub judged : NumberRead → ℕ → TokenRead
-judged (Number t next) depth = token_judged t next depth
-judged (NumberRefused e) depth = TokenRefused e
+abbrev pub judged : Read ℕ → ℕ → Read ℕ
+judged (Ok (t, next)) depth = token_judged t next depth
+judged (Err e) depth = Err e
 
 -- the token at a place
-unfoldable pub token_at : (ℕ → NumberRead) → ℕ → ℕ → TokenRead
+unfoldable pub token_at : (ℕ → Read ℕ) → ℕ → ℕ → Read ℕ
 token_at number at depth = judged (number at) depth
 
 -- how many steps are open after a token
@@ -55,25 +51,21 @@ pub data HistoryFile : Type 0 where
   accepted : List ℕ → HistoryFile
   refused : ℕ → HistoryFile
 
--- a refusal stands, and what follows it is not read. So too `after_count`
-abbrev pub after_token : TokenRead → (ℕ → ℕ → HistoryFile) → HistoryFile
-after_token (TokenIs t next) rest = rest t next
-after_token (TokenRefused e) rest = refused e
+-- a refusal stands, and what follows it is not read
+abbrev pub after : Read ℕ → (ℕ → ℕ → HistoryFile) → HistoryFile
+after (Ok (n, next)) rest = rest n next
+after (Err e) rest = refused (number e)
 
 -- the tokens still due, from a place to the end, after those read so far. 13: "a step still open after the last token";
 -- 9: "bytes follow the last .. token"; "13 before 9"
 unfoldable pub tokens_from : Source → ℕ → ℕ → ℕ → List ℕ → HistoryFile
 tokens_from x zero at depth ts = cond (ltb 0 depth) (refused 13) (cond (x.more at) (refused 9) (accepted ts))
 tokens_from x (suc due) at depth ts =
-    after_token (token_at x.number at depth) λ t next. tokens_from x due next (depth_after t depth) (ts ++ (t ∷ []))
-
-abbrev pub after_count : FieldRead → (ℕ → ℕ → HistoryFile) → HistoryFile
-after_count (Field n next) rest = rest n next
-after_count (FieldRefused e) rest = refused e
+    after (token_at x.number at depth) λ t next. tokens_from x due next (depth_after t depth) (ts ++ (t ∷ []))
 
 -- "token count (0 to 1,024), then each token"; 10: "token count above 1,024"
 unfoldable pub history_from : Source → HistoryFile
-history_from x = after_count (field_at x.number 0 1025 10) λ due at. tokens_from x due at 0 []
+history_from x = after (field_at x.number 0 1025 Refusal.TokenCount) λ due at. tokens_from x due at 0 []
 
 -- of the bytes of a file
 abbrev pub history_of : List ℕ → HistoryFile

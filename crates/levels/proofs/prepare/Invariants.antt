@@ -1,5 +1,4 @@
 -- `levels::prepare`: before position i both arrays are right from i on.
-use Prim.Native.Nat.{◌≤◌}
 use mathlib.Core.Path.{◌≡◌}
 use lib.ListN.{length}
 use Rattle.level_theory.specs.Pending.{pending_at, close_of}
@@ -10,12 +9,8 @@ use Rattle.levels.proofs.prepare.Given as goal
 
 abbrev pub invariant-loop-i : goal.invariant-loop-i
 invariant-loop-i l =
-    (l.i ≤ length l.tokens)
-    × (length l.closes ≡ 1025)
+    (length l.closes ≡ 1025)
     × (length l.masks ≡ 1025)
     × (l.top ≡ close_of (pending_at (tokens_of l.tokens) l.i) (length (tokens_of l.tokens)))
     × Matched (tokens_of l.tokens) l.closes l.i
-    × Leveled l.head.well (rules_of l.table l.head) (tokens_of l.tokens) l.masks l.i
-
-abbrev pub decreases-loop-i : goal.decreases-loop-i
-decreases-loop-i l = l.i
+    × Leveled l.grammar.head.well (rules_of l.grammar.table.now l.grammar.head) (tokens_of l.tokens) l.masks l.i

@@ -10,21 +10,21 @@ use Rattle.next_run.proofs.rewrite.Goals as goal
 
 pub store_later-requires : goal.store_later-requires
 store_later-requires c =
-    (c.requires.position_in_bounds.2, rw c.close_at-j.ensures (close_room c.requires.setting c.args.branch.position (omega arith)))
+    (c.requires.position_in_bounds.2, rw c.close_at-j.ensures (close_room c.args.input.now.setting c.args.branch.now.from.position (omega arith)))
 
-pub fill-requires-clause-derives : goal.fill-requires-clause-derives
+pub fill_in_place-requires-clause-derives : goal.fill_in_place-requires-clause-derives
 unfolding rule_in
-fill-requires-clause-derives c =
-    let f = c.requires.derives c.if-p-tokens.true in
-    rw (c.store_later.ensures, c.inner_of-nonterminal.ensures, c.close_at-j.ensures, c.six_in-rule.ensures, add-one c.args.branch.position) f
+fill_in_place-requires-clause-derives c =
+    let f = c.requires.derives c.if-p-input.true in
+    rw (c.store_later.ensures, c.inner_of-branch.ensures, c.close_at-j.ensures, c.six_in-rule.ensures, add-one c.args.branch.now.from.position) f
 
-pub returns-then-p-tokens : goal.returns-then-p-tokens
+pub returns-then-p-input : goal.returns-then-p-input
 unfolding rule_in
-returns-then-p-tokens c =
-    let here = tokens_at c.args.tokens.now c.args.branch.position c.if-p-tokens.true in
-    rewritten_on c.args.table.now c.args.head (tokens_of c.args.tokens.now) c.args.closes.now c.args.branch c.args.reading.now (rw tokens_length c.requires.position_in_bounds.3) (token_of _) _ (rw tokens_length c.if-p-tokens.true) here
-    (rw (c.store_later.ensures, c.inner_of-nonterminal.ensures, c.close_at-j.ensures, c.six_in-rule.ensures, add-one c.args.branch.position) at c.fill.ensures)
+returns-then-p-input c =
+    let here = tokens_at c.args.input.now.tokens.now c.args.branch.now.from.position c.if-p-input.true in
+    rewritten_on c.args.input.now.grammar.table.now c.args.input.now.grammar.head (tokens_of c.args.input.now.tokens.now) c.args.input.now.closes.now c.args.branch.now c.args.reading.now (rw tokens_length c.requires.position_in_bounds.3) (token_of _) _ (rw tokens_length c.if-p-input.true) here
+    (rw (c.store_later.ensures, c.inner_of-branch.ensures, c.close_at-j.ensures, c.six_in-rule.ensures, add-one c.args.branch.now.from.position) at c.fill_in_place.ensures)
 
-pub returns-else-p-tokens : goal.returns-else-p-tokens
-returns-else-p-tokens c =
-    rewritten_end c.args.table.now c.args.head (tokens_of c.args.tokens.now) c.args.closes.now c.args.branch c.args.reading.now (rw tokens_length c.requires.position_in_bounds.3) (omega (arith, tokens_length c.args.tokens.now))
+pub returns-else-p-input : goal.returns-else-p-input
+returns-else-p-input c =
+    rewritten_end c.args.input.now.grammar.table.now c.args.input.now.grammar.head (tokens_of c.args.input.now.tokens.now) c.args.input.now.closes.now c.args.branch.now c.args.reading.now (rw tokens_length c.requires.position_in_bounds.3) (omega (arith, tokens_length c.args.input.now.tokens.now))

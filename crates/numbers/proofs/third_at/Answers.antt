@@ -2,28 +2,16 @@
 use Prim.Native.Nat.{ℕ, ◌+◌, ◌*◌, ◌/◌, ◌%◌}
 use mathlib.Core.Path.{◌≡◌, ap, ◌∙◌}
 use mathlib.Core.Logic.{◌≢◌}
-use borrow.Author.Tests.{le-ltb, lt-ltb, ne_eqb}
+use borrow.Author.Tests.{lt-ltb, ne_eqb}
 use native.Mathlib.Omega.{arith}
-use Rattle.numbers.specs.declared.NumberRead.TheVariants.{Number}
+use Rattle.std.specs.Prelude.{Ok}
 use Rattle.numbers.specs.believed.Number.{with_group, number_within}
 use Rattle.numbers.proofs.third_at.Goals as goal
 
 -- two groups in front of a third one
-groups : (low high next : ℕ) → high ≢ 0 → Number (low + high * 16384) next ≡ with_group (low % 128) (with_group (low / 128) (Number high next))
+groups : (low high next : ℕ) → high ≢ 0 → Ok (low + high * 16384, next) ≡ with_group (low % 128) (with_group (low / 128) (Ok (high, next)))
 groups low high next h =
-    rw (ne_eqb high 0 h, ne_eqb (low / 128 + high * 128) 0 (omega arith)) (ap (λ n. Number n next) (omega arith))
-
-pub returns-then-s-last : goal.returns-then-s-last
-unfolding number_within
-returns-then-s-last c = simp (le-ltb _ _ c.if-s-last.true)
-
-pub returns-then-high-eq0 : goal.returns-then-high-eq0
-unfolding number_within
-returns-then-high-eq0 c = simp (lt-ltb _ _ c.if-s-last.false, c.if-high-eq0.true)
-
-pub returns-then-high-ge128 : goal.returns-then-high-ge128
-unfolding number_within
-returns-then-high-ge128 c = simp (lt-ltb _ _ c.if-s-last.false, le-ltb _ _ c.if-high-ge128.true)
+    rw (ne_eqb high 0 h, ne_eqb (low / 128 + high * 128) 0 (omega arith)) (ap (λ n. Ok (n, next)) (omega arith))
 
 pub returns : goal.returns
 unfolding number_within

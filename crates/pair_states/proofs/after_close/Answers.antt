@@ -5,4 +5,4 @@ use Rattle.pair_states.proofs.after_close.Goals as goal
 pub returns : goal.returns
 returns c = λ S S₁ x y.
     rw (c.words_behind.ensures, c.words_after.ensures, c.finished_of-done.ensures, c.ends.ensures)
-    (close_encodes _ _ c.requires c.args.b c.args.a c.args.words.now c.args.saved.now S S₁ x y)
+    (close_encodes _ _ c.args.grammar.now.indexed c.args.name c.args.opened.now.name c.args.words.now c.args.opened.now.words S S₁ x y)

@@ -3,4 +3,4 @@ use Rattle.pair_states.proofs.Derivatives.{single_encodes}
 use Rattle.pair_states.proofs.begin.Goals as goal
 
 pub returns : goal.returns
-returns c = rw (c.with.ensures, c.wide-current.ensures) (single_encodes c.args.start c.requires)
+returns c = rw c.with.ensures (single_encodes c.args.start c.requires)

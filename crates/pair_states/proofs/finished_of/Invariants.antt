@@ -1,11 +1,7 @@
 -- `finished_of`. The invariant: the set is the union of those of the first k words that are asked for.
-use Prim.Native.Nat.{◌-◌, ◌≤◌}
 use mathlib.Core.Path.{◌≡◌}
 use Rattle.pair_states.specs.Finished.{finished_of}
 use Rattle.pair_states.proofs.finished_of.Given as goal
 
 abbrev pub invariant-loop-k : goal.invariant-loop-k
-invariant-loop-k l = (l.k ≤ 32) × (l.set ≡ finished_of l.words l.empties l.k)
-
-abbrev pub decreases-loop-k : goal.decreases-loop-k
-decreases-loop-k l = 32 - l.k
+invariant-loop-k l = l.set ≡ finished_of l.words l.empties l.k

@@ -1,29 +1,13 @@
 -- `reading_counts::reading_at` meets its contract.
-use mathlib.Core.Path.{sym}
-use native.Mathlib.Omega.{arith}
+use mathlib.Core.Path.{ap, ◌∙◌}
+use Rattle.std.proofs.Common.{rules}
+use Rattle.levels.specs.Prepared.{prepared_grammar}
+use Rattle.reading_counts.proofs.Told.{kth_said, reading_told}
 use Rattle.reading_counts.proofs.reading_at.Goals as goal
 
-pub slice_bounds-tokens-end : goal.slice_bounds-tokens-end
-slice_bounds-tokens-end c =
-    let k = c.open_files-opened.ensures.passes _ _ c.in-Files.is in
-    k.long
-
-pub slice_bounds-kth_on-end : goal.slice_bounds-kth_on-end
-slice_bounds-kth_on-end c =
-    let k = c.open_files-opened.ensures.passes _ _ c.in-Files.is in
-    sym k.count
-
-pub kth_on-requires-clause-indexed : goal.kth_on-requires-clause-indexed
-kth_on-requires-clause-indexed c =
-    let k = c.open_files-opened.ensures.passes _ _ c.in-Files.is in
-    k.indexed
-
-pub kth_on-requires-clause-tokens : goal.kth_on-requires-clause-tokens
-kth_on-requires-clause-tokens c =
-    let k = c.open_files-opened.ensures.passes _ _ c.in-Files.is in
-    k.tokens
-
-pub kth_on-requires-clause-tokens_in_bounds : goal.kth_on-requires-clause-tokens_in_bounds
-kth_on-requires-clause-tokens_in_bounds c =
-    let k = c.open_files-opened.ensures.passes _ _ c.in-Files.is in
-    omega (arith, k.room, k.count)
+pub returns : goal.returns
+returns c =
+    let k = c.in_ok-opened.ensures in
+    let input = c.prepared.result in
+    let told = reading_told c.args.grammar.now c.args.history.now c.args.reading.now c.args.k {g = prepared_grammar input} {ts = input.tokens.now} (rw (c.prepared.ensures.0, c.prepared.ensures.1) k.is) in
+    search rules ∙ (ap kth_said c.kth-written.ensures ∙ told)

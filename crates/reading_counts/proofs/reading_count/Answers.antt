@@ -1,33 +1,14 @@
 -- `reading_counts::reading_count` meets its contract.
 use native.Mathlib.Omega.{arith}
+use Rattle.std.proofs.Common.{rules}
 use mathlib.Core.Path.{sym, ◌∙◌}
 use Rattle.service.specs.believed.Opened.{files_in}
 use Rattle.service.proofs.Opens.{nothing_asked}
-use Rattle.reading_counts.proofs.Told.{all_due}
+use Rattle.reading_counts.proofs.Told.{count_told, all_due}
 use Rattle.reading_counts.proofs.reading_count.Goals as goal
-
-pub slice_bounds-tokens-end : goal.slice_bounds-tokens-end
-slice_bounds-tokens-end c =
-    let k = c.open_files-opened.ensures.passes _ _ c.in-Files.is in
-    k.long
-
-pub slice_bounds-count_on-end : goal.slice_bounds-count_on-end
-slice_bounds-count_on-end c =
-    let k = c.open_files-opened.ensures.passes _ _ c.in-Files.is in
-    sym k.count
-
-pub count_on-requires-clause-indexed : goal.count_on-requires-clause-indexed
-count_on-requires-clause-indexed c =
-    let k = c.open_files-opened.ensures.passes _ _ c.in-Files.is in
-    k.indexed
-
-pub count_on-requires-clause-tokens : goal.count_on-requires-clause-tokens
-count_on-requires-clause-tokens c =
-    let k = c.open_files-opened.ensures.passes _ _ c.in-Files.is in
-    k.tokens
 
 pub returns : goal.returns
 returns c =
-    let k = c.open_files-opened.ensures.passes _ _ c.in-Files.is in
+    let k = c.in_ok-opened.ensures in
     let passed = sym (nothing_asked (files_in c.args.grammar.now c.args.history.now)) ∙ k.is in
-    c.counted.ensures ∙ all_due c.args.grammar.now c.args.history.now passed c.anywhere.result.position c.anywhere.result.rule c.count_on.ensures (omega (arith, k.tokens.few, c.anywhere.ensures.0))
+    count_told c.count.result (search rules) ∙ all_due c.args.grammar.now c.args.history.now passed 1026 0 (search rules) (omega (arith, c.in_ok-opened.opened.passed.tokens.few))

@@ -1,12 +1,13 @@
 -- How many readings there are, how many have a rule at a position, and reading k (document 02, 2.6).
 -- Clauses: 12.1, 12.2, 12.4 (docs/SPECIFICATION.md)
-use Rattle.std.specs.Prelude.{ℕ, ◌+◌, cond, ◌||◌, List, ◌++◌, eqb, ltb, length, drop}
+use Rattle.std.specs.Prelude.{ℕ, ◌+◌, cond, ◌||◌, List, ◌++◌, eqb, ltb, length, drop, Option, Some, None, Result, Ok, Err}
+use Rattle.refusal.specs.declared.Refusal.{Refusal}
+use Rattle.refusal.specs.believed.Refusal.{number}
 use Rattle.vpg.specs.Runs.{entries}
 use Rattle.listing_model.specs.believed.Listing.{entry}
 use Rattle.count_theory.specs.believed.CountAt.{count_at}
 use Rattle.service.specs.believed.Given.{Given, given, refused, written, untouched}
 use Rattle.service.specs.believed.Opened.{files_in, opened, served}
-use Rattle.reading_counts.specs.declared.ReadingCount.{ReadingCount}
 
 -- a count as it is told
 pub data Told : Type 0 where
@@ -17,11 +18,11 @@ pub data Told : Type 0 where
 abbrev pub told : ℕ → Told
 told n = cond (ltb n 18446744073709551616) (exact n) over
 
--- each case of the enum
-abbrev pub readings_said : ReadingCount → Given Told
-readings_said (ReadingCount.Exact n) = given (exact n)
-readings_said ReadingCount.Over = given over
-readings_said (ReadingCount.Refused k) = refused k
+-- each case of the answer
+abbrev pub readings_said : Result (Option ℕ) Refusal → Given Told
+readings_said (Ok (Some n)) = given (exact n)
+readings_said (Ok None) = given over
+readings_said (Err e) = refused (number e)
 
 -- "How many readings"; no buffer is asked for
 abbrev pub readings_due : List ℕ → List ℕ → Given Told

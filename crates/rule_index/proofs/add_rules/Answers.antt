@@ -1,8 +1,7 @@
 -- `rule_index::add_rules` meets its contract.
-use Prim.Native.Nat.{ℕ, ◌+◌, ◌-◌, ◌<◌}
+use Prim.Native.Nat.{◌+◌, ◌-◌}
 use native.Mathlib.Omega.{arith}
-use mathlib.Core.Path.{◌≡◌, refl, ◌∙◌}
-use Rattle.vpg.specs.believed.Grammar.{left}
+use mathlib.Core.Path.{◌≡◌, refl}
 use Rattle.tables.specs.Table.{rule_in}
 use Rattle.rule_index.proofs.Classes.{rule_class_small}
 use Rattle.rule_index.proofs.Building.{linked-same, index_linked}
@@ -11,17 +10,16 @@ use Rattle.rule_index.proofs.add_rules.Goals as goal
 
 pub add_rule-requires : goal.add_rule-requires
 add_rule-requires c =
-    let k = ready_kept _ _ c.loop-due.invariant.1 _ c.requires.1 in
-    let small : (r : ℕ) → r < c.args.head.rules → left (rule_in c.loop-due.table r) < 32 = λ r h. (k.small r h).0 in
-    (omega (arith, k.few), small _ (omega arith))
+    let k = ready_kept _ c.loop-r.table c.loop-r.invariant.0.rules _ c.requires.1 in
+    (omega (arith, k.few), (k.small _ (omega arith)).0)
 
-pub loop-due-preserved : goal.loop-due-preserved
-loop-due-preserved c =
-    let r = c.loop-due.due - 1 in
-    let k = ready_kept _ c.loop-due.table c.loop-due.invariant.1 _ c.requires.1 in
-    let e : r + 1 ≡ c.loop-due.due = omega arith in (
-      omega arith,
-      rw c.add_rule.ensures (same_on c.loop-due.invariant.1 (linked-same c.loop-due.table _ _)),
+pub loop-r-preserved : goal.loop-r-preserved
+loop-r-preserved c =
+    let r = c.loop-r.r - 1 in
+    let k = ready_kept _ c.loop-r.table c.loop-r.invariant.0.rules _ c.requires.1 in
+    let size = c.loop-r.invariant.0.size in
+    let e : r + 1 ≡ c.loop-r.r = omega arith in (
+      rw c.add_rule.ensures (same_on c.loop-r.invariant.0 (linked-same c.loop-r.table _ _ size)),
       rw c.add_rule.ensures
-          (index_linked c.loop-due.table _ r _ (c.loop-due.invariant.1.size ∙ c.requires.0) k.few (omega arith) refl (rule_class_small (rule_in c.loop-due.table r) (k.small r (omega arith)).0) (rw e c.loop-due.invariant.2)),
+          (index_linked c.loop-r.table _ r _ size k.few (omega arith) refl (rule_class_small (rule_in c.loop-r.table r) (k.small r (omega arith)).0) (rw e c.loop-r.invariant.1)),
     )

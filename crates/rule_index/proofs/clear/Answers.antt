@@ -1,12 +1,20 @@
 -- `rule_index::clear` meets its contract.
-use Prim.Native.Nat.{◌<◌}
-use native.Mathlib.Omega.{arith}
-use lib.ListN.{length}
-use Rattle.rule_index.proofs.Building.{filled}
-use Rattle.rule_index.proofs.Kept.{same_on, set-behind}
+use mathlib.Core.Path.{refl}
+use lib.ListN.{length-replicate, get_or-replicate}
+use Rattle.rule_index.proofs.Building.{index_none}
 use Rattle.rule_index.proofs.clear.Goals as goal
 
-pub loop-i-preserved : goal.loop-i-preserved
-loop-i-preserved c =
-    let room : c.loop-i.i < length c.loop-i.table = omega (arith, c.loop-i.invariant.2.size, c.requires.0) in
-    (omega arith, omega arith, same_on c.loop-i.invariant.2 (set-behind c.loop-i.table c.loop-i.i c.args.rules (omega arith)), filled c.loop-i.table c.loop-i.i c.args.rules room c.loop-i.invariant.3)
+pub returns : goal.returns
+returns c = (
+  record {
+    size = record {
+      rules = c.requires.0.rules;
+      first = length-replicate 256 c.args.rules;
+      next = length-replicate 128 c.args.rules;
+      inside = c.requires.0.inside;
+      after = c.requires.0.after;
+    };
+    rules = refl;
+  },
+  index_none _ _ (λ k l. get_or-replicate 256 k c.args.rules 0 l),
+)

@@ -4,7 +4,7 @@ use Rattle.rule_set.proofs.Ends.{Gathered}
 use Rattle.rule_set.proofs.ends_words.Given as goal
 
 abbrev pub invariant-loop-due : goal.invariant-loop-due
-invariant-loop-due l = Gathered l.table (bit_and l.here l.ends) l.due l.words
+invariant-loop-due l = Gathered l.grammar.table.now (bit_and l.here l.ends) l.due l.words
 
 abbrev pub decreases-loop-due : goal.decreases-loop-due
 decreases-loop-due l = l.due

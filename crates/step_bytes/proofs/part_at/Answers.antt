@@ -14,4 +14,4 @@ overflow_add-result c =
 pub returns : goal.returns
 returns c =
     let e : c.args.position + c.args.count - c.args.position ≡ c.args.count = omega arith in
-    simp (c.size_of-first.ensures, c.bytes_of-before.ensures.0, c.bytes_of-length.ensures.0, e, part-start c.args.tokens.now c.args.position)
+    simp (c.size_of-first.ensures, c.bytes_of-before.ensures.0, c.bytes_of.ensures.0, e, part-start c.args.tokens.now c.args.position)

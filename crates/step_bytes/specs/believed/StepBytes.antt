@@ -1,11 +1,11 @@
 -- The bytes of one step: which part of a history file they are, or why there is none (document 02, 2.1, and refusal 17).
 -- Clauses: 10.1 to 10.4 (docs/SPECIFICATION.md)
-use Rattle.std.specs.Prelude.{ℕ, suc, ◌+◌, cond, ◌&&◌, List, [], ◌∷◌, eqb, ltb, length, get_or, take, drop}
+use Rattle.std.specs.Prelude.{ℕ, suc, ◌+◌, cond, ◌&&◌, List, [], ◌∷◌, eqb, ltb, length, get_or, take, drop, Result, Ok, Err}
 use Rattle.std.proofs.Math.Option.{Option, none, some}
+use Rattle.refusal.specs.declared.Refusal.{Refusal}
+use Rattle.refusal.specs.believed.Refusal.{number}
 use Rattle.numbers.specs.Written.{written}
-use Rattle.history_file.specs.believed.HistoryFile
 use Rattle.history_file.specs.believed.HistoryFile.{HistoryFile, kind, depth_after, history_of}
-use Rattle.step_bytes.specs.declared.StepCheck.{StepCheck}
 
 -- one more, where there is a number
 abbrev pub later : Option ℕ → Option ℕ
@@ -56,10 +56,10 @@ abbrev pub number_in : StepPart → Option ℕ
 number_in (part start ts) = none
 number_in (refused e) = some e
 
--- the number for each case of the enum
-abbrev pub number_said : StepCheck → Option ℕ
-number_said StepCheck.Found = none
-number_said (StepCheck.Refused e) = some e
+-- the number for each case of the answer
+abbrev pub number_said : Result Unit Refusal → Option ℕ
+number_said (Ok x) = none
+number_said (Err e) = some (number e)
 
 -- the place k bytes behind another
 abbrev pub within : ℕ × ℕ → ℕ → ℕ × ℕ

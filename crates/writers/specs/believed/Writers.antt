@@ -1,20 +1,17 @@
 -- What the writers of the two files answer, and what they leave in the lent buffer (document 02, 2.2).
 -- Clauses: 11.2 to 11.4 (docs/SPECIFICATION.md)
-use Rattle.std.specs.Prelude.{ℕ, cond, List, ◌∷◌, ◌++◌, ltb, length, drop}
+use Rattle.std.specs.Prelude.{ℕ, cond, List, ◌∷◌, ◌++◌, ltb, length, drop, Result}
 use Rattle.numbers.specs.Written.{written}
+use Rattle.refusal.specs.declared.Refusal.{Refusal}
 use Rattle.elements.specs.believed.Elements.{elements}
-use Rattle.grammar_file.specs.believed.GrammarFile
 use Rattle.grammar_file.specs.believed.GrammarFile.{GrammarFile, grammar_from}
 use Rattle.grammar_file.specs.Wellformed.{numbers_of}
-use Rattle.history_file.specs.believed.HistoryFile
 use Rattle.history_file.specs.believed.HistoryFile.{HistoryFile, history_from}
-use Rattle.service.specs.believed.Given.{Given, given, refused, untouched}
-use Rattle.writers.specs.declared.WriteAnswer.{WriteAnswer}
+use Rattle.service.specs.believed.Given.{Given, given, said, untouched}
 
--- the length, or document 01's number, for each case of the enum
-abbrev pub write_said : WriteAnswer → Given ℕ
-write_said (WriteAnswer.Written n) = given n
-write_said (WriteAnswer.Refused e) = refused e
+-- the length, or document 01's number, for each case of the answer
+abbrev pub write_said : Result ℕ Refusal → Given ℕ
+write_said r = said r
 
 -- "the writer fills a lent buffer and tells its length .. and then gives 15 for a short buffer. Bytes past the written length stay"
 abbrev pub filled : List ℕ → List ℕ → Given ℕ × List ℕ

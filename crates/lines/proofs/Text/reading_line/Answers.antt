@@ -1,0 +1,5 @@
+use Rattle.lines.proofs.Laying.{lays_both}
+use Rattle.lines.proofs.Text.reading_line.Goals as goal
+
+pub returns : goal.returns
+returns g c = lays_both (lays_both (lays_both c.put_number.ensures c.put_byte.ensures) c.put_rules.ensures) c.put_byte-2.ensures

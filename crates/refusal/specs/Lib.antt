@@ -1,0 +1,2 @@
+pub mod believed
+pub mod Numbered

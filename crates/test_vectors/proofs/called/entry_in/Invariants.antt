@@ -1,8 +1,0 @@
-use Rattle.std.proofs.Common.{◌+◌, ◌-◌, ◌<◌, ◌≤◌}
-use Rattle.test_vectors.proofs.called.entry_in.Given as goal
-
-abbrev pub invariant-loop-from : goal.invariant-loop-from
-invariant-loop-from l = (0 < l.size) × (l.size ≤ 65535) × (l.end ≤ 65535)
-
-abbrev pub decreases-loop-from : goal.decreases-loop-from
-decreases-loop-from l = (l.size + l.end) - l.from
